@@ -134,13 +134,13 @@ bool jiter_next_number(JiterReader *reader, JiterText *text, JiterFault *fault);
 bool jiter_next_str(JiterReader *reader, uint8_t *out, size_t room, size_t *whole, JiterFault *fault);
 bool jiter_next_bytes(JiterReader *reader, JiterText *text, JiterFault *fault);
 
-/* Arrays: jiter_next_array steps into one, jiter_array_step goes on behind an item. `more` is whether an item comes
- * next; else the reader stands behind the array. */
+/* Arrays: jiter_next_array steps into one, jiter_array_step goes on after an item. `more` is whether an item comes
+ * next; else the reader stands after the array. */
 bool jiter_next_array(JiterReader *reader, bool *more, JiterFault *fault);
 bool jiter_array_step(JiterReader *reader, bool *more, JiterFault *fault);
 
-/* Objects: jiter_next_object steps into one, jiter_next_key goes on behind a member. `more` is whether a member
- * follows: its key is given, and its value comes next; else the key is empty, and the reader stands behind the
+/* Objects: jiter_next_object steps into one, jiter_next_key goes on after a member. `more` is whether a member
+ * follows: its key is given, and its value comes next; else the key is empty, and the reader stands after the
  * object. The first two write the key, decoded, as far as it fits; the others give its bytes as they stand between
  * the quotes. */
 bool jiter_next_object(JiterReader *reader, bool *more, uint8_t *out, size_t room, size_t *whole, JiterFault *fault);
@@ -148,13 +148,13 @@ bool jiter_next_key(JiterReader *reader, bool *more, uint8_t *out, size_t room, 
 bool jiter_next_object_bytes(JiterReader *reader, bool *more, JiterText *key, JiterFault *fault);
 bool jiter_next_key_bytes(JiterReader *reader, bool *more, JiterText *key, JiterFault *fault);
 
-/* Behind the next value, whatever it is; UTF-8 is not tested. */
+/* After the next value, whatever it is; UTF-8 is not tested. */
 bool jiter_next_skip(JiterReader *reader, JiterFault *fault);
 
 /* Goes through the parts of the array or the object that comes next: of another type it is refused as by the step into
  * it. jiter_count tells how many items or members there are, and moves nothing. jiter_item moves to the item with this
  * number, from 0, and jiter_member to the value of the last member of this name, with which keys are compared decoded:
- * `found` is whether there is one; else the reader stands behind the array or the object. Where a go is refused the
+ * `found` is whether there is one; else the reader stands after the array or the object. Where a go is refused the
  * reader stands where one of its calls was. */
 bool jiter_count(const JiterReader *reader, uint64_t *count, JiterFault *fault);
 bool jiter_item(JiterReader *reader, uint64_t number, bool *found, JiterFault *fault);

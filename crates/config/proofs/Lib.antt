@@ -1,4 +1,4 @@
-pub mod Held
+pub mod PendingBytes
 pub mod Judged
 pub mod Members
 pub mod Walk

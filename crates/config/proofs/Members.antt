@@ -75,7 +75,7 @@ module _ (m : Settings) (w : Why) (i : ℕ) where
       → and_then x (λ a. fits (record m { debug = Some a })) ≡ unfit w i
   debug-unfit x h = ap (λ y. and_then y (λ a. fits (record m { debug = Some a }))) h
 
--- What is set, behind the last member.
+-- What is set, after the last member.
 module _ (i : ℕ) (host : Option (List ℕ)) (port : Option ℕ) (debug : Option Bool) where
   pub no_host : (r : Refusal) (key : Bor (List ℕ)) (last : ℕ) → host ≡ None → r ≡ variant.Missing key last
       → key.now ≡ codes "host" → last ≡ i → complete i (seen host port debug) ≡ unfit (why r) (place_of r)

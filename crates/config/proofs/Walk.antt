@@ -140,8 +140,8 @@ module _ (t : List ℕ) where
     by (Node.string ps b e) comes = other-refused (Node.string ps b e) comes tt c x stop is
     by (Node.array b e ns) comes = other-refused (Node.array b e ns) comes tt c x stop is
 
-  -- ---- behind a key
-  -- the member whose key was named, and those behind it
+  -- ---- after a key
+  -- the member whose key was named, and those after it
   pub record MemberAt (s : ReaderState) (name : Name) (m : Settings) (n : Node) : Type 0 where
     pub first : ℕ
     pub last : ℕ
@@ -201,8 +201,8 @@ module _ (t : List ℕ) where
       text1 : s1.text ≡ t
       text1 = ap (λ (v : ReaderState). v.text) read.moves.same ∙ text-is s h.same
 
-      left-behind : (n : Node) (d : IsDocument false t n) → MembersLeft s1 (at n d).rest (at n d).last
-      left-behind n d =
+      left-after : (n : Node) (d : IsDocument false t n) → MembersLeft s1 (at n d).rest (at n d).last
+      left-after n d =
           let a = at n d in
           let is : with_position s (end a.value) ≡ s1 =
           ap (λ i. with_position s i) (sym (read.place _ _ _ (told n d))) ∙ sym read.moves.same in
@@ -219,7 +219,7 @@ module _ (t : List ℕ) where
       key-refused c x stop is n d =
           let a = at n d in
           key-not_refused (whole_key t) s1 a.rest a.last _ c x stop
-          (key-tells whole (whole_key t) s1 (sees s1 text1) a.rest a.last (left-behind n d))
+          (key-tells whole (whole_key t) s1 (sees s1 text1) a.rest a.last (left-after n d))
           is
 
       module _ (s2 : ReaderState) (o : Option Name) (moves2 : MovesOn s1 s2)
@@ -237,7 +237,7 @@ module _ (t : List ℕ) where
               is = a.is;
               names = key.2;
               at = key-given (whole_key t) s1 s2 a.rest a.last _ key.0
-                  (key-tells whole (whole_key t) s1 (sees s1 text1) a.rest a.last (left-behind n d)) key.1 moves2.same;
+                  (key-tells whole (whole_key t) s1 (sees s1 text1) a.rest a.last (left-after n d)) key.1 moves2.same;
               sets = sets-on n d;
             }
 
@@ -267,7 +267,7 @@ module _ (t : List ℕ) where
               walk-goes_on.within,
             )
 
-  -- ---- behind the last member
+  -- ---- after the last member
   module _ (s : ReaderState) (m : Settings) (h : WalkAt s None m) where
     ended : (n : Node) (l : Left s None m n) → (s.position ≡ l.last) × (fits m ≡ set_by t nothing_set l.all)
     ended n l = by l.rest l.key l.names l.at l.sets where
@@ -279,7 +279,7 @@ module _ (t : List ℕ) where
       by (NodeMembers.member k v ms) None names at sets = absurd at
       by (NodeMembers.member k v ms) (Some x) names at sets = absurd (none-some _ (sym names))
 
-    -- Nothing is left behind the object.
+    -- Nothing is left after the object.
     pub end-refused : (c : Cause) (x stop : ℕ) → finish s ≡ refused c x stop → (n : Node) → IsDocument false t n → ⊥
     end-refused c x stop is n d =
         let l = h.document n d in

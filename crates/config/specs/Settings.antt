@@ -70,14 +70,14 @@ named key =
     else (if bytes_eq key (codes "debug") then name.Debug
     else name.Other))
 
--- behind a member of this name, with this value at b
+-- after a member of this name, with this value at b
 abbrev pub set : Name → Tree → ℕ → Settings → Verdict Settings
 set name.Host v b s = and_then (host_in v b) (λ x. fits (record s { host = Some x }))
 set name.Port v b s = and_then (port_in v b) (λ x. fits (record s { port = Some x }))
 set name.Debug v b s = and_then (debug_in v b) (λ x. fits (record s { debug = Some x }))
 set name.Other v b s = fits s
 
--- behind these members
+-- after these members
 abbrev pub set_by : List ℕ → Settings → NodeMembers → Verdict Settings
 set_by t s NodeMembers.no_members = fits s
 set_by t s (NodeMembers.member k n ms) =
@@ -135,7 +135,7 @@ Judges view (Err r) v = (IsOfMemory r → ⊥) → v ≡ unfit (why r) (place_of
 abbrev pub IsAnswer : List ℕ → Node → Result Config Refusal → Type 0
 IsAnswer t n result = Judges config_view result (configured t n)
 
--- What was read of the value that came next: what the judge says of it, and behind what fits the reader stands.
+-- What was read of the value that came next: what the judge says of it, and after what fits the reader stands.
 pub record ReadsSetting {A : Type 0} (old new : ReaderState) (result : Result A Refusal) (judge : Tree → ℕ → Verdict A)
     : Type 0 where
   pub moves : MovesOn old new

@@ -78,7 +78,7 @@ module _ (line : List ℕ) where
   text-is : (s : ReaderState) → s ≡ with_position (at_start line) s.position → s.text ≡ line
   text-is s same = ap (λ (v : ReaderState). v.text) same
 
-  -- Behind a key: its value, and the next key.
+  -- After a key: its value, and the next key.
   module _ (s : ReaderState) (name : Text) (p : Picked) (h : WalkAt s (Some name) p) where
     -- the value is passed
     pub value-not_refused : (n : Node) → IsDocument false line n → (c : Cause) (x stop : ℕ)
@@ -92,9 +92,9 @@ module _ (line : List ℕ) where
       text1 : s1.text ≡ line
       text1 = ap (λ (v : ReaderState). v.text) m1.same ∙ text-is s h.same
 
-      left-behind : (v : Node) (ms : NodeMembers) (e : ℕ) → ComesNext s v → MembersLeft (with_position s (end v)) ms e
+      left-after : (v : Node) (ms : NodeMembers) (e : ℕ) → ComesNext s v → MembersLeft (with_position s (end v)) ms e
           → MembersLeft s1 ms e
-      left-behind v ms e comes left =
+      left-after v ms e comes left =
           let there : end v ≡ s1.position = (gave-is _ _ _ _ (sym (skip-passes s v comes) ∙ passed)).1 in
           let is : with_position s (end v) ≡ s1 = ap (λ i. with_position s i) there ∙ sym m1.same in
           subst (λ (u : ReaderState). MembersLeft u ms e) is left
@@ -108,7 +108,7 @@ module _ (line : List ℕ) where
         by : (rest : NodeMembers) → KeyAt (raw_key line) s rest e (Some name) → ⊥
         by NodeMembers.no_members k = k
         by (NodeMembers.member k v ms) (named, comes, left) =
-            let told = key-tells raw (raw_key line) s1 (sees s1 text1) ms e (left-behind v ms e comes left) in
+            let told = key-tells raw (raw_key line) s1 (sees s1 text1) ms e (left-after v ms e comes left) in
             key-not_refused (raw_key line) s1 ms e _ c x stop told is
 
       module _ (source : List ℕ) (cut_out : source ≡ slice_range s.text (value_place s) s1.position)
@@ -132,7 +132,7 @@ module _ (line : List ℕ) where
           by NodeMembers.no_members k picks = absurd k
           by (NodeMembers.member k v ms) (named, comes, left) picks =
               let told =
-              key-tells raw (raw_key line) s1 (sees s1 text1) ms l.last (left-behind v ms l.last comes left) in
+              key-tells raw (raw_key line) s1 (sees s1 text1) ms l.last (left-after v ms l.last comes left) in
               record {
                 first = l.first;
                 last = l.last;
@@ -167,7 +167,7 @@ module _ (line : List ℕ) where
         pub less-left : length line - s2.position < length line - s.position
         less-left = omega (arith, moved-on, walk-goes_on.within)
 
-  -- Behind the last member.
+  -- After the last member.
   module _ (s : ReaderState) (p : Picked) (h : WalkAt s None p) where
     ended : (n : Node) (l : Left s None p n)
         → (s.position ≡ l.last) × (p ≡ with_members line nothing_picked l.all)

@@ -17,7 +17,7 @@ picked f = record { id = option_map (λ x. x.now) f.id; text = option_map (λ x.
 abbrev pub nothing_picked : Picked
 nothing_picked = record { id = None; text = None }
 
--- behind one member more, of this name and with this source
+-- after one member more, of this name and with this source
 abbrev pub with_member : List ℕ → List ℕ → Picked → Picked
 with_member name source p = record {
   id = if bytes_eq name (codes "id") then Some source else p.id;
@@ -31,7 +31,7 @@ name_of t k = slice_range t (k.begin + 1) (k.end - 1)
 abbrev pub source_of : List ℕ → Node → List ℕ
 source_of t n = slice_range t (begin n) (end n)
 
--- behind these members
+-- after these members
 abbrev pub with_members : List ℕ → Picked → NodeMembers → Picked
 with_members t p NodeMembers.no_members = p
 with_members t p (NodeMembers.member k n ms) = with_members t (with_member (name_of t k) (source_of t n) p) ms

@@ -26,7 +26,7 @@ fn main(rt: HostRuntime) -> io::Result<ExitCode> {
         println!(rt; "line {}: {}", refusal.line, refusal.error)?;
     }
     if import.read < lines.len() {
-        println!(rt; "out of memory behind line {}", import.read)?;
+        println!(rt; "out of memory after line {}", import.read)?;
         return Ok(ExitCode::from(3));
     }
     Ok(ExitCode::from(0))

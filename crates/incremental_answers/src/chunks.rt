@@ -1,34 +1,34 @@
 //! What is answered after each chunk, and in the end.
 use jiter::{JsonError, JsonValue, PartialMode};
-use jiter_incremental::{Arriving, LineFeeds, parse_pieces};
+use jiter_incremental::{IncrementalParser, LineIndex, parse_chunks};
 use std::alloc::{AllocError, Global};
 use test_rows::{Partial, Row};
 use test_support::told::{outcome_text, text_of};
 
 /// The value after each chunk, and after `finish:` that of the end.
 pub fn pushed(alloc: Global, row: Row<'_>, chunks: &[Vec<u8>]) -> Result<String, AllocError> {
-    let mut arriving = Arriving::new(alloc, row.allow_inf_nan, mode_of(&row));
+    let mut incremental_parser = IncrementalParser::new(alloc, row.allow_inf_nan, mode_of(&row));
     let mut out = String::new(alloc);
     for chunk in chunks {
-        arriving.push(chunk.as_slice())?;
-        out.push_str(value_text(alloc, arriving.value())?.as_str())?;
+        incremental_parser.push(chunk.as_slice())?;
+        out.push_str(value_text(alloc, incremental_parser.value())?.as_str())?;
         out.push_str(" | ")?;
     }
     out.push_str("finish: ")?;
-    out.push_str(outcome_text(alloc, &arriving.finish())?.as_str())?;
+    out.push_str(outcome_text(alloc, &incremental_parser.finish())?.as_str())?;
     Ok(out)
 }
 
 /// The error after each chunk, if the document isn't complete there.
 pub fn errors(alloc: Global, row: Row<'_>, chunks: &[Vec<u8>]) -> Result<String, AllocError> {
-    let mut arriving = Arriving::new(alloc, row.allow_inf_nan, mode_of(&row));
+    let mut incremental_parser = IncrementalParser::new(alloc, row.allow_inf_nan, mode_of(&row));
     let mut out = String::new(alloc);
     for chunk in chunks {
-        arriving.push(chunk.as_slice())?;
+        incremental_parser.push(chunk.as_slice())?;
         if !out.is_empty() {
             out.push_str(" | ")?;
         }
-        match arriving.error() {
+        match incremental_parser.error() {
             Some(error) => {
                 let told = format!(in alloc; "{} at {}", error.error_type, error.index)?;
                 out.push_str(told.as_str())?;
@@ -63,13 +63,13 @@ pub fn whole(alloc: Global, row: Row<'_>, chunks: &[Vec<u8>]) -> Result<String, 
     for chunk in chunks {
         pieces.push(chunk.as_slice())?;
     }
-    let value = parse_pieces(alloc, pieces.as_slice(), row.allow_inf_nan);
+    let value = parse_chunks(alloc, pieces.as_slice(), row.allow_inf_nan);
     outcome_text(alloc, &value)
 }
 
 /// Line and column of each index of the chunks, of the first index past them, and of the greatest one.
 pub fn feeds(alloc: Global, chunks: &[Vec<u8>]) -> Result<String, AllocError> {
-    let mut lines = LineFeeds::new(alloc);
+    let mut lines = LineIndex::new(alloc);
     let mut length = 0usize;
     for chunk in chunks {
         lines.push(chunk.as_slice())?;
@@ -88,7 +88,7 @@ pub fn feeds(alloc: Global, chunks: &[Vec<u8>]) -> Result<String, AllocError> {
 
 fn push_place(
     alloc: Global,
-    lines: &LineFeeds,
+    lines: &LineIndex,
     index: usize,
     out: &mut String,
 ) -> Result<(), AllocError> {

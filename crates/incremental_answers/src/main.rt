@@ -34,8 +34,8 @@ fn answer_of(alloc: Global, row: Row<'_>) -> Result<String, AllocError> {
     let answer = match row.call {
         "push" => pushed(alloc, row, chunks)?,
         "error" => errors(alloc, row, chunks)?,
-        "parse_pieces" => whole(alloc, row, chunks)?,
-        "line_feeds" => feeds(alloc, chunks)?,
+        "parse_chunks" => whole(alloc, row, chunks)?,
+        "line_index" => feeds(alloc, chunks)?,
         _ => String::from_str(alloc, "no such call")?,
     };
     answer.replace(alloc, "\n", "%0A")

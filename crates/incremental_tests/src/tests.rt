@@ -1,6 +1,6 @@
 //! Documents in pieces of a few bytes, in each mode, with names and without.
 use jiter::{JsonError, JsonValue, PartialMode};
-use jiter_incremental::{Arriving, parse_pieces};
+use jiter_incremental::{IncrementalParser, parse_chunks};
 use readings::{MODES, is_read_once};
 use std::alloc::{AllocError, Global};
 use std::test::*;
@@ -70,20 +70,20 @@ fn the_value_so_far_is_that_of_a_parse(rt: HostRuntime) -> Result<(), Fail> {
     Ok(())
 }
 
-// The example of docs/CALLING.md: the document that comes in pieces, and how many items stand behind each.
+// The example of docs/CALLING.md: the document that comes in pieces, and how many items stand after each.
 fn whole(
     alloc: Global,
     pieces: &[&[u8]],
     shown: &mut Vec<usize>,
 ) -> Result<Result<JsonValue<'static>, JsonError>, AllocError> {
-    let mut arriving = Arriving::new(alloc, false, PartialMode::TrailingStrings);
+    let mut incremental_parser = IncrementalParser::new(alloc, false, PartialMode::TrailingStrings);
     for piece in pieces {
-        arriving.push(piece)?;
-        if let Ok(JsonValue::Array(items)) = arriving.value() {
+        incremental_parser.push(piece)?;
+        if let Ok(JsonValue::Array(items)) = incremental_parser.value() {
             shown.push(items.len())?;
         }
     }
-    Ok(arriving.finish())
+    Ok(incremental_parser.finish())
 }
 
 #[test]
@@ -99,8 +99,8 @@ fn a_document_that_comes_in_pieces_is_shown_and_whole(rt: HostRuntime) -> Result
         PartialMode::Off,
     );
     assert!(rt; value == wanted);
-    assert!(rt; parse_pieces(rt.alloc(), &pieces, false) == wanted);
+    assert!(rt; parse_chunks(rt.alloc(), &pieces, false) == wanted);
     let none = JsonValue::parse_owned(rt.alloc(), b"", false, PartialMode::Off);
-    assert!(rt; parse_pieces(rt.alloc(), &[], false) == none);
+    assert!(rt; parse_chunks(rt.alloc(), &[], false) == none);
     Ok(())
 }

@@ -1,4 +1,4 @@
--- What is left of a container behind the parts that the client has built, by the replies of its calls.
+-- What is left of a container after the parts that the client has built, by the replies of its calls.
 use Rattle.std.proofs.Common.{◌≡◌, ◌∙◌, refl, sym, ap, ℕ, ◌+◌, ◌<◌, Bool, true, false, List, [], ◌∷◌, ◌++◌, length}
 use Rattle.std.proofs.Common.{arith}
 use Rattle.std.specs.Prelude.{slice_get, slice_index, Option, Some, None, option_map, IfSome}
@@ -14,8 +14,8 @@ use Rattle.jiter_steps.specs.StringReading.{whole, string_at}
 use Rattle.jiter_steps.specs.Tree.{Text, Tree}
 use Rattle.jiter_steps.specs.Tree as tree
 use Rattle.jiter_steps.specs.Step.{Step, more, closed, stuck, step, colon, value_first, object_step}
-use Rattle.jiter_steps.specs.Read.{Reading, done, fault, scalar_at, Container, with_key, behind_colon, behind_key}
-use Rattle.jiter_steps.specs.Read.{follow, behind_part, parts_at, array_of, object_of, inside_at}
+use Rattle.jiter_steps.specs.Read.{Reading, done, fault, scalar_at, Container, with_key, after_colon, after_key}
+use Rattle.jiter_steps.specs.Read.{follow, after_part, parts_at, array_of, object_of, inside_at}
 use Rattle.jiter_steps.specs.Answer.{seen_as}
 use Rattle.jiter_steps.specs.declared.parse.Literal.{Literal}
 use Rattle.jiter_steps.specs.declared.parse.Literal.TheVariants as literal
@@ -33,7 +33,7 @@ use Rattle.jiter.specs.Jiter.{StandsAt, reply_seen}
 use Rattle.jiter.specs.Reader.{ReaderState, Reply, gave, refused, with_position, if_byte, next, scalar_reply}
 use Rattle.jiter.specs.Reader.{bool_read, value_reply, part_reply, item_step, colon_reply, key_reply, key_step}
 
--- a value that was given ends behind its begin
+-- a value that was given ends after its begin
 pub gave-ahead : {A : Type 0} (t : List ℕ) (i : ℕ) (x : Reading A) → Within t i x → (a : A) (e : ℕ)
     → value_reply x ≡ gave a e → i < e
 gave-ahead t i (done b f) w a e h = let same : f ≡ e = cc in omega (arith, w.0)
@@ -53,7 +53,7 @@ module _ (names : Bool) (t : List ℕ) where
   built_inside-within levels = inside_at-within (owned_trees names) t owned-advances levels
 
 -- How the client goes through a container: what it is told where a part begins, which byte stands there then, the call
--- for the part's value, the part that this makes, and the call behind a part.
+-- for the part's value, the part that this makes, and the call after a part.
 pub record Walk (K P : Type 0) : Type 0 where
   pub container : Container P Tree
   pub told : ℕ → Reply (Option K)
@@ -63,11 +63,11 @@ pub record Walk (K P : Type 0) : Type 0 where
   pub stepped : ReaderState → Reply (Option K)
 
 module _ {K P : Type 0} (s0 : ReaderState) (w : Walk K P) where
-  -- the parts from i on, behind these
+  -- the parts from i on, after these
   abbrev parts_from : List P → ℕ → Reading Tree
   parts_from parts i = parts_at (owned_trees s0.names) w.container s0.text (length s0.text) parts i
 
-  -- what a step behind these parts leads to
+  -- what a step after these parts leads to
   abbrev pub led : List P → Step → Reply Tree
   led parts s = value_reply (follow (owned_trees s0.names) (parts_from parts) (λ e. w.container.build e parts) s)
 
@@ -75,19 +75,19 @@ module _ {K P : Type 0} (s0 : ReaderState) (w : Walk K P) where
   abbrev pub all : Reply Tree
   all = led [] (step s0.text w.container.first (s0.position + 1))
 
-  -- behind these parts and the one of this reply
-  abbrev pub behind : List P → Reply P → Reply Tree
-  behind parts (gave p e) = led (parts ++ p ∷ []) (step s0.text w.container.next e)
-  behind parts (refused c i stop) = refused c i stop
+  -- after these parts and the one of this reply
+  abbrev pub after : List P → Reply P → Reply Tree
+  after parts (gave p e) = led (parts ++ p ∷ []) (step s0.text w.container.next e)
+  after parts (refused c i stop) = refused c i stop
 
   -- the part of which k was told, its value asked for at i
   abbrev rest : K → ℕ → Reply P
   rest k i = reply_seen (w.part k) (w.asked (with_position s0 i))
 
-  -- What is left behind these parts: the next one, of which k was told, or the container has ended before i.
+  -- What is left after these parts: the next one, of which k was told, or the container has ended before i.
   abbrev pub left : Option K → List P → ℕ → Reply Tree
   left None parts i = gave (w.container.build i parts) i
-  left (Some k) parts i = behind parts (rest k i)
+  left (Some k) parts i = after parts (rest k i)
 
   -- the byte that was told stands at i
   abbrev pub ToldAt : Option K → ℕ → Type 0
@@ -114,17 +114,17 @@ pub record WalkLaws {K P : Type 0} (s0 : ReaderState) (w : Walk K P) : Type 0 wh
       → i < e
 
 module _ {K P : Type 0} (s0 : ReaderState) (w : Walk K P) (laws : WalkLaws s0 w) where
-  behind-part : (parts : List P) (x : Reading P)
-      → value_reply (behind_part (owned_trees s0.names) w.container s0.text (parts_from s0 w) parts x)
-      ≡ behind s0 w parts (value_reply x)
-  behind-part parts (done p e) = refl
-  behind-part parts (fault k i stop) = refl
+  after-part : (parts : List P) (x : Reading P)
+      → value_reply (after_part (owned_trees s0.names) w.container s0.text (parts_from s0 w) parts x)
+      ≡ after s0 w parts (value_reply x)
+  after-part parts (done p e) = refl
+  after-part parts (fault k i stop) = refl
 
-  begun-leads : (parts : List P) (y : Reply Tree) (x : Reply P) (r : Reply (Option K)) → y ≡ behind s0 w parts x
+  begun-leads : (parts : List P) (y : Reply Tree) (x : Reply P) (r : Reply (Option K)) → y ≡ after s0 w parts x
       → Begins s0 w x r → LeadsTo s0 w parts y r
   begun-leads parts y x (gave None i) h b = absurd b
-  begun-leads parts y x (gave (Some k) i) h b = (h ∙ ap (behind s0 w parts) b.0, b.1)
-  begun-leads parts y x (refused c i stop) h b = h ∙ ap (behind s0 w parts) b
+  begun-leads parts y x (gave (Some k) i) h b = (h ∙ ap (after s0 w parts) b.0, b.1)
+  begun-leads parts y x (refused c i stop) h b = h ∙ ap (after s0 w parts) b
 
   -- a step leads to what its reply says
   pub leads : (parts : List P) (m : ℕ) (s : Step) → Ahead s0.text m s
@@ -133,7 +133,7 @@ module _ {K P : Type 0} (s0 : ReaderState) (w : Walk K P) (laws : WalkLaws s0 w)
       begun-leads parts (value_reply (parts_from s0 w parts i)) (value_reply (w.container.part i)) (w.told i)
       (ap value_reply (parts_at_is (owned_trees s0.names) s0.text w.container laws.goes parts i a.1
       (laws.free parts i))
-      ∙ behind-part parts (w.container.part i))
+      ∙ after-part parts (w.container.part i))
       (laws.begins i a.1)
   leads parts m (closed e) a = (refl, tt)
   leads parts m (stuck k i) a = refl
@@ -194,20 +194,20 @@ module _ (s0 : ReaderState) (levels : ℕ) where
   keyed-value key (fault k i stop) = refl
 
   value-begins : (key : Text) (p : ℕ) (o : Option ℕ)
-      → value_reply (behind_colon key inner (value_first p o))
+      → value_reply (after_colon key inner (value_first p o))
       ≡ reply_seen (λ v. (key, v)) (if_byte p o (λ c. value_reply (inner p)))
   value-begins key p None = refl
   value-begins key p (Some c) = keyed-value key (inner p)
 
   colon-begins : (key : Text) (x : Extent)
-      → Begins s0 members (value_reply (behind_colon (owned_text key) inner (extent_then x (step s0.text value_first))))
+      → Begins s0 members (value_reply (after_colon (owned_text key) inner (extent_then x (step s0.text value_first))))
       (reply_seen (option_map owned_text) (colon_reply key x))
   colon-begins key (taken u j) =
       (value-begins (owned_text key) (past_blanks s0.text j) (slice_get s0.text (past_blanks s0.text j)), tt)
   colon-begins key (failed k j) = refl
 
   key-begins : (i : ℕ) (x : Scanned Text)
-      → Begins s0 members (value_reply (behind_key inner s0.text i (seen_as (λ s e. owned_text s) x)))
+      → Begins s0 members (value_reply (after_key inner s0.text i (seen_as (λ s e. owned_text s) x)))
       (reply_seen (option_map owned_text) (key_reply s0.text i x))
   key-begins i (taken key e) = colon-begins key (step s0.text colon e)
   key-begins i (failed k j) = refl
@@ -222,8 +222,8 @@ module _ (s0 : ReaderState) (levels : ℕ) where
   member-ahead : (i : ℕ) (v : Tree) (e : ℕ) → members.asked (with_position s0 i) ≡ gave v e → i < e
   member-ahead i v e h =
       let p = past_blanks s0.text i in
-      let behind = value-ahead p (slice_get s0.text p) v e refl h in
-      omega (arith, behind, past_blanks-after s0.text i)
+      let after = value-ahead p (slice_get s0.text p) v e refl h in
+      omega (arith, after, past_blanks-after s0.text i)
 
   pub members-laws : WalkLaws s0 members
   members-laws = record {

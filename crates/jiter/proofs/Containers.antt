@@ -16,7 +16,7 @@ use Rattle.jiter.specs.Reads.{Reads, anywhere}
 use Rattle.jiter.specs.Reader.{ReaderState, Reply, gave, refused, with_position, known, part_reply, key_reply}
 use Rattle.jiter.specs.Reader.{array_read, object_read}
 use Rattle.jiter.specs.declared.errors.JiterError.{JiterError}
-use Rattle.jiter.proofs.Building.{Walk, WalkLaws, ToldAt, LeadsTo, all, behind, left, leads, items, members}
+use Rattle.jiter.proofs.Building.{Walk, WalkLaws, ToldAt, LeadsTo, all, after, left, leads, items, members}
 use Rattle.jiter.proofs.Building.{known-first, seen-part}
 use Rattle.jiter.proofs.Walking.{moves-on}
 
@@ -48,7 +48,7 @@ refused-seen {e = e} {s = s} f g r h = record {
 }
 
 -- Of the container whose bracket stands at s0 these parts were built, and the reader stands where the next one was told
--- of, or behind the container.
+-- of, or after the container.
 pub record In {K P : Type 0} (s0 s : ReaderState) (w : Walk K P) (next : Option K) (parts : List P) : Type 0 where
   pub moves : MovesOn s0 s
   pub here : ToldAt s0 w next s.position
@@ -99,7 +99,7 @@ module _ {K P : Type 0} {s0 : ReaderState} {w : Walk K P} (laws : WalkLaws s0 w)
     memory = h.memory;
   }
 
-  -- behind the last part
+  -- after the last part
   pub ended : {X : Type 0} {view : X → Tree} {x : X} {s : ReaderState} {parts : List P} → In s0 s w None parts
       → view x ≡ w.container.build s.position parts → Reads anywhere view (all s0 w) (Ok x) s0 s
   ended {s = s} inv is = record {
@@ -113,8 +113,8 @@ module _ {K P : Type 0} {s0 : ReaderState} {w : Walk K P} (laws : WalkLaws s0 w)
     asked-here : (r : Reply Tree) → w.asked s ≡ r → w.asked (with_position s0 s.position) ≡ r
     asked-here r h = subst (λ (x : ReaderState). w.asked x ≡ r) inv.moves.same h
 
-    behind-here : (r : Reply Tree) → w.asked s ≡ r → all s0 w ≡ behind s0 w parts (reply_seen (w.part k) r)
-    behind-here r h = inv.left ∙ ap (λ x. behind s0 w parts (reply_seen (w.part k) x)) (asked-here r h)
+    after-here : (r : Reply Tree) → w.asked s ≡ r → all s0 w ≡ after s0 w parts (reply_seen (w.part k) r)
+    after-here r h = inv.left ∙ ap (λ x. after s0 w parts (reply_seen (w.part k) x)) (asked-here r h)
 
     still : (o : Option K) → IfSome o (λ k. LeadsOn first)
     still None = tt
@@ -125,37 +125,37 @@ module _ {K P : Type 0} {s0 : ReaderState} {w : Walk K P} (laws : WalkLaws s0 w)
         → Reads anywhere view (w.asked s) (Err e) s s1 → Reads anywhere view (all s0 w) (Err e) s0 s1
     part-refused {s1 = s1} h = record {
       moves = moves-on s0 s s1 inv.moves h.moves;
-      value = λ m. behind-here _ (h.value m);
+      value = λ m. after-here _ (h.value m);
       index = omega (arith, h.index, same-length inv.moves);
       memory = h.memory;
     }
 
-    -- a part that was built, and the call behind it
+    -- a part that was built, and the call after it
     module _ {X : Type 0} {view : X → Tree} {x : X} {s1 : ReaderState}
         (built : Reads anywhere view (w.asked s) (Ok x) s s1) where
-      behind-moves : MovesOn s0 s1
-      behind-moves = moves-on s0 s s1 inv.moves built.moves
+      after-moves : MovesOn s0 s1
+      after-moves = moves-on s0 s s1 inv.moves built.moves
 
       abbrev with_part : List P
       with_part = parts ++ w.part k (view x) ∷ []
 
-      behind-leads : LeadsTo s0 w with_part (all s0 w) (w.stepped s1)
-      behind-leads =
+      after-leads : LeadsTo s0 w with_part (all s0 w) (w.stepped s1)
+      after-leads =
           let e = s1.position in
           let next = step s0.text w.container.next e in
-          let same : w.stepped s1 ≡ part_reply w.told next = ap w.stepped behind-moves.same ∙ laws.steps e in
-          let led = leads s0 w laws with_part e next (laws.goes.next e behind-moves.within) in
+          let same : w.stepped s1 ≡ part_reply w.told next = ap w.stepped after-moves.same ∙ laws.steps e in
+          let led = leads s0 w laws with_part e next (laws.goes.next e after-moves.within) in
           subst (LeadsTo s0 w with_part (all s0 w)) (sym same)
-          (subst (λ r. LeadsTo s0 w with_part r (part_reply w.told next)) (sym (behind-here _ built.value)) led)
+          (subst (λ r. LeadsTo s0 w with_part r (part_reply w.told next)) (sym (after-here _ built.value)) led)
 
       -- it leads on, or ends the container
       pub goes-on : {Y : Type 0} {keys : Y → Option K} {y : Y} {s2 : ReaderState} {more : List P}
           → Reads anywhere keys (w.stepped s1) (Ok y) s1 s2 → with_part ≡ more → In s0 s2 w (keys y) more
       goes-on {keys = keys} {y = y} {s2 = s2} stepped grown =
-          let led = subst (LeadsTo s0 w with_part (all s0 w)) stepped.value behind-leads in
+          let led = subst (LeadsTo s0 w with_part (all s0 w)) stepped.value after-leads in
           subst (λ ps. In s0 s2 w (keys y) ps) grown
           (record {
-            moves = moves-on s0 s1 s2 behind-moves stepped.moves;
+            moves = moves-on s0 s1 s2 after-moves stepped.moves;
             here = led.1;
             opens = still (keys y);
             left = led.0;
@@ -165,16 +165,16 @@ module _ {K P : Type 0} {s0 : ReaderState} {w : Walk K P} (laws : WalkLaws s0 w)
       pub turn-ahead : {s2 : ReaderState} → MovesOn s1 s2 → length s0.text - s2.position < length s0.text - s.position
       turn-ahead {s2 = s2} m2 =
           let ahead = laws.ahead k s.position (view x) s1.position inv.here (asked-here _ built.value) in
-          let moves = moves-on s0 s1 s2 behind-moves m2 in
+          let moves = moves-on s0 s1 s2 after-moves m2 in
           omega (arith, ahead, m2.forward, moves.within)
 
       -- no part goes on, and no closer stands
-      pub stuck-behind : {Y : Type 0} {keys : Y → Option K} {e : JiterError} {s2 : ReaderState}
+      pub stuck-after : {Y : Type 0} {keys : Y → Option K} {e : JiterError} {s2 : ReaderState}
           → Reads anywhere keys (w.stepped s1) (Err e) s1 s2 → Reads anywhere view (all s0 w) (Err e) s0 s2
-      stuck-behind {s2 = s2} stepped = record {
-        moves = moves-on s0 s1 s2 behind-moves stepped.moves;
-        value = λ m. subst (LeadsTo s0 w with_part (all s0 w)) (stepped.value m) behind-leads;
-        index = omega (arith, stepped.index, same-length behind-moves);
+      stuck-after {s2 = s2} stepped = record {
+        moves = moves-on s0 s1 s2 after-moves stepped.moves;
+        value = λ m. subst (LeadsTo s0 w with_part (all s0 w)) (stepped.value m) after-leads;
+        index = omega (arith, stepped.index, same-length after-moves);
         memory = stepped.memory;
       }
 

@@ -1,4 +1,4 @@
--- A longer front of a document goes on where a shorter one stopped.
+-- A longer prefix of a document goes on where a shorter one stopped.
 use Rattle.std.proofs.Common.{◌≡◌, ℕ, ◌≤◌, Bool, List, length, take, ap, ◌∙◌, subst, arith}
 use Rattle.std.proofs.Common.{take-take}
 use Rattle.std.proofs.lemmas.List.{length-take}
@@ -16,19 +16,19 @@ use Rattle.jiter_value.specs.Owned.{owned_text, owned_tree, owned_items, owned_m
 use Rattle.jiter_value.specs.Parses.{reading_as}
 use Rattle.jiter_value.specs.Value.{view, Answers}
 use Rattle.jiter_value.specs.declared.value.JsonValue.{JsonValue}
-use Rattle.jiter.specs.Fronts.{IsCleanCut, FrontsGrow}
+use Rattle.jiter.specs.Prefixes.{IsCleanCut, PrefixesGrow}
 
--- What is answered of a front is made of the document's cut there.
-front-cut : (names : Bool) (u : List ℕ) (mode : PartialMode) (f : IsBegunContainer names u) (made : Tree → Tree)
+-- What is answered of a prefix is made of the document's cut there.
+prefix-cut : (names : Bool) (u : List ℕ) (mode : PartialMode) (f : IsBegunContainer names u) (made : Tree → Tree)
     (x : Reading Tree) (v : JsonValue) → AnswersCut names u mode f x → Answers (Ok v) (reading_as made x)
     → (a : Tree) × (cut names f.text f.node f.place mode ≡ Some a) × (made a ≡ view v)
-front-cut names u mode f made (done a e) v is h = let read = h.1 in (a, is, cc)
-front-cut names u mode f made (fault k i stop) v is h = absurd is
+prefix-cut names u mode f made (done a e) v is h = let read = h.1 in (a, is, cc)
+prefix-cut names u mode f made (fault k i stop) v is h = absurd is
 
--- the first bytes of a front are a front
-shorter-front : (names : Bool) (u : List ℕ) (f : IsBegunContainer names u) (k : ℕ) → IsCleanCut f.node k
+-- the first bytes of a prefix are a prefix
+shorter-prefix : (names : Bool) (u : List ℕ) (f : IsBegunContainer names u) (k : ℕ) → IsCleanCut f.node k
     → k ≤ f.place → IsBegunContainer names (take k u)
-shorter-front names u f k clean le = record {
+shorter-prefix names u f k clean le = record {
   text = f.text;
   node = f.node;
   place = k;
@@ -40,14 +40,14 @@ shorter-front names u f k clean le = record {
 }
 
 module _ (made : Tree → Tree) (more : (v w : Tree) → Extends v w → Extends (made v) (made w)) where
-  pub fronts-grow : FrontsGrow made
-  unfolding shorter-front
-  fronts-grow names mode u f k v w active clean within earlier later =
+  pub prefixes-grow : PrefixesGrow made
+  unfolding shorter-prefix
+  prefixes-grow names mode u f k v w active clean within earlier later =
       let place : k ≤ f.place = omega (arith, ap length f.is, length-take f.place f.text, within, f.within) in
-      let g = shorter-front names u f k clean place in
-      let a = front-cut names (take k u) mode g made (answer_in names mode (take k u)) v
+      let g = shorter-prefix names u f k clean place in
+      let a = prefix-cut names (take k u) mode g made (answer_in names mode (take k u)) v
       (answer_in-cut names (take k u) mode g active) earlier in
-      let b = front-cut names u mode f made (answer_in names mode u) w (answer_in-cut names u mode f active) later in
+      let b = prefix-cut names u mode f made (answer_in names mode u) w (answer_in-cut names u mode f active) later in
       let extends = cut-extends names f.text mode f.node k f.place a.0 b.0 f.document.spelled clean.numbers place
       a.1 b.1 in
       subst (Extends (view v)) b.2 (subst (λ x. Extends x (made b.0)) a.2 (more a.0 b.0 extends))

@@ -9,12 +9,12 @@ use Rattle.jiter_scan.specs.Kind.{Kind}
 use Rattle.jiter_scan.specs.Number.{Number, integer, big, float, number_value, positive_value, negative_value}
 use Rattle.jiter_scan.specs.Number.{is_float_byte, minus_of}
 use Rattle.jiter_scan.specs.NumberDecoder.{IsMinusTo, magnitude_of}
-use Rattle.jiter_scan.specs.NumberReading.{Integer, int_seen, float_seen, integer_or_float, integer_behind}
+use Rattle.jiter_scan.specs.NumberReading.{Integer, int_seen, float_seen, integer_or_float, integer_after}
 use Rattle.jiter_scan.specs.NumberReading.{integer_from}
-use Rattle.jiter_scan.specs.NumberReading.{int_at, integer_behind_minus, is_float_sign, extent_then, fraction_at}
+use Rattle.jiter_scan.specs.NumberReading.{int_at, integer_after_minus, is_float_sign, extent_then, fraction_at}
 use Rattle.jiter_scan.specs.NumberReading.{fraction_from, exponent_at, exponent_from, decimal_at, int_part_at}
 use Rattle.jiter_scan.specs.NumberReading.{with_value}
-use Rattle.jiter_scan.specs.NumberReading.{number_at, extent_from, behind_minus}
+use Rattle.jiter_scan.specs.NumberReading.{number_at, extent_from, after_minus}
 use Rattle.jiter_scan.specs.Scanned.{Scanned, taken, failed}
 use Rattle.jiter_scan.specs.Stands.{Stands}
 use Rattle.jiter_scan.specs.Word.{Extent, word_at}
@@ -102,13 +102,13 @@ module _ (t : List ℕ) (i : ℕ) where
             ∙ exponent_is) in
             omega (arith, stands-length t (f + 1) e power.0 power.1)
 
-  -- behind the integer part
-  after : (j f : ℕ) → IsMinusTo t i j → f ≤ length t → i ≤ f → int_part_at t j ≡ taken tt f → (o : Option ℕ)
+  -- after the integer part
+  later : (j f : ℕ) → IsMinusTo t i j → f ≤ length t → i ≤ f → int_part_at t j ≡ taken tt f → (o : Option ℕ)
       → slice_get t f ≡ o
       → AgreeAsInteger (integer_or_float t i f o) (with_value t i (extent_then (fraction_at t f) (exponent_at t)))
-  after j f minus within low int_part None here =
+  later j f minus within low int_part None here =
       (rw here (rw here refl), whole-number j f minus int_part)
-  after j f minus within low int_part (Some c) here =
+  later j f minus within low int_part (Some c) here =
       if_case (λ x. AgreeAsInteger x (with_value t i (extent_then (fraction_at t f) (exponent_at t)))) (is_float_sign c)
       (taken float_seen f) (taken (int_seen (number_value (slice_range t i f))) f)
       (λ sign. float (extent_then (fraction_at t f) (exponent_at t)) refl sign)
@@ -120,14 +120,14 @@ module _ (t : List ℕ) (i : ℕ) where
             float-is _ _ (number_value-tail t i f e low (point-long f e c here sign h) within h)
         float (failed k x) h sign = tt
 
-  behind : (j : ℕ) → IsMinusTo t i j → i ≤ length t → (x : Extent) → int_part_at t j ≡ x
-      → AgreeAsInteger (integer_behind t i x) (with_value t i (decimal_at t j))
-  behind j minus within (failed k x) h = rw h refl
-  behind j minus within (taken u f) h =
+  after : (j : ℕ) → IsMinusTo t i j → i ≤ length t → (x : Extent) → int_part_at t j ≡ x
+      → AgreeAsInteger (integer_after t i x) (with_value t i (decimal_at t j))
+  after j minus within (failed k x) h = rw h refl
+  after j minus within (taken u f) h =
       let part = int_part_at-sound t j f h in
       let long = stands-length t j f part.0 part.1 in
       let start = IsMinusTo-le t i j minus in
-      rw h (after j f minus (extent-within j f minus within part.0 part.1) (omega (arith, long, start)) h
+      rw h (later j f minus (extent-within j f minus within part.0 part.1) (omega (arith, long, start)) h
       (slice_get t f)
       refl) where
         extent-within : (j f : ℕ) → IsMinusTo t i j → i ≤ length t → (w : List ℕ) → Stands t j f w → f ≤ length t
@@ -150,14 +150,14 @@ module _ (t : List ℕ) (i : ℕ) where
   first-is j c d here is there = let same : c ≡ d = cc in subst (λ b. is_float_byte b ≡ true) same is
 
   minus : (names : Bool) → i ≤ length t → slice_get t i ≡ Some 45 → (o : Option ℕ) → slice_get t (i + 1) ≡ o
-      → AgreeAsInteger (integer_behind_minus t i o) (with_value t i (behind_minus names t (i + 1) o))
+      → AgreeAsInteger (integer_after_minus t i o) (with_value t i (after_minus names t (i + 1) o))
   minus names within sign None here = refl
   minus names within sign (Some c) here =
       let there = slice_get_within t (i + 1) c here in
       if_both (λ x y. AgreeAsInteger x (with_value t i y)) (c == 73) _ _ _ _
       (λ is. named names (codes "Infinity") (i + 1) (i + 1) _ (omega arith) (omega (arith, there)) (omega arith)
       (λ d got. first-is (i + 1) c d here (grind (arith, nat_tests, is)) got))
-      (λ other. behind (i + 1) (inr (refl, sign)) within (int_part_at t (i + 1)) refl)
+      (λ other. after (i + 1) (inr (refl, sign)) within (int_part_at t (i + 1)) refl)
 
   from : (names : Bool) → i ≤ length t → (o : Option ℕ) → slice_get t i ≡ o
       → AgreeAsInteger (integer_from t i o) (with_value t i (extent_from names t i o))
@@ -171,7 +171,7 @@ module _ (t : List ℕ) (i : ℕ) where
       (λ d got. first-is i c d here (grind (arith, nat_tests, is)) got))
       (λ is. named names (codes "Infinity") i i _ (omega arith) within (omega arith)
       (λ d got. first-is i c d here (grind (arith, nat_tests, is)) got))
-      (behind i (inl refl) within (int_part_at t i) refl)) where
+      (after i (inl refl) within (int_part_at t i) refl)) where
         sign : (c == 45) ≡ true → slice_get t i ≡ Some 45
         sign is = let same : c ≡ 45 = grind (arith, nat_tests, is) in here ∙ ap Some same
 

@@ -33,21 +33,21 @@ module _ (names : Bool) (t : List ℕ) where
       (skip_at-law names t (begin n)) in
       law.1
 
-  -- It begins behind blanks.
-  pub place-behind : (n : Node) → Spells names t n → (i : ℕ) → IsBlank t i (begin n) → past_blanks t i ≡ begin n
-  place-behind n h i blanks =
+  -- It begins after blanks.
+  pub place-after : (n : Node) → Spells names t n → (i : ℕ) → IsBlank t i (begin n) → past_blanks t i ≡ begin n
+  place-after n h i blanks =
       let first = begins-value names t n h in
       blank-passed t i (begin n) first.byte blanks first.here first.no_blank
 
   pub place-there : (n : Node) → Spells names t n → (i : ℕ) → begin n ≡ i → past_blanks t i ≡ begin n
   place-there n h i is =
-      place-behind n h i (record {
+      place-after n h i (record {
         ordered = omega (arith, is);
         within = omega (arith, begin-within names t n h);
         each = λ k le lt. absurd (omega (arith, is));
       })
 
--- The colon behind a key.
+-- The colon after a key.
 pub colon-taken : (t : List ℕ) (k : Key) (j : ℕ) (h : SpellsKey t k j) → step t colon k.end ≡ taken tt h.colon
 colon-taken t k j h =
-    row-at t colon k.end h.behind.at 58 h.behind.blanks h.behind.here refl ∙ ap (taken tt) (sym h.behind.ends)
+    row-at t colon k.end h.after.at 58 h.after.blanks h.after.here refl ∙ ap (taken tt) (sym h.after.ends)

@@ -5,7 +5,7 @@ use Rattle.std.proofs.Common.{slice_index, slice_range, ◌<◌, arith}
 use Rattle.std.proofs.lemmas.Bool.Decides.{nat_tests}
 use Rattle.std.proofs.lemmas.Option.{get_or_from_slice_get}
 use Rattle.jiter_scan.proofs.Runs.{run_end-here}
-use Rattle.jiter_steps.proofs.Grammar.Blanks.{no_blank-behind}
+use Rattle.jiter_steps.proofs.Grammar.Blanks.{no_blank-after}
 use Rattle.jiter.specs.Jiter.{MovesOn, StandsAt}
 use Rattle.jiter_scan.specs.Scanned.{Scanned, taken, failed}
 use Rattle.jiter_scan.specs.NumberReading.{Integer, int_seen, float_seen, number_at, int_at}
@@ -23,9 +23,9 @@ use Rattle.jiter.specs.Reader.{int_read, number_bytes_read, string_read, str_rea
 -- blanks are passed once
 pub past_blanks-again : (t : List ℕ) (i : ℕ) → past_blanks t (past_blanks t i) ≡ past_blanks t i
 unfolding past_blanks
-past_blanks-again t i = run_end-here is_blank t (past_blanks t i) _ refl (no_blank-behind t i _ refl)
+past_blanks-again t i = run_end-here is_blank t (past_blanks t i) _ refl (no_blank-after t i _ refl)
 
--- Behind a peek a second one gives the same, and leaves the reader there.
+-- After a peek a second one gives the same, and leaves the reader there.
 pub peek-again : (s : ReaderState) → peek (with_position s (position_after (peek s))) ≡ peek s
 peek-again s = by (slice_get s.text (value_place s)) where
   again : peek (with_position s (value_place s)) ≡ peek s
@@ -36,7 +36,7 @@ peek-again s = by (slice_get s.text (value_place s)) where
   by None = again
   by (Some c) = again
 
--- A next_ call behind a peek replies as it would have before.
+-- A next_ call after a peek replies as it would have before.
 pub next-again : {A : Type 0} (s : ReaderState) (read : ℕ → Start → Reply A)
     → next (with_position s (value_place s)) read ≡ next s read
 next-again s read =
@@ -107,18 +107,18 @@ scalars-stay s =
       next-stays s (bytes_read s) (string_read-stays s i _),
     )
 
--- Behind a peek that gave a byte, a known_ call replies as the next_ call would have before it.
+-- After a peek that gave a byte, a known_ call replies as the next_ call would have before it.
 pub known-peeked : {A : Type 0} (s : ReaderState) (read : ℕ → Start → Reply A) (c : ℕ)
     → slice_get s.text (value_place s) ≡ Some c → known (with_position s (value_place s)) read ≡ next s read
 known-peeked s read c e =
     let b : slice_index s.text (value_place s) ≡ c = get_or_from_slice_get s.text (value_place s) c 0 e in
     rw (e, b) refl
 
--- The same of the reader that such a peek left behind; what is read does not rest on where it stands.
-pub known-behind_peek : {A : Type 0} (read : ReaderState → ℕ → Start → Reply A) (s0 s1 : ReaderState) (c : ℕ)
+-- The same of the reader that such a peek left after; what is read does not rest on where it stands.
+pub known-after_peek : {A : Type 0} (read : ReaderState → ℕ → Start → Reply A) (s0 s1 : ReaderState) (c : ℕ)
     → ((i : ℕ) → read (with_position s0 i) ≡ read s0) → MovesOn s0 s1 → s1.position ≡ value_place s0 → StandsAt s1 c
     → known s1 (read s1) ≡ next s0 (read s0)
-known-behind_peek read s0 s1 c same m place here =
+known-after_peek read s0 s1 c same m place here =
     let is : s1 ≡ with_position s0 (value_place s0) = m.same ∙ ap (with_position s0) place in
     subst (λ (v : ReaderState). known v (read v) ≡ next s0 (read s0)) (sym is)
     (ap (known (with_position s0 (value_place s0))) (same (value_place s0))

@@ -15,8 +15,8 @@ use Rattle.jiter_steps.specs.declared.parse.Start.TheVariants as start
 use Rattle.jiter_steps.specs.Blank.{past_blanks}
 use Rattle.jiter_steps.proofs.Grammar.Blanks.{past_blanks-above}
 use Rattle.jiter_steps.specs.Step.{colon, step, container_comma, container_step}
-use Rattle.jiter_steps.specs.declared.parse.Shape.{Shape}
-use Rattle.jiter_steps.specs.declared.parse.Shape.TheVariants as shape
+use Rattle.jiter_steps.specs.declared.parse.ContainerKind.{ContainerKind}
+use Rattle.jiter_steps.specs.declared.parse.ContainerKind.TheVariants as shape
 use Rattle.jiter_steps.specs.StringReading.{string_at, whole}
 use Rattle.jiter_steps.specs.Tree.{Text}
 use Rattle.jiter.specs.Reader.{gave, scalar_reply, colon_reply, key_reply}
@@ -27,7 +27,7 @@ pub number-bytes : (names : Bool) (t : List ℕ) (i e : ℕ) → number_extent n
 unfolding number_at
 number-bytes names t i e h = ap (λ x. scalar_reply i (seen_as (λ n e. slice_range t i e) (with_value t i x))) h
 
--- a key and the colon that stands at j, behind the blanks that follow it
+-- a key and the colon that stands at j, after the blanks that follow it
 pub key-colon : (t : List ℕ) (i e j : ℕ) (key : Text) → string_at whole t i ≡ taken key e → j ≡ past_blanks t e
     → slice_get t j ≡ Some 58 → key_reply t i (string_at whole t i) ≡ gave (Some key) (j + 1)
 key-colon t i e j key read place byte =
@@ -52,12 +52,12 @@ number-starts names t i e some within h =
     let text = subst (IsNumberText names) (slice-first t i e some within) (number_extent-sound t names i e h) in
     number-start (slice_index t i) (number-begins names (slice_index t i) (slice_range t (i + 1) e) text)
 
-at-comma : (b : Shape) (t : List ℕ) (i : ℕ) → container_step b t i (Some 44) ≡ step t (container_comma b) (i + 1)
+at-comma : (b : ContainerKind) (t : List ℕ) (i : ℕ) → container_step b t i (Some 44) ≡ step t (container_comma b) (i + 1)
 at-comma shape.Array t i = refl
 at-comma shape.Object t i = refl
 
--- where a comma stands the step goes on behind it
-pub comma-step : (b : Shape) (t : List ℕ) (i : ℕ) → i < length t → slice_index t i ≡ 44
+-- where a comma stands the step goes on after it
+pub comma-step : (b : ContainerKind) (t : List ℕ) (i : ℕ) → i < length t → slice_index t i ≡ 44
     → step t (container_step b t) i ≡ step t (container_comma b) (i + 1)
 comma-step b t i lt byte =
     let place : past_blanks t i ≡ i = past_blanks-above t i lt (omega (arith, byte)) in

@@ -23,7 +23,7 @@ use Rattle.jiter.specs.declared.errors.JiterError.{JiterError}
 abbrev pub IsInside : ReaderState → Type 0
 IsInside s = s.position < length s.text
 
--- ends within the text and not behind a place
+-- ends within the text and not after a place
 pub scalar-within : {A : Type 0} (t : List ℕ) (i : ℕ) (x : Scanned A) → ScalarWithin t i x → Within t x
 scalar-within t i (taken a e) w = w.1
 scalar-within t i (failed k j) w = w.1

@@ -5,5 +5,5 @@ mod NumberBytes
 mod Containers
 mod WholeValues
 mod APerson
-mod Texts
+mod StringStorage
 mod Lending

@@ -16,8 +16,8 @@ use Rattle.jiter_steps.specs.Read.{Reading, done, fault}
 use Rattle.jiter_steps.specs.Step.{Step, more, closed, stuck, step, closer_of, container_first, container_step, colon}
 use Rattle.jiter_steps.specs.StringReading.{Form, whole, raw, string_at, between}
 use Rattle.jiter_steps.specs.Tree.{Text}
-use Rattle.jiter_steps.specs.declared.parse.Shape.{Shape}
-use Rattle.jiter_steps.specs.declared.parse.Shape.TheVariants as shape
+use Rattle.jiter_steps.specs.declared.parse.ContainerKind.{ContainerKind}
+use Rattle.jiter_steps.specs.declared.parse.ContainerKind.TheVariants as shape
 use Rattle.jiter_steps.proofs.Grammar.Blanks.{blank-to_end, past_blanks-after}
 use Rattle.jiter_steps.proofs.Grammar.RowSteps.{PartAt, delimits}
 use Rattle.jiter_steps.proofs.Grammar.ScalarLaws.{EndsNumber}
@@ -33,7 +33,7 @@ use Rattle.jiter.specs.Parts.{StandsNext}
 use Rattle.jiter.specs.Reader.{ReaderState, Reply, gave, refused, with_position, value_place, if_byte, next}
 use Rattle.jiter.specs.Reader.{value_reply, skip_read, array_read, item_step, object_read, key_step}
 use Rattle.jiter.specs.Reader.{part_reply, member_reply, key_reply, colon_reply, finish, end_reply}
-use Rattle.jiter.proofs.Members.{colon-taken, place-behind, place-there, skip-spelled}
+use Rattle.jiter.proofs.Members.{colon-taken, place-after, place-there, skip-spelled}
 
 pub gave-refused : {A : Type 0} {a : A} {i : ℕ} {c : Cause} {x stop : ℕ} → gave a i ≡ refused c x stop → ⊥
 gave-refused h = absurd (cc)
@@ -54,7 +54,7 @@ moves-on s0 s1 s2 a b =
       within = omega (arith, b.within, ap length text);
     }
 
--- this node comes next, and behind it no number goes on
+-- this node comes next, and after it no number goes on
 pub record ComesNext (s : ReaderState) (n : Node) : Type 0 where
   pub stands : StandsNext s n
   pub quiet : EndsNumber s.text (end n)
@@ -63,7 +63,7 @@ pub record ComesNext (s : ReaderState) (n : Node) : Type 0 where
 pub document-next : (s : ReaderState) (n : Node) → IsDocument s.names s.text n → s.position ≡ 0 → ComesNext s n
 document-next s n d start = record {
   stands = record {
-    place = ap (past_blanks s.text) start ∙ place-behind s.names s.text n d.spelled 0 d.before;
+    place = ap (past_blanks s.text) start ∙ place-after s.names s.text n d.spelled 0 d.before;
     spelled = d.spelled;
     limit = d.limit;
   };
@@ -89,14 +89,14 @@ module _ (s : ReaderState) (n : Node) (h : ComesNext s n) where
 -- a part from i to e: what is told of it, and its value, which comes next then
 pub record MeetsPart {K : Type 0} (s : ReaderState) (told : ℕ → Reply (Option K)) (k : K) (n : Node) (i e : ℕ)
     : Type 0 where
-  pub behind : ℕ
-  pub is : told i ≡ gave (Some k) behind
-  pub comes : ComesNext (with_position s behind) n
+  pub after : ℕ
+  pub is : told i ≡ gave (Some k) after
+  pub comes : ComesNext (with_position s after) n
   pub ends : end n ≡ e
 
 -- Items and members alike.
-module _ {P : Type 0} (b : Shape) (IsPart : Bool → List ℕ → ℕ → P → ℕ → Type 0) where
-  -- behind a part these are left, up to e
+module _ {P : Type 0} (b : ContainerKind) (IsPart : Bool → List ℕ → ℕ → P → ℕ → Type 0) where
+  -- after a part these are left, up to e
   abbrev pub PartsLeft : ReaderState → List P → ℕ → Type 0
   PartsLeft s ps e =
       MoreParts s.text (closer_of b) (PartAt b s.text) (IsPart s.names s.text) ps s.position e
@@ -146,9 +146,9 @@ module _ {P : Type 0} (b : Shape) (IsPart : Bool → List ℕ → ℕ → P → 
           → x ≡ more h.begin → TellsOf s (p ∷ ps) e (part_reply told x)
       part-told p ps i e x h is =
           let m = meets h.begin p h.end h.is in
-          (m.behind, ap (part_reply told) is ∙ m.is, m.comes, subst (Rest ps e) (sym m.ends) h.rest)
+          (m.after, ap (part_reply told) is ∙ m.is, m.comes, subst (Rest ps e) (sym m.ends) h.rest)
 
-      -- Behind the bracket.
+      -- After the bracket.
       pub first-tells : (ps : List P) (i e : ℕ)
           → Parts s.text (closer_of b) (PartAt b s.text) (IsPart s.names s.text) ps i e
           → TellsOf s ps e (part_reply told (step s.text (container_first b) i))
@@ -156,7 +156,7 @@ module _ {P : Type 0} (b : Shape) (IsPart : Bool → List ℕ → ℕ → P → 
       first-tells (p ∷ ps) i e h =
           part-told p ps i e _ h ((delimits s.text b).first-more i h.begin h.blanks h.begins)
 
-      -- Behind a part.
+      -- After a part.
       pub next-tells : (ps : List P) (e : ℕ) → PartsLeft s ps e
           → TellsOf s ps e (part_reply told (step s.text (container_step b s.text) s.position))
       next-tells [] e h = ap (part_reply told) ((delimits s.text b).next-closed s.position e h)
@@ -168,7 +168,7 @@ module _ {P : Type 0} (b : Shape) (IsPart : Bool → List ℕ → ℕ → P → 
 abbrev pub AnItem : Bool → List ℕ → ℕ → Node → ℕ → Type 0
 AnItem names t = IsItem names t nesting_limit
 
--- behind an item these are left, up to e
+-- after an item these are left, up to e
 abbrev pub ItemsLeft : ReaderState → List Node → ℕ → Type 0
 ItemsLeft = PartsLeft shape.Array AnItem
 
@@ -191,7 +191,7 @@ module _ (s : ReaderState) where
   item-meets : (i : ℕ) (n : Node) (e : ℕ) → AnItem s.names s.text i n e
       → MeetsPart s (λ j. gave (Some (slice_index s.text j)) j) (first_byte s.text n) n i e
   item-meets i n e h = record {
-    behind = i;
+    after = i;
     is = ap (λ j. gave (Some (slice_index s.text j)) i) (sym h.begins);
     comes = comes-there n i h.spelled h.limit (subst (EndsNumber s.text) (sym h.ends) h.quiet)
         (place-there s.names s.text n h.spelled i h.begins);
@@ -206,7 +206,7 @@ module _ (s : ReaderState) where
       (first-tells shape.Array AnItem (first_byte s.text) (λ n. n) s _ item-meets (nodes_list ns) (b + 1) e
       (items-parts s.names s.text nesting_limit ns (b + 1) e h.spelled.1 h.limit))
 
-  -- Behind an item: the next one, or the array's end.
+  -- After an item: the next one, or the array's end.
   pub item-tells : (ns : List Node) (e : ℕ) → ItemsLeft s ns e → ItemTold s ns e (item_step s)
   item-tells = next-tells shape.Array AnItem (first_byte s.text) (λ n. n) s _ item-meets
 
@@ -214,7 +214,7 @@ module _ (s : ReaderState) where
 abbrev pub AMember : Bool → List ℕ → ℕ → Key × Node → ℕ → Type 0
 AMember names t = IsMember names t nesting_limit
 
--- behind a member these are left, up to e
+-- after a member these are left, up to e
 abbrev pub MembersLeft : ReaderState → NodeMembers → ℕ → Type 0
 MembersLeft s ms e = PartsLeft shape.Object AMember s (members_list ms) e
 
@@ -251,13 +251,13 @@ module _ (f : Form) (view : Key → Text) (s : ReaderState) (sees : SeesKeys f v
   member-meets i m e h =
       let value = h.value in
       record {
-        behind = h.key.colon;
+        after = h.key.colon;
         is = ap (λ j. key_reply s.text j (string_at f s.text j)) (sym h.begins)
             ∙ ap (key_reply s.text m.0.begin) (sees m.0 (begin m.1) h.key)
             ∙ ap (colon_reply (view m.0)) (colon-taken s.text m.0 (begin m.1) h.key);
         comes = comes-there s m.1 h.key.colon value.spelled value.limit
             (subst (EndsNumber s.text) (sym value.ends) value.quiet)
-            (place-behind s.names s.text m.1 value.spelled h.key.colon h.key.blanks);
+            (place-after s.names s.text m.1 value.spelled h.key.colon h.key.blanks);
         ends = value.ends;
       }
 
@@ -269,7 +269,7 @@ module _ (f : Form) (view : Key → Text) (s : ReaderState) (sees : SeesKeys f v
       (first-tells shape.Object AMember (key_of view) node_of s _ member-meets (members_list ms) (b + 1) e
       (members-parts s.names s.text nesting_limit ms (b + 1) e h.spelled.1 h.limit))
 
-  -- Behind a member: the next key, or the object's end.
+  -- After a member: the next key, or the object's end.
   pub key-tells : (ms : NodeMembers) (e : ℕ) → MembersLeft s ms e → KeyTold view s ms e (key_step f s)
   key-tells ms = next-tells shape.Object AMember (key_of view) node_of s _ member-meets (members_list ms)
 
@@ -291,33 +291,33 @@ abbrev pub IsNoObject : Node → Type 0
 IsNoObject (object b e ms) = ⊥
 IsNoObject n = Unit {0}
 
--- Behind the document's value nothing is left.
+-- After the document's value nothing is left.
 pub finish-ends : (s : ReaderState) → IsBlank s.text s.position (length s.text) → finish s ≡ gave tt (length s.text)
 finish-ends s h =
     ap (λ i. end_reply i (slice_get s.text i)) (blank-to_end s.text s.position h)
     ∙ ap (end_reply (length s.text)) (slice_get_past s.text (length s.text) (omega arith))
 
--- Behind a call for the next key the reader has moved on.
+-- After a call for the next key the reader has moved on.
 module _ (f : Form) (t : List ℕ) (o : Option Text) (i : ℕ) where
-  colon-behind : (j : ℕ) (k : Text) (x : Extent) → ExtentAhead t j 1 x → colon_reply k x ≡ gave o i → j < i
-  colon-behind j k (taken u e) h is = omega (arith, h.0, (gave-is _ _ e i is).1)
-  colon-behind j k (failed c e) h is = absurd (gave-refused (sym is))
+  colon-after : (j : ℕ) (k : Text) (x : Extent) → ExtentAhead t j 1 x → colon_reply k x ≡ gave o i → j < i
+  colon-after j k (taken u e) h is = omega (arith, h.0, (gave-is _ _ e i is).1)
+  colon-after j k (failed c e) h is = absurd (gave-refused (sym is))
 
-  key-behind : (j : ℕ) (x : Scanned Text) → ScalarWithin t j x → key_reply t j x ≡ gave o i → j < i
-  key-behind j (taken k e) h is = omega (arith, h.0, colon-behind e k (step t colon e) (colon-ahead t e h.1) is)
-  key-behind j (failed c e) h is = absurd (gave-refused (sym is))
+  key-after : (j : ℕ) (x : Scanned Text) → ScalarWithin t j x → key_reply t j x ≡ gave o i → j < i
+  key-after j (taken k e) h is = omega (arith, h.0, colon-after e k (step t colon e) (colon-ahead t e h.1) is)
+  key-after j (failed c e) h is = absurd (gave-refused (sym is))
 
-  step-behind : (j : ℕ) (x : Step) → Ahead t j x → member_reply f t x ≡ gave o i → j < i
-  step-behind j (more k) h is = omega (arith, h.0, key-behind k (string_at f t k) (string_at-within f t k h.1) is)
-  step-behind j (closed e) h is = omega (arith, h.0, (gave-is _ _ e i is).1)
-  step-behind j (stuck c e) h is = absurd (gave-refused (sym is))
+  step-after : (j : ℕ) (x : Step) → Ahead t j x → member_reply f t x ≡ gave o i → j < i
+  step-after j (more k) h is = omega (arith, h.0, key-after k (string_at f t k) (string_at-within f t k h.1) is)
+  step-after j (closed e) h is = omega (arith, h.0, (gave-is _ _ e i is).1)
+  step-after j (stuck c e) h is = absurd (gave-refused (sym is))
 
 pub key-ahead : (f : Form) (s : ReaderState) (o : Option Text) (i : ℕ) → s.position ≤ length s.text
     → key_step f s ≡ gave o i → s.position < i
 key-ahead f s o i within is =
-    step-behind f s.text o i s.position _ (container_step-ahead s.text shape.Object s.position within) is
+    step-after f s.text o i s.position _ (container_step-ahead s.text shape.Object s.position within) is
 
--- Behind a skip too.
+-- After a skip too.
 pub skip-ahead : (s : ReaderState) (e : ℕ) → next s (skip_read s) ≡ gave tt e → s.position < e
 skip-ahead s e is = by (slice_get s.text (value_place s)) refl is where
   passed : (x : Reading (Unit {0})) → Within s.text (value_place s) x → value_reply x ≡ gave tt e → s.position < e

@@ -1,12 +1,12 @@
 -- The words that the contracts of public calls speak, from one place: who lists `jiter` imports them from here.
--- A constructor goes behind its type, as `Node.object`, `Tree.array`, `Kind.trailing_comma` or `ValueType.int`.
+-- A constructor goes after its type, as `Node.object`, `Tree.array`, `Kind.trailing_comma` or `ValueType.int`.
 --
 -- What a text spells, and what it stands for.
 pub use Rattle.jiter_scan.specs.Number.{Number, IsNumberText, is_integral, number_value}
 pub use Rattle.jiter_steps.specs.Blank.{IsBlank, past_blanks}
 pub use Rattle.jiter_steps.specs.Node.{Node, Nodes, NodeMembers, Key, IsDocument, IsContainer, IsCutContainer, Spells}
 pub use Rattle.jiter_steps.specs.Node.{SpellsItems, SpellsMoreItems, SpellsMembers, SpellsMoreMembers, SpellsKey}
-pub use Rattle.jiter_steps.specs.Node.{SpellsNumber, StandsBehind, begin, end, nesting, nesting_limit, text_at}
+pub use Rattle.jiter_steps.specs.Node.{SpellsNumber, StandsAfter, begin, end, nesting, nesting_limit, text_at}
 pub use Rattle.jiter_steps.specs.Node.{number_tree, value_of, values_of, members_of}
 pub use Rattle.jiter_steps.specs.Tree.{Tree, Text, Items, Members, items_of}
 -- What a cut leaves of it, and what goes on where another stopped.
@@ -51,7 +51,7 @@ pub use Rattle.jiter_value.specs.Value.{Answers, MayGrow, MayGrowAt}
 pub use Rattle.jiter.specs.Cause.{Cause, ValueType, is_memory_cause, json_error, wrong_type}
 pub use Rattle.jiter.specs.Client.{OwnedMayGrowAt}
 pub use Rattle.jiter.specs.Errors.{cause_of, type_of}
-pub use Rattle.jiter.specs.Fronts.{FrontsGrow, IsCleanCut, OneThenOther, ParsesFront}
+pub use Rattle.jiter.specs.Prefixes.{PrefixesGrow, IsCleanCut, OneThenOther, ParsesPrefix}
 pub use Rattle.jiter.specs.Jiter.{BeginsAt, EndsWithColon, IndexWithin, IsMemory, IsRefusalOf, MovesOn}
 pub use Rattle.jiter.specs.Jiter.{RefusesBytes, Replies, StandsAt, StandsBefore, TellsHere, UnlessMemory}
 pub use Rattle.jiter.specs.Jiter.{WhereMemory, at_start, byte_of, key_bytes, reply_seen, text_bytes}

@@ -108,6 +108,6 @@ pub record BeginsAs (s : ReaderState) (b : Start) : Type 0 where
   pub is : b ≡ start_of (slice_index s.text s.position)
 
 -- the first so many bytes of a tape, if there is one
-abbrev pub front : Option (Vec ℕ Global) → ℕ → List ℕ
-front None n = []
-front (Some tape) n = take n tape.items
+abbrev pub prefix : Option (Vec ℕ Global) → ℕ → List ℕ
+prefix None n = []
+prefix (Some tape) n = take n tape.items

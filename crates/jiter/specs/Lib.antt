@@ -2,7 +2,7 @@ pub mod Caller
 pub mod Cause
 pub mod Client
 pub mod Errors
-pub mod Fronts
+pub mod Prefixes
 pub mod Jiter
 pub mod Lending
 pub mod Parts

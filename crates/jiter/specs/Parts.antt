@@ -8,7 +8,7 @@ use Rattle.jiter.specs.Cause.{Cause}
 use Rattle.jiter.specs.Reader.{ReaderState, refused, value_place, with_position, next, array_read, item_step}
 use Rattle.jiter.specs.Reader.{object_read, key_step, skip_read, peek}
 
--- this node comes next, behind blanks
+-- this node comes next, after blanks
 pub record StandsNext (s : ReaderState) (n : Node) : Type 0 where
   pub place : value_place s ≡ begin n
   pub spelled : Spells s.names s.text n
@@ -42,7 +42,7 @@ last_named t name found no_members = found
 last_named t name found (member k n ms) =
     last_named t name (if bytes_eq (text_at t k.pieces k.begin k.end).bytes name then Some n else found) ms
 
--- where a reader is led, to a part if there is one, else behind the container, which ends at e
+-- where a reader is led, to a part if there is one, else after the container, which ends at e
 abbrev pub LedTo : Option Node → ℕ → Bool → ℕ → Type 0
 LedTo None e found i = (found ≡ Bool.false) × (i ≡ e)
 LedTo (Some n) e found i = (found ≡ Bool.true) × (i ≡ begin n)
@@ -57,7 +57,7 @@ pub data Refuses (s : ReaderState) (c : Cause) (x stop : ℕ) : Type 0 where
   at_skip : next s (skip_read s) ≡ refused c x stop → Refuses s c x stop
 
 -- the call that refused, at a place of the bytes that lies no further back
-pub record RefusedBehind (s : ReaderState) (c : Cause) (x stop : ℕ) : Type 0 where
+pub record RefusedAfter (s : ReaderState) (c : Cause) (x stop : ℕ) : Type 0 where
   pub place : ℕ
   pub forward : s.position ≤ place
   pub within : place ≤ length s.text

@@ -123,7 +123,7 @@ abbrev pub number_read : ReaderState → ℕ → Start → Reply Number
 number_read s i start.Number = scalar_reply i (number_at s.names s.text i)
 number_read s i b = refused_as s i int b
 
--- an integer at i; a float that shows behind it is another type, whatever follows
+-- an integer at i; a float that shows after it is another type, whatever follows
 abbrev pub integer_reply : ℕ → Scanned Integer → Reply Number
 integer_reply i (taken (int_seen n) e) = gave n e
 integer_reply i (taken float_seen j) = refused (wrong_type int float) i i
@@ -181,7 +181,7 @@ abbrev pub array_read : ReaderState → ℕ → Start → Reply (Option ℕ)
 array_read s i start.Array = item_reply s.text (step s.text array_first (i + 1))
 array_read s i b = refused_as s i array b
 
--- The call array_step: behind an item, the next one.
+-- The call array_step: after an item, the next one.
 abbrev pub item_step : ReaderState → Reply (Option ℕ)
 item_step s = item_reply s.text (step s.text (array_step s.text) s.position)
 
@@ -204,7 +204,7 @@ abbrev pub object_read : Form → ReaderState → ℕ → Start → Reply (Optio
 object_read f s i start.Object = member_reply f s.text (step s.text object_first (i + 1))
 object_read f s i b = refused_as s i object b
 
--- The calls next_key and next_key_bytes: behind a member, the next key.
+-- The calls next_key and next_key_bytes: after a member, the next key.
 abbrev pub key_step : Form → ReaderState → Reply (Option Text)
 key_step f s = member_reply f s.text (step s.text (object_step s.text) s.position)
 

@@ -22,19 +22,19 @@ use crate::errors::{JiterError, JiterErrorType, JiterResult};
 use crate::jiter::Jiter;
 use crate::peek::Peek;
 use jiter_scan::memory::{copy_text, push};
-use jiter_scan::{JsonErrorType, NumberAny, NumberInt, Refused};
+use jiter_scan::{AllocFailed, JsonErrorType, NumberAny, NumberInt};
 use jiter_steps::parse::{Literal, NESTING_LIMIT, Start, start_of};
 use jiter_value::JsonValue;
 use std::alloc::Global;
 use std::borrow::CowStr;
 
-mod fronts;
+mod prefixes;
 
-pub use fronts::{a_longer_front_extends_a_shorter, two_prefixes};
+pub use prefixes::{a_longer_prefix_extends_a_shorter, two_prefixes};
 
 // `refused` is the evidence that an allocation failed. Without it nothing can report this error.
 #[cold]
-fn out_of_memory(refused: Refused, jiter: &Jiter<'_>) -> JiterError
+fn out_of_memory(refused: AllocFailed, jiter: &Jiter<'_>) -> JiterError
     ensures { refusal_view result
         ≡ record { cause = json_error out_of_memory; index = jiter.now.position } }
 {
@@ -42,7 +42,7 @@ fn out_of_memory(refused: Refused, jiter: &Jiter<'_>) -> JiterError
     jiter.out_of_memory()
 }
 
-fn number_value(alloc: Global, number: NumberAny<'_>) -> Result<JsonValue<'static>, Refused>
+fn number_value(alloc: Global, number: NumberAny<'_>) -> Result<JsonValue<'static>, AllocFailed>
     ensures value { IfOk result (λ v. view v ≡ owned_tree (number_tree (number_view number.entry))) }
     ensures memory { OnErr result (HoldsBorrowedTextOrPart (number_tree (number_view number.entry))) }
 {
@@ -132,7 +132,7 @@ fn build_array(
 }
 
 // The key is borrowed from the reader, which goes on to the value. So the key is copied.
-fn copy_key(alloc: Global, key: Option<&str>) -> Result<Option<CowStr<'static>>, Refused>
+fn copy_key(alloc: Global, key: Option<&str>) -> Result<Option<CowStr<'static>>, AllocFailed>
     ensures value { IfOk result (λ copy. option_map text_view copy
         ≡ option_map (λ x. own_text x.now) key.entry) }
     ensures memory { OnErr result (IsSome key.entry) }

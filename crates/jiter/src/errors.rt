@@ -8,7 +8,7 @@ ghost use Rattle.jiter.specs.Errors.{type_of, cause_of};
 use crate::jiter::Jiter;
 use jiter_scan::errors::{kind_text, push_position};
 use jiter_scan::memory::{copy_text, push_text};
-use jiter_scan::{JsonError, JsonErrorType, LinePosition, Refused};
+use jiter_scan::{AllocFailed, JsonError, JsonErrorType, LinePosition};
 use std::alloc::{AllocError, Global};
 use std::error::Error;
 use std::fmt;
@@ -74,7 +74,7 @@ pub enum JiterErrorType {
 }
 
 impl JiterErrorType {
-    fn describe(&self, alloc: Global) -> Result<String, Refused>
+    fn describe(&self, alloc: Global) -> Result<String, AllocFailed>
         ensures { IfOk result (λ text. string_bytes text ≡ cause_text (cause_of self.now)) }
     {
         match self {
@@ -177,7 +177,7 @@ impl JiterError {
         Ok(self.describe(alloc, jiter)?)
     }
 
-    fn describe(&self, alloc: Global, jiter: &Jiter<'_>) -> Result<String, Refused>
+    fn describe(&self, alloc: Global, jiter: &Jiter<'_>) -> Result<String, AllocFailed>
         ensures { IfOk result (λ text. string_bytes text
             ≡ error_description (cause_of self.now.error_type) self.now.index jiter.now.text) }
     {

@@ -54,7 +54,7 @@ module _ (X : Type 0) {A : Type 0} (r : Reply A) (i : ℕ) (e : JiterError) (aft
     by (refused c x stop) (cause, index, at) =
         (refl, told ∙ ap (λ d. fault_of d e.index) cause ∙ ap (fault_of c) index)
 
--- Behind a peek the step by its byte is the step into what comes next.
+-- After a peek the step by its byte is the step into what comes next.
 module _ (s : ReaderState) where
   -- what begins so at i, where the reader stands at p then
   into-array : (p i : ℕ) (b : Start) → (b ≡ Start.Object → ⊥)

@@ -1,4 +1,4 @@
--- Where a reader of C's stands behind a refused scalar, and behind a peek.
+-- Where a reader of C's stands after a refused scalar, and after a peek.
 use Rattle.std.proofs.Common.{◌≡◌, ◌≢◌, ◌∙◌, ◌≤◌, ℕ, Bool, true, false, length, min, sym, ap, subst, arith}
 use Rattle.std.specs.Prelude.{Result, Ok, Err, OnOk}
 use Rattle.std.proofs.lemmas.Bool.{false≢true}
@@ -60,22 +60,22 @@ peeks-again r s i m place at =
           (min-within i (length r.bytes.now) (omega (arith, at, m.within)) ∙ at ∙ place)
 
 -- What is told of a call that may run out of memory: what it gave, or why it was refused.
-module _ {A : Type 0} (reply : Reply A) (given : Bool) (old new : JiterReader) (before after : JiterFault) where
+module _ {A : Type 0} (reply : Reply A) (given : Bool) (old new : JiterReader) (before later : JiterFault) where
   pub told-gave : (a : A) (e : ℕ) → reply ≡ gave a e → given ≡ true → new ≡ record old { index = e }
-      → after ≡ before → UnlessMemory given after (Tells reply given old new before after)
+      → later ≡ before → UnlessMemory given later (Tells reply given old new before later)
   told-gave a e is told place same =
-      subst (λ g. UnlessMemory g after (Tells reply g old new before after)) (sym told)
+      subst (λ g. UnlessMemory g later (Tells reply g old new before later)) (sym told)
       (record {
         told = ap is_given (sym is);
         place = place ∙ ap (left_by old) (sym is);
         fault = same ∙ ap (fault_or before) (sym is);
       })
 
-  pub told-refused : (c : Cause) (x stop : ℕ) → (after.kind ≢ memory_number → reply ≡ refused c x stop)
-      → given ≡ false → new ≡ record old { index = stop } → after ≡ fault_of c x
-      → UnlessMemory given after (Tells reply given old new before after)
+  pub told-refused : (c : Cause) (x stop : ℕ) → (later.kind ≢ memory_number → reply ≡ refused c x stop)
+      → given ≡ false → new ≡ record old { index = stop } → later ≡ fault_of c x
+      → UnlessMemory given later (Tells reply given old new before later)
   told-refused c x stop h told place same =
-      subst (λ g. UnlessMemory g after (Tells reply g old new before after)) (sym told)
+      subst (λ g. UnlessMemory g later (Tells reply g old new before later)) (sym told)
       (λ bytes. let is = h bytes in record {
         told = ap is_given (sym is);
         place = place ∙ ap (left_by old) (sym is);

@@ -11,14 +11,14 @@ use Rattle.jiter_steps.specs.Node.{Key, Node, Nodes, NodeMembers, IsContainer, b
 use Rattle.jiter_steps.specs.Node as grammar
 use Rattle.jiter_steps.specs.StringReading.{raw, whole}
 use Rattle.jiter_steps.specs.Tree.{Text}
-use Rattle.jiter_steps.specs.declared.parse.Shape.{Shape}
-use Rattle.jiter_steps.specs.declared.parse.Shape.TheVariants as shape
+use Rattle.jiter_steps.specs.declared.parse.ContainerKind.{ContainerKind}
+use Rattle.jiter_steps.specs.declared.parse.ContainerKind.TheVariants as shape
 use Rattle.jiter_steps.specs.declared.parse.Start.TheVariants as start
 use Rattle.jiter_steps.proofs.Grammar.Sound.{object-byte}
 use Rattle.jiter_steps.proofs.Grammar.SpelledParts.{begins-value, members_list, nodes_list, start_is}
 use Rattle.jiter.specs.Cause.{Cause}
 use Rattle.jiter.specs.Jiter.{IsMemory, MovesOn, UnlessMemory, WhereMemory, key_bytes, reply_seen}
-use Rattle.jiter.specs.Parts.{LedTo, RefusedBehind, Refuses, StandsNext, count_items, count_members, count_parts}
+use Rattle.jiter.specs.Parts.{LedTo, RefusedAfter, Refuses, StandsNext, count_items, count_members, count_parts}
 use Rattle.jiter.specs.Parts.{last_named, numbered}
 use Rattle.jiter.specs.Reader.{ReaderState, Reply, array_read, gave, if_byte, item_step, key_step, next}
 use Rattle.jiter.specs.Reader.{object_read, peek, refused, skip_read, value_place, with_position}
@@ -37,10 +37,10 @@ use Rattle.jiter_c.specs.Replies.{has_part}
 pub stays : (s s1 : ReaderState) → MovesOn s s1 → MovesOn s s
 stays s s1 m = record { same = refl; forward = omega arith; within = omega (arith, m.forward, m.within) }
 
--- A call refused behind others.
-pub refused-behind : (s0 s s1 : ReaderState) (c : Cause) (x : ℕ) → MovesOn s0 s → MovesOn s s1
-    → Refuses s c x s1.position → RefusedBehind s0 c x s1.position
-refused-behind s0 s s1 c x m n h = record {
+-- A call refused after others.
+pub refused-after : (s0 s s1 : ReaderState) (c : Cause) (x : ℕ) → MovesOn s0 s → MovesOn s s1
+    → Refuses s c x s1.position → RefusedAfter s0 c x s1.position
+refused-after s0 s s1 c x m n h = record {
   place = s.position;
   forward = m.forward;
   within = m.within;
@@ -104,7 +104,7 @@ module _ (s : ReaderState) (n : Node) (h : StandsNext s n) where
       let same = gave-is peeked.0 c (begin n) i (sym peeked.1 ∙ is) in
       (ap start_of (sym same.0) ∙ peeked.2, sym same.1)
 
--- Behind a peek the same node comes next.
+-- After a peek the same node comes next.
 pub stands-peeked : (s s1 : ReaderState) (n : Node) → MovesOn s s1 → s1.position ≡ value_place s → StandsNext s n
     → StandsNext s1 n
 stands-peeked s s1 n m place h =
@@ -113,16 +113,16 @@ stands-peeked s s1 n m place h =
     (record { place = past_blanks-again s.text s.position ∙ h.place; spelled = h.spelled; limit = h.limit })
 
 -- ---- the parts that are left
--- Behind the value of a part.
-pub behind-value : {P : Type 0} (b : Shape) (IsPart : Bool → List ℕ → ℕ → P → ℕ → Type 0) (s s1 : ReaderState) (n : Node)
+-- After the value of a part.
+pub after-value : {P : Type 0} (b : ContainerKind) (IsPart : Bool → List ℕ → ℕ → P → ℕ → Type 0) (s s1 : ReaderState) (n : Node)
     (ps : List P) (e : ℕ) → ComesNext s n → PartsLeft b IsPart (with_position s (end n)) ps e → MovesOn s s1
     → next s (skip_read s) ≡ gave tt s1.position → PartsLeft b IsPart s1 ps e
-behind-value b IsPart s s1 n ps e comes left m passed =
+after-value b IsPart s s1 n ps e comes left m passed =
     let there : end n ≡ s1.position = (gave-is _ _ _ _ (sym (skip-passes s n comes) ∙ passed)).1 in
     let is : with_position s (end n) ≡ s1 = ap (with_position s) there ∙ sym m.same in
     subst (λ (v : ReaderState). PartsLeft b IsPart v ps e) is left
 
-module _ {P : Type 0} (b : Shape) (IsPart : Bool → List ℕ → ℕ → P → ℕ → Type 0) (value : P → Node) where
+module _ {P : Type 0} (b : ContainerKind) (IsPart : Bool → List ℕ → ℕ → P → ℕ → Type 0) (value : P → Node) where
   -- whether a part comes next; these are left, up to e
   abbrev pub Left : ReaderState → List P → ℕ → Bool → Type 0
   Left s [] e false = s.position ≡ e
@@ -233,7 +233,7 @@ module _ (s s1 : ReaderState) (c : ℕ) (told : peek s ≡ gave c s1.position) (
     first-remains s2 more m2 given (grammar.number b e) h w = absurd w
     first-remains s2 more m2 given (grammar.string ps b e) h w = absurd w
 
--- Behind a part.
+-- After a part.
 module _ (s : ReaderState) where
   -- its value is passed
   pub skip-not_refused : (object : Bool) (k : ℕ) → Remaining object s true k → (c : Cause) (x stop : ℕ)
@@ -256,13 +256,13 @@ module _ (s : ReaderState) where
       by (NodeMembers.member key v ms) (comes, left) =
           told-not_refused shape.Object AMember node_of (key_of (raw_key s1.text)) s1 (members_list ms) e _ c x stop
           (key-tells raw (raw_key s1.text) s1 (sees-raw s1.text) ms e
-          (behind-value shape.Object AMember s s1 v (members_list ms) e comes left m passed)) is
+          (after-value shape.Object AMember s s1 v (members_list ms) e comes left m passed)) is
     next-not_refused false k (ns, e, left, counted) c x stop is = by ns left where
       by : (ns : Nodes) → LeftOfArray s ns e true → ⊥
       by Nodes.no_nodes none = none
       by (Nodes.node v ns) (comes, left) =
           told-not_refused shape.Array AnItem (λ n. n) (first_byte s1.text) s1 (nodes_list ns) e _ c x stop
-          (item-tells s1 (nodes_list ns) e (behind-value shape.Array AnItem s s1 v (nodes_list ns) e comes left m passed)) is
+          (item-tells s1 (nodes_list ns) e (after-value shape.Array AnItem s s1 v (nodes_list ns) e comes left m passed)) is
 
     next-remains : (object : Bool) (k : ℕ) → Remaining object s true k → (s2 : ReaderState) (more : Bool)
         → MovesOn s1 s2 → next_part object s1 ≡ gave more s2.position → (j : ℕ) × Remaining object s2 more j × (suc j ≡ k)
@@ -272,7 +272,7 @@ module _ (s : ReaderState) where
       by NodeMembers.no_members none counted = absurd none
       by (NodeMembers.member key v ms) (comes, left) counted =
           let told = key-tells raw (raw_key s1.text) s1 (sees-raw s1.text) ms e
-          (behind-value shape.Object AMember s s1 v (members_list ms) e comes left m passed) in (
+          (after-value shape.Object AMember s s1 v (members_list ms) e comes left m passed) in (
             count_members ms,
             (
               ms,
@@ -289,7 +289,7 @@ module _ (s : ReaderState) where
       by Nodes.no_nodes none counted = absurd none
       by (Nodes.node v ns) (comes, left) counted =
           let told = item-tells s1 (nodes_list ns) e
-          (behind-value shape.Array AnItem s s1 v (nodes_list ns) e comes left m passed) in (
+          (after-value shape.Array AnItem s s1 v (nodes_list ns) e comes left m passed) in (
             count_items ns,
             (
               ns,
@@ -300,7 +300,7 @@ module _ (s : ReaderState) where
             counted,
           )
 
--- Behind the last part none is left.
+-- After the last part none is left.
 remains-none : (object : Bool) (s : ReaderState) (k : ℕ) → Remaining object s false k → k ≡ 0
 remains-none true s k (ms, e, left, counted) = by ms left counted where
   by : (ms : NodeMembers) → LeftOfObject s ms e false → count_members ms ≡ k → k ≡ 0
@@ -427,7 +427,7 @@ module _ (s0 s : ReaderState) (number before : ℕ) (h : ItemsTo s0 s true numbe
         rest = ns;
         left = told-left shape.Array AnItem (λ n. n) (first_byte s1.text) s1 s2 (nodes_list ns) e _ (has_part o) m2
             (item-tells s1 (nodes_list ns) e
-            (behind-value shape.Array AnItem s s1 v (nodes_list ns) e comes left m passed))
+            (after-value shape.Array AnItem s s1 v (nodes_list ns) e comes left m passed))
             (ap (reply_seen has_part) given);
         led = ap (λ i. numbered i (Nodes.node v ns)) (sym is) ∙ led;
       }
@@ -578,7 +578,7 @@ module _ (s0 s : ReaderState) (name : List ℕ) (same : Bool) (place : Option �
     key-told b e ms is =
         let a = on b e ms is in
         key-tells whole (whole_key s0.text) s1 (sees-same s0 s1 (moves-on s0 s s1 h.moves m)) a.rest e
-        (behind-value shape.Object AMember s s1 a.value (members_list a.rest) e a.comes a.left m passed)
+        (after-value shape.Object AMember s s1 a.value (members_list a.rest) e a.comes a.left m passed)
 
     pub next_key-not_refused : (b e : ℕ) (ms : NodeMembers) → StandsNext s0 (grammar.object b e ms) → (c : Cause)
         (x stop : ℕ) → key_step whole s1 ≡ refused c x stop → ⊥
@@ -613,7 +613,7 @@ module _ (s0 s : ReaderState) (name : List ℕ) (same : Bool) (place : Option �
         let last = moves-on s0 s s2 h.moves (moves-on s s1 s2 m m2) in
         omega (arith, ahead, m2.forward, last.within)
 
--- Behind the last member.
+-- After the last member.
 pub members-end : (s0 s : ReaderState) (name : List ℕ) (place : Option ℕ) → MembersTo s0 s name None place → (b e : ℕ)
     (ms : NodeMembers) → StandsNext s0 (grammar.object b e ms)
     → (place ≡ option_map begin (last_named s0.text name None ms)) × (s.position ≡ e)

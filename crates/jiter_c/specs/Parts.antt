@@ -3,7 +3,7 @@ use Rattle.std.specs.Prelude.{◌≡◌, ℕ, Bool, true, false, Result, Ok, Err
 use Rattle.jiter.specs.Cause.{Cause}
 use Rattle.jiter.specs.Errors.{cause_of}
 use Rattle.jiter.specs.Jiter.{reply_seen}
-use Rattle.jiter.specs.Parts.{RefusedBehind}
+use Rattle.jiter.specs.Parts.{RefusedAfter}
 use Rattle.jiter.specs.Reader.{ReaderState, Reply, array_read, gave, item_step, key_step, next, object_read, refused}
 use Rattle.jiter.specs.declared.errors.JiterError.{JiterError}
 use Rattle.jiter_steps.specs.StringReading.{raw}
@@ -17,7 +17,7 @@ abbrev pub first_part : Bool → ReaderState → Reply Bool
 first_part true s = reply_seen has_part (next s (object_read raw s))
 first_part false s = reply_seen has_part (next s (array_read s))
 
--- whether behind a member another one follows, or else behind an item
+-- whether after a member another one follows, or else after an item
 abbrev pub next_part : Bool → ReaderState → Reply Bool
 next_part true s = reply_seen has_part (key_step raw s)
 next_part false s = reply_seen has_part (item_step s)
@@ -43,10 +43,10 @@ RefusedSo (refused c x stop) (Err e) i = (cause_of e.error_type ≡ c) × (e.ind
 pub record TellsRefusal (s : ReaderState) (i : ℕ) (f : JiterFault) : Type 0 where
   pub cause : Cause
   pub index : ℕ
-  pub refused : RefusedBehind s cause index i
+  pub refused : RefusedAfter s cause index i
   pub fault : f ≡ fault_of cause index
 
 -- What a go tells that left the reader at i: nothing, or why one of its calls refused.
 abbrev pub TellsGo : ReaderState → Bool → ℕ → JiterFault → JiterFault → Type 0
-TellsGo s true i before after = after ≡ before
-TellsGo s false i before after = TellsRefusal s i after
+TellsGo s true i before later = later ≡ before
+TellsGo s false i before later = TellsRefusal s i later

@@ -25,11 +25,11 @@ abbrev pub left_by : {A : Type 0} → JiterReader → Reply A → JiterReader
 left_by r reply = record r { index = position_after reply }
 
 -- A call told C this reply.
-pub record Tells {A : Type 0} (reply : Reply A) (given : Bool) (old new : JiterReader) (before after : JiterFault)
+pub record Tells {A : Type 0} (reply : Reply A) (given : Bool) (old new : JiterReader) (before later : JiterFault)
     : Type 0 where
   pub told : given ≡ is_given reply
   pub place : new ≡ left_by old reply
-  pub fault : after ≡ fault_or before reply
+  pub fault : later ≡ fault_or before reply
 
 -- unless memory was refused, P
 abbrev pub UnlessMemory : Bool → JiterFault → Type 0 → Type 0
@@ -41,6 +41,6 @@ abbrev pub WhereMemory : Bool → JiterFault → Type 0 → Type 0
 WhereMemory true f P = Unit {0}
 WhereMemory false f P = f.kind ≡ memory_number → P
 
--- A text in a caller's memory: as far as it fits, and what stood behind it before.
+-- A text in a caller's memory: as far as it fits, and what stood after it before.
 abbrev pub written : List ℕ → List ℕ → List ℕ
 written text out = take (length out) text ++ drop (length text) out

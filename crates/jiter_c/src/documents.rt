@@ -11,7 +11,7 @@ ghost use Rattle.jiter_c.specs.Faults.{fault_of};
 ghost use Rattle.jiter_c.specs.Told.{UnlessMemory, WhereMemory, written};
 
 use crate::faults::{JiterFault, kind_number};
-use crate::texts::write_front;
+use crate::texts::write_prefix;
 use jiter::{JsonError, JsonErrorType, JsonValue, PartialMode};
 use jiter_print::print;
 use std::alloc::Global;
@@ -111,7 +111,7 @@ pub extern "C" fn jiter_print(
     match &JsonValue::parse_with_config(alloc, bytes, allow_inf_nan, mode_numbered(mode)) {
         Ok(value) => match print(alloc, value) {
             Ok(text) => {
-                *whole = write_front(out, text.as_slice());
+                *whole = write_prefix(out, text.as_slice());
                 true
             }
             Err(_) => {

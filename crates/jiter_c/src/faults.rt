@@ -6,7 +6,7 @@ ghost use Rattle.jiter_scan.specs.Position.{position_of};
 ghost use Rattle.jiter_c.specs.Faults.{Describes, TellsOf, fault_of, kind_number, position_view, type_number};
 ghost use Rattle.jiter_c.specs.Told.{written};
 
-use crate::texts::write_front;
+use crate::texts::write_prefix;
 use jiter::{Jiter, JiterError, JiterErrorType, JsonErrorType, JsonType, LinePosition};
 use std::alloc::Global;
 
@@ -188,7 +188,7 @@ pub extern "C" fn jiter_describe(
     };
     match error.description(alloc, &Jiter::new(bytes)) {
         Ok(text) => {
-            *whole = write_front(out, text.as_bytes());
+            *whole = write_prefix(out, text.as_bytes());
             true
         }
         Err(_) => false,

@@ -8,7 +8,7 @@ ghost use Rattle.jiter_c.specs.Told.{Tells, UnlessMemory, WhereMemory, given_or,
 
 use crate::faults::{JiterFault, fault_of};
 use crate::reader::{JiterReader, jiter_at};
-use crate::texts::{JiterText, write_front};
+use crate::texts::{JiterText, write_prefix};
 use std::alloc::Global;
 
 /// Steps into the next object and writes its first key, decoded, to `out`.
@@ -48,7 +48,7 @@ pub extern "C" fn jiter_next_object(
     let given = match jiter.next_object(alloc) {
         Ok(key) => {
             *more = key.is_some();
-            *count = write_front(out, key.unwrap_or("").as_bytes());
+            *count = write_prefix(out, key.unwrap_or("").as_bytes());
             true
         }
         Err(error) => {
@@ -97,7 +97,7 @@ pub extern "C" fn jiter_next_key(
     let given = match jiter.next_key(alloc) {
         Ok(key) => {
             *more = key.is_some();
-            *count = write_front(out, key.unwrap_or("").as_bytes());
+            *count = write_prefix(out, key.unwrap_or("").as_bytes());
             true
         }
         Err(error) => {

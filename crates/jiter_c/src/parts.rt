@@ -4,7 +4,7 @@ ghost use Rattle.std.specs.Str.{bytes_eq};
 ghost use Rattle.jiter.specs.Errors.{cause_of};
 ghost use Rattle.jiter.specs.Jiter.{MovesOn, key_bytes, reply_seen};
 ghost use Rattle.jiter.specs.Jiter.{UnlessMemory as UnlessRefused, WhereMemory as WhereRefused};
-ghost use Rattle.jiter.specs.Parts.{LedTo, RefusedBehind, StandsNext, count_parts, last_named, numbered};
+ghost use Rattle.jiter.specs.Parts.{LedTo, RefusedAfter, StandsNext, count_parts, last_named, numbered};
 ghost use Rattle.jiter.specs.Reader.{next, object_read, skip_read, value_place};
 ghost use Rattle.jiter.specs.Reads.{Reads, never};
 ghost use Rattle.jiter_steps.specs.Node.{IsContainer, Node, NodeMembers, Nodes, begin};
@@ -44,7 +44,7 @@ fn count_parts(reader: &JiterReader<'_>) -> JiterResult<u64>
     ensures counts { (n : Node) → StandsNext (state_of reader.now) n → IsContainer n
         → MatchResult result (λ count. count ≡ count_parts n) (λ _. ⊥) }
     ensures refusal { IfErr result (λ e. (stop : ℕ)
-        × RefusedBehind (state_of reader.now) (cause_of e.error_type) e.index stop) }
+        × RefusedAfter (state_of reader.now) (cause_of e.error_type) e.index stop) }
     ensures into { (stop : ℕ) × RefusedSo (next_reply reader.now into_read) result stop }
 {
     let mut jiter = jiter_at(reader);
@@ -100,7 +100,7 @@ fn find_item(jiter: &mut Jiter<'_>, number: u64) -> JiterResult<bool>
     ensures led { (b e : ℕ) → (ns : Nodes) → StandsNext jiter.old (Node.array b e ns)
         → MatchResult result (λ found. LedTo (numbered number ns) e found jiter.new.position) (λ _. ⊥) }
     ensures refusal { IfErr result
-        (λ e. RefusedBehind jiter.old (cause_of e.error_type) e.index jiter.new.position) }
+        (λ e. RefusedAfter jiter.old (cause_of e.error_type) e.index jiter.new.position) }
     ensures into { RefusedSo (first_part false jiter.old) result jiter.new.position }
 {
     let mut before = number;
@@ -183,7 +183,7 @@ fn last_member(alloc: Global, jiter: &mut Jiter<'_>, name: &[u8]) -> JiterResult
         (place ≡ option_map begin (last_named jiter.old.text name.now None ms))
         × (jiter.new.position ≡ e)) (λ _. ⊥)) }
     ensures refusal { UnlessRefused result (IfErr result
-        (λ e. RefusedBehind jiter.old (cause_of e.error_type) e.index jiter.new.position)) }
+        (λ e. RefusedAfter jiter.old (cause_of e.error_type) e.index jiter.new.position)) }
     ensures into { UnlessRefused result (RefusedSo
         (reply_seen key_bytes (next jiter.old (object_read whole jiter.old))) result jiter.new.position) }
     ensures memory { WhereRefused result (λ e. WantsMemory jiter.old.text e.index) }

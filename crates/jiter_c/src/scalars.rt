@@ -8,7 +8,7 @@ ghost use Rattle.jiter_c.specs.Told.{Tells, UnlessMemory, WhereMemory, given_or,
 
 use crate::faults::{JiterFault, fault_of};
 use crate::reader::{JiterReader, jiter_at, tell};
-use crate::texts::{JiterText, write_front};
+use crate::texts::{JiterText, write_prefix};
 use jiter::NumberInt;
 use std::alloc::Global;
 
@@ -210,7 +210,7 @@ pub extern "C" fn jiter_next_str(
     let mut jiter = jiter_at(reader);
     let given = match jiter.next_str(alloc) {
         Ok(text) => {
-            *whole = write_front(out, text.as_bytes());
+            *whole = write_prefix(out, text.as_bytes());
             true
         }
         Err(error) => {

@@ -11,11 +11,11 @@ use Rattle.jiter_scan.specs.Kind.{Kind, is_forgiven, eof_object, eof_value}
 use Rattle.jiter_scan.specs.PartialMode.{is_active}
 use Rattle.jiter_scan.specs.NumberReading.{extent_then}
 use Rattle.jiter_steps.specs.Frames.{items_frame, members_frame, resume, parts_from, array_in, object_in, parts_step}
-use Rattle.jiter_steps.specs.Read.{Reading, Rules, done, fault, follow, front_answer, whole_answer, to_end}
+use Rattle.jiter_steps.specs.Read.{Reading, Rules, done, fault, follow, prefix_answer, whole_answer, to_end}
 use Rattle.jiter_steps.specs.Step.{Step, container_step, stuck, step, end_kind_of, colon, value_first}
 use Rattle.jiter_steps.specs.Tree.{Text, Tree, array, object, items_of, members_of}
-use Rattle.jiter_steps.specs.declared.parse.Shape.{Shape}
-use Rattle.jiter_steps.specs.declared.parse.Shape.TheVariants as shape
+use Rattle.jiter_steps.specs.declared.parse.ContainerKind.{ContainerKind}
+use Rattle.jiter_steps.specs.declared.parse.ContainerKind.TheVariants as shape
 use Rattle.jiter_steps.proofs.Calls.Resumed.{if_forgiven-yes, if_forgiven-no, resume-fault, resume-forgiven}
 use Rattle.jiter_steps.proofs.Cut.Halting.{end-forgiven}
 use Rattle.jiter_steps.proofs.Grammar.Blanks.{past_blanks-end}
@@ -27,8 +27,8 @@ use Rattle.jiter_value.specs.Owned.{owned_tree}
 use Rattle.jiter_value.specs.Settings.{answer_as, rules_as, answer_by}
 use Rattle.jiter_incremental.specs.Spine.{OpenFrame, begun, around, filled, StandsFor}
 use Rattle.jiter_value.specs.Stacks.{PartTree, built}
-use Rattle.jiter_incremental.specs.declared.open_value.Awaits.{Awaits}
-use Rattle.jiter_incremental.specs.declared.open_value.Awaits.TheVariants as awaits
+use Rattle.jiter_incremental.specs.declared.partial_value.Awaits.{Awaits}
+use Rattle.jiter_incremental.specs.declared.partial_value.Awaits.TheVariants as awaits
 use Rattle.jiter_value.specs.declared.settings.Settings.{Settings}
 use Rattle.jiter_value.specs.declared.value.JsonValue.{JsonValue}
 use Rattle.jiter_value.proofs.MadeTexts.{answer_as-is}
@@ -40,7 +40,7 @@ step-past t row j h =
 
 -- At a place where a comma and the closer are missing, each open container is closed in a partial mode;
 abbrev pub Sticks : List ℕ → ℕ → Type 0
-Sticks t j = (h : Shape) → (k : Kind) × (step t (container_step h t) j ≡ stuck k j) × (is_forgiven k ≡ true)
+Sticks t j = (h : ContainerKind) → (k : Kind) × (step t (container_step h t) j ≡ stuck k j) × (is_forgiven k ≡ true)
 
 -- at the end of the text too.
 pub sticks-past : (t : List ℕ) (j : ℕ) → length t ≤ j → Sticks t j
@@ -111,14 +111,14 @@ module _ (p : Settings) (t : List ℕ) (on : is_active p.mode ≡ true) (j : ℕ
   }
 
   -- and where another part is awaited, too
-  part-stuck : (a : Awaits) (h : Shape)
+  part-stuck : (a : Awaits) (h : ContainerKind)
       → (k : Kind) × (step t (part_row r t a h) j ≡ stuck k j) × (is_forgiven k ≡ true)
   part-stuck awaits.Next h = (eof_value, step-past t (part_row r t awaits.Next h) j past, refl)
   part-stuck awaits.First h =
       (end_kind_of h, step-past t (part_row r t awaits.First h) j past, end-forgiven _ (end_kind-early h))
   part-stuck a h = (end_kind_of h, step-past t (part_row r t a h) j past, end-forgiven _ (end_kind-early h))
 
-  built-closes : (a : Awaits) (h : Shape) (xs : List (PartTree h)) (fs : List OpenFrame)
+  built-closes : (a : Awaits) (h : ContainerKind) (xs : List (PartTree h)) (fs : List OpenFrame)
       → leads_on r t (between_parts a h xs fs) j ≡ done (filled fs (built h xs)) j
   built-closes a shape.Array xs fs =
       let c = array_in r t (length fs) in
@@ -150,21 +150,21 @@ shown-stands a spine root k (between_parts b shape xs fs) v h is =
     inr (record { frames = fs; innermost = built shape xs; apart = h.2; whole = sym (same_Some _ _ is) })
 shown-stands a spine root k (at_end w n) v h is = inl (h.1, h.2 ∙ same_Some _ _ is)
 
--- What a front leads to is, where the text ends in a partial mode, the value so far.
+-- What a prefix leads to is, where the text ends in a partial mode, the value so far.
 pub led-answers : (p : Settings) (t : List ℕ) (s : Arrived) (v : Tree) → is_active p.mode ≡ true
-    → front_answer (rules_as owned p) t ≡ leads_on (rules_as owned p) t s (length t) → shown s ≡ Some v
+    → prefix_answer (rules_as owned p) t ≡ leads_on (rules_as owned p) t s (length t) → shown s ≡ Some v
     → (e : ℕ) × (answer_as owned p t ≡ done v e)
 led-answers p t s v on led h =
     let end = shown-read p t on (length t) (omega arith) s v h in
     let r = rules_as owned p in
-    (end.0, if-true (is_active p.mode) (front_answer r t) (whole_answer r t) on ∙ led ∙ end.1)
+    (end.0, if-true (is_active p.mode) (prefix_answer r t) (whole_answer r t) on ∙ led ∙ end.1)
 
 -- what was read so far, and nothing comes
 read-led : (p : Settings) (t : List ℕ) (s : Arrived) → HasRead p t s
-    → front_answer (rules_as owned p) t ≡ leads_on (rules_as owned p) t s (length t)
+    → prefix_answer (rules_as owned p) t ≡ leads_on (rules_as owned p) t s (length t)
 read-led p t s read =
     let r = rules_as owned p in
-    subst (λ w. front_answer r w ≡ leads_on r w s (length t)) (append-nil t) (read.goes [])
+    subst (λ w. prefix_answer r w ≡ leads_on r w s (length t)) (append-nil t) (read.goes [])
 
 -- What was read so far, where the text ends in a partial mode, answers the value so far.
 pub shown-answers : (p : Settings) (t : List ℕ) (s : Arrived) (v : Tree) → is_active p.mode ≡ true → HasRead p t s
@@ -193,7 +193,7 @@ module _ (p : Settings) (t : List ℕ) (off : is_active p.mode ≡ false) where
       ap (λ y. resume strict t fs (value_then strict t (length fs) y)) is
       ∙ resume-fault strict t fs k end end (not-forgiven k)
 
-  parts-end : (a : Awaits) (h : Shape) (xs : List (PartTree h)) (fs : List OpenFrame) (k : Kind)
+  parts-end : (a : Awaits) (h : ContainerKind) (xs : List (PartTree h)) (fs : List OpenFrame) (k : Kind)
       → part_row strict t a h end None ≡ stuck k end
       → leads_on strict t (between_parts a h xs fs) end ≡ fault k end end
   parts-end a h xs fs k is =
@@ -217,11 +217,11 @@ module _ (p : Settings) (t : List ℕ) (off : is_active p.mode ≡ false) where
       parts-end a shape xs fs k (ap (λ k. stuck k end) (same_Some _ _ h))
   leads-end (at_end v n) k h = absurd (none-some k h)
 
-  -- an answer with partial reading off is the front's, to the end
-  pub off-answers : answer_as owned p t ≡ to_end t (front_answer strict t)
-  off-answers = if-false (is_active p.mode) (front_answer strict t) (whole_answer strict t) off ∙ whole-is strict t
+  -- an answer with partial reading off is the prefix's, to the end
+  pub off-answers : answer_as owned p t ≡ to_end t (prefix_answer strict t)
+  off-answers = if-false (is_active p.mode) (prefix_answer strict t) (whole_answer strict t) off ∙ whole-is strict t
 
-  pub led-end : (s : Arrived) (k : Kind) → front_answer strict t ≡ leads_on strict t s end → end_of s ≡ Some k
+  pub led-end : (s : Arrived) (k : Kind) → prefix_answer strict t ≡ leads_on strict t s end → end_of s ≡ Some k
       → answer_as owned p t ≡ fault k end end
   led-end s k led h = off-answers ∙ ap (to_end t) (led ∙ leads-end s k h)
 

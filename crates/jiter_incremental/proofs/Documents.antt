@@ -4,7 +4,7 @@ pub mod Bytes
 pub mod Ends
 pub mod Names
 pub mod Strings
-pub mod Texts
+pub mod StringStorage
 pub mod Tokens
 use Rattle.std.proofs.Common.{◌≡◌, ℕ, ◌+◌, ◌-◌, ◌<◌, ◌≤◌, true, false, List, [], ◌∷◌, ◌++◌, length, get_or}
 use Rattle.std.proofs.Common.{refl, sym, subst, ap, ◌∙◌, arith, append_assoc, inl, inr, length-append}
@@ -14,7 +14,7 @@ use Rattle.std.proofs.lemmas.List.{append-nil}
 use Rattle.std.proofs.lemmas.Option.{none-some, slice_get-get_or, get_or_from_slice_get}
 use Rattle.jiter_scan.proofs.Choices.{if_case, if-false}
 use Rattle.jiter_scan.specs.Kind.{Kind, fault_kind, trailing_characters}
-use Rattle.jiter_scan.specs.OpenNumber.{HoldsNumber}
+use Rattle.jiter_scan.specs.PartialNumber.{HoldsNumber}
 use Rattle.jiter_scan.specs.PartialMode.{is_active}
 use Rattle.jiter_scan.specs.declared.errors.Fault.{Fault}
 use Rattle.jiter_scan.specs.declared.errors.FaultKind.{FaultKind}
@@ -23,34 +23,34 @@ use Rattle.jiter_steps.proofs.Grammar.Blanks.{past_blanks-blank, past_blanks-oth
 use Rattle.jiter_steps.proofs.Reading.WholeTexts.{whole-is}
 use Rattle.jiter_steps.specs.Blank.{is_blank, past_blanks}
 use Rattle.jiter_steps.specs.Frames.{items_frame, members_frame, value_from, value_in}
-use Rattle.jiter_steps.specs.Read.{done, fault, front_answer, if_last, to_end, whole_answer}
+use Rattle.jiter_steps.specs.Read.{done, fault, prefix_answer, if_last, to_end, whole_answer}
 use Rattle.jiter_steps.specs.Tree.{Tree}
-use Rattle.jiter_steps.specs.OpenString.{HasTaken}
-use Rattle.jiter_steps.specs.declared.parse.Shape.{Shape}
+use Rattle.jiter_steps.specs.PartialString.{HasTaken}
+use Rattle.jiter_steps.specs.declared.parse.ContainerKind.{ContainerKind}
 use Rattle.jiter_incremental.specs.Arrived.{Arrived, at_value, between_parts, at_end, owned, HasRead, IsBeforeValue, IsBetweenParts}
-use Rattle.jiter_incremental.specs.OpenDocument.{EndsRight, Follows, HasTakenIn, IsAnswered, IsEnded, IsFaulty, IsReadAs, IsReading, IsRefused, Known}
-use Rattle.jiter_incremental.specs.OpenDocument.{Next, Comes, Opened, ReadsAt, between_tokens, in_scalar, noted_in, opened_to}
-use Rattle.jiter_incremental.specs.OpenDocument.{BeginsAs, HasArrived, HoldsWord, IsAllowed, IsOver}
-use Rattle.jiter_incremental.specs.OpenDocument.{BeginsHere, Holding, in_key, HoldsScalar, StandsAt, anything, strictly, with_byte, with_first}
-use Rattle.jiter_incremental.specs.OpenValue.{BeginsItem, BeginsValue, Goes, IsEnding, ClosesBefore, ClosesOver}
-use Rattle.jiter_incremental.specs.OpenValue.{BeginsScalar, EndsHere, Everywhere, IsLeft, TakesByte, behind_value, completed, passed}
+use Rattle.jiter_incremental.specs.PartialDocument.{EndsRight, Follows, HasTakenIn, IsAnswered, IsEnded, IsFaulty, IsReadAs, IsReading, IsRefused, Known}
+use Rattle.jiter_incremental.specs.PartialDocument.{Next, Comes, Opened, ReadsAt, between_tokens, in_scalar, noted_in, opened_to}
+use Rattle.jiter_incremental.specs.PartialDocument.{BeginsAs, HasArrived, HoldsWord, IsAllowed, IsOver}
+use Rattle.jiter_incremental.specs.PartialDocument.{BeginsHere, Holding, in_key, HoldsScalar, StandsAt, anything, strictly, with_byte, with_first}
+use Rattle.jiter_incremental.specs.PartialValue.{BeginsItem, BeginsValue, Goes, IsEnding, ClosesBefore, ClosesOver}
+use Rattle.jiter_incremental.specs.PartialValue.{BeginsScalar, EndsHere, Everywhere, IsLeft, TakesByte, after_value, completed, passed}
 use Rattle.jiter_incremental.specs.Names.{name_start}
 use Rattle.jiter_value.specs.Settings.{answer_as, rules_as}
 use Rattle.jiter_incremental.specs.Spine.{HasRoomInside, OpenFrame}
 use Rattle.jiter_value.specs.Stacks.{PartTree}
-use Rattle.jiter_incremental.specs.declared.open_document.OpenDocument.{OpenDocument}
-use Rattle.jiter_incremental.specs.declared.open_document.Token.{Token}
-use Rattle.jiter_incremental.specs.declared.open_document.Token.TheVariants as token
-use Rattle.jiter_incremental.specs.declared.open_value.Awaits.{Awaits}
-use Rattle.jiter_incremental.specs.declared.open_value.Awaits.TheVariants as awaits
-use Rattle.jiter_incremental.specs.declared.open_value.OpenValue.{OpenValue}
-use Rattle.jiter_incremental.specs.declared.open_value.Went.{Went}
-use Rattle.jiter_incremental.specs.declared.open_value.Went.TheVariants as went
+use Rattle.jiter_incremental.specs.declared.partial_document.PartialDocument.{PartialDocument}
+use Rattle.jiter_incremental.specs.declared.partial_document.Token.{Token}
+use Rattle.jiter_incremental.specs.declared.partial_document.Token.TheVariants as token
+use Rattle.jiter_incremental.specs.declared.partial_value.Awaits.{Awaits}
+use Rattle.jiter_incremental.specs.declared.partial_value.Awaits.TheVariants as awaits
+use Rattle.jiter_incremental.specs.declared.partial_value.PartialValue.{PartialValue}
+use Rattle.jiter_incremental.specs.declared.partial_value.Went.{Went}
+use Rattle.jiter_incremental.specs.declared.partial_value.Went.TheVariants as went
 use Rattle.jiter_value.specs.declared.settings.Settings.{Settings}
 
--- A fault of the front is the text's answer.
+-- A fault of the prefix is the text's answer.
 pub fault-answers : (p : Settings) (t : List ℕ) (k : Kind) (i stop : ℕ)
-    → front_answer (rules_as owned p) t ≡ fault k i stop → answer_as owned p t ≡ fault k i stop
+    → prefix_answer (rules_as owned p) t ≡ fault k i stop → answer_as owned p t ≡ fault k i stop
 fault-answers p t k i stop h =
     let r = rules_as owned p in
     if_case (λ x. x ≡ fault k i stop) (is_active p.mode) _ _ (λ on. h) (λ off. whole-is r t ∙ ap (to_end t) h)
@@ -64,7 +64,7 @@ noted-some (Some f) k i h = none-some f (sym h)
 noted-some None k i h = none-some _ (sym h)
 
 module _ (p : Settings) (n m : Next) (t w : List ℕ) (o o' : Opened) (follows : Follows n w m) where
-  -- What is read of t is read of the bytes w behind it too, if these bring what is open so far.
+  -- What is read of t is read of the bytes w after it too, if these bring what is open so far.
   pub reads-on : (x : Option Fault) → ((u : List ℕ) → Comes n u → ReadsAt p t u x o)
       → (x ≡ None → (u : List ℕ) → Comes m u
       → opened_to p ((t ++ w) ++ u) o (length t) ≡ opened_to p ((t ++ w) ++ u) o' (length (t ++ w)))
@@ -72,7 +72,7 @@ module _ (p : Settings) (n m : Next) (t w : List ℕ) (o o' : Opened) (follows :
   reads-on (Some f) read goes u comes =
       subst (λ v. IsAnswered p v (fault_kind f.kind) f.index) (sym (append_assoc t w u)) (read (w ++ u) (follows u comes))
   reads-on None read goes u comes =
-      subst (λ v. front_answer (rules_as owned p) v ≡ opened_to p v o (length t)) (sym (append_assoc t w u))
+      subst (λ v. prefix_answer (rules_as owned p) v ≡ opened_to p v o (length t)) (sym (append_assoc t w u))
       (read (w ++ u) (follows u comes))
       ∙ goes refl u comes
 
@@ -85,7 +85,7 @@ module _ (p : Settings) (n m : Next) (t w : List ℕ) (o o' : Opened) (follows :
   reads-fault None k i read goes u comes = goes refl u comes
 
 -- What is known of one document is known of another with these settings and faults.
-pub known-as : (m : Next) (d new : OpenDocument) (t : List ℕ) (o : Opened) → new.settings ≡ d.settings
+pub known-as : (m : Next) (d new : PartialDocument) (t : List ℕ) (o : Opened) → new.settings ≡ d.settings
     → new.fault ≡ d.fault → new.first ≡ d.first → Known m d t o → Known m new t o
 known-as m d new t o settings unset noted k = record {
   mode = λ u comes.
@@ -99,7 +99,7 @@ known-as m d new t o settings unset noted k = record {
   same = λ off none. noted ∙ k.same (ap (λ (p : Settings). is_active p.mode) (sym settings) ∙ off) (sym unset ∙ none);
 }
 
-module _ (n m : Next) (d : OpenDocument) (t w : List ℕ) (o o' : Opened) (k : Known n d t o) (follows : Follows n w m)
+module _ (n m : Next) (d : PartialDocument) (t w : List ℕ) (o o' : Opened) (k : Known n d t o) (follows : Follows n w m)
   where
     -- The bytes w bring what is open so far.
     pub known-on :
@@ -166,14 +166,14 @@ abbrev pub left_open : Opened
 left_open = between_tokens (at_value awaits.Value [])
 
 -- The bytes w are refused where each text of them answers that;
-pub ended : (n m : Next) (d : OpenDocument) (t w : List ℕ) (o : Opened) (kind : FaultKind) (i : ℕ) → d.fault ≡ None
+pub ended : (n m : Next) (d : PartialDocument) (t w : List ℕ) (o : Opened) (kind : FaultKind) (i : ℕ) → d.fault ≡ None
     → Known n d t o → Follows n w m → IsEnded d m (t ++ w) (fault_kind kind) i
     → (f : Fault) (first : Option Fault) → f ≡ record { kind = kind; index = i } → first ≡ noted_in d.first f.kind f.index
     → HasTakenIn m (record d { fault = Some f; first = first }) (t ++ w)
 ended n m d t w o kind i unset k follows fails = known-refused n m d t w o left_open k follows kind i unset fails
 
 -- also where it is the fault of what was read so far.
-pub refuses : (n m : Next) (d : OpenDocument) (t w : List ℕ) (o : Opened) (kind : FaultKind) (i : ℕ) → d.fault ≡ None
+pub refuses : (n m : Next) (d : PartialDocument) (t w : List ℕ) (o : Opened) (kind : FaultKind) (i : ℕ) → d.fault ≡ None
     → Known n d t o → Follows n w m → IsRefused d m (t ++ w) (fault_kind kind) i
     → (f : Fault) (first : Option Fault) → f ≡ record { kind = kind; index = i } → first ≡ noted_in d.first f.kind f.index
     → HasTakenIn m (record d { fault = Some f; first = first }) (t ++ w)
@@ -181,38 +181,38 @@ refuses n m d t w o kind i unset k follows fails =
     ended n m d t w o kind i unset k follows
     (λ p u reading comes. faulty-answers p ((t ++ w) ++ u) (fault_kind kind) i (fails p u reading comes))
 
--- Behind a value nothing but what stands there is missing.
-ends-behind : (t : List ℕ) (x : Tree) (fs : List OpenFrame) → EndsRight t (between_tokens (behind_value x fs))
-ends-behind t x [] = (omega arith, λ u. let same : length t - 0 ≡ length t = omega arith in ap (past_blanks (t ++ u)) same)
-ends-behind t x (items_frame xs ∷ fs) = tt
-ends-behind t x (members_frame ms k ∷ fs) = tt
+-- After a value nothing but what stands there is missing.
+ends-after : (t : List ℕ) (x : Tree) (fs : List OpenFrame) → EndsRight t (between_tokens (after_value x fs))
+ends-after t x [] = (omega arith, λ u. let same : length t - 0 ≡ length t = omega arith in ap (past_blanks (t ++ u)) same)
+ends-after t x (items_frame xs ∷ fs) = tt
+ends-after t x (members_frame ms k ∷ fs) = tt
 
--- A scalar that is read as this value is put behind what stands before it.
-pub puts : (n m : Next) (d : OpenDocument) (v : OpenValue) (x : Tree) (t w : List ℕ) (fs : List OpenFrame) (b : ℕ)
-    → Known n d t (in_scalar fs b) → Follows n w m → IsLeft v (behind_value x fs)
+-- A scalar that is read as this value is put after what stands before it.
+pub puts : (n m : Next) (d : PartialDocument) (v : PartialValue) (x : Tree) (t w : List ℕ) (fs : List OpenFrame) (b : ℕ)
+    → Known n d t (in_scalar fs b) → Follows n w m → IsLeft v (after_value x fs)
     → ((p : Settings) (u : List ℕ) (j e : ℕ) → value_in (rules_as owned p) u (length fs) j ≡ done x e
-    → value_from (rules_as owned p) u fs j ≡ completed p u (behind_value x fs) e)
+    → value_from (rules_as owned p) u fs j ≡ completed p u (after_value x fs) e)
     → IsReadAs d m (t ++ w) (length fs) b x
     → HasTakenIn m (record d { token = token.Nothing; value = v }) (t ++ w)
 puts n m d v x t w fs b k follows left read reads =
     let new = record d { token = token.Nothing; value = v } in
-    let o' = between_tokens (behind_value x fs) in
+    let o' = between_tokens (after_value x fs) in
     let on : Known m d (t ++ w) o' =
     known-on n m d t w (in_scalar fs b) o' k follows
     (λ p reading u comes. read p ((t ++ w) ++ u) b (length (t ++ w)) (reads p u reading comes))
-    (λ none. ends-behind (t ++ w) x fs) in
+    (λ none. ends-after (t ++ w) x fs) in
     record {
       opened = o';
       known = known-as m d new (t ++ w) o' refl refl refl on;
       held = λ none. (refl, left);
     }
 
--- These bytes follow a byte where any do behind it.
+-- These bytes follow a byte where any do after it.
 pub follows-byte : (c : ℕ) → Follows (with_byte c) (c ∷ []) anything
 follows-byte c u comes = (u, refl)
 
 -- What is known whatever comes is known before a byte.
-pub known-before : (c : ℕ) (d : OpenDocument) (t : List ℕ) (o : Opened) → Known anything d t o
+pub known-before : (c : ℕ) (d : PartialDocument) (t : List ℕ) (o : Opened) → Known anything d t o
     → Known (with_byte c) d t o
 known-before c d t o k = record {
   mode = λ u comes. k.mode u tt;
@@ -235,7 +235,7 @@ one-more : (c : ℕ) (t : List ℕ) → length t + 1 ≡ length (t ++ c ∷ [])
 one-more c t = omega (arith, length-append t (c ∷ []))
 
 -- Where nothing is taken, what is open may be seen otherwise.
-pub known-here : (n : Next) (d : OpenDocument) (t : List ℕ) (o o' : Opened) → Known n d t o
+pub known-here : (n : Next) (d : PartialDocument) (t : List ℕ) (o o' : Opened) → Known n d t o
     → ((p : Settings) → IsReading d p → (u : List ℕ) → Comes n u
     → opened_to p (t ++ u) o (length t) ≡ opened_to p (t ++ u) o' (length t))
     → (d.first ≡ None → EndsRight t o') → Known n d t o'
@@ -250,7 +250,7 @@ known-here n d t o o' k goes ends =
     subst (λ v. Known n d v o') same on
 
 -- What stands open where no token is unfinished
-pub record Between (n : Next) (d : OpenDocument) (t : List ℕ) : Type 0 where
+pub record Between (n : Next) (d : PartialDocument) (t : List ℕ) : Type 0 where
   pub state : Arrived
   pub known : Known n d t (between_tokens state)
   pub left : IsLeft d.value state
@@ -258,37 +258,37 @@ pub record Between (n : Next) (d : OpenDocument) (t : List ℕ) : Type 0 where
 key-nothing : token.Nothing ≡ token.Key → ⊥
 key-nothing h = cc
 
-opened-between : (n : Next) (d : OpenDocument) (t : List ℕ) (o : Opened) → Known n d t o → Holding d t o
+opened-between : (n : Next) (d : PartialDocument) (t : List ℕ) (o : Opened) → Known n d t o → Holding d t o
     → d.token ≡ token.Nothing → Between n d t
 opened-between n d t (between_tokens s) k h none = record { state = s; known = k; left = h.1 }
 opened-between n d t (in_scalar fs b) k h none =
     let never : ⊥ = subst (λ x. HoldsScalar d x h.0) none h.2 in absurd never
 opened-between n d t (in_key fs ms b) k h none = absurd (key-nothing (sym none ∙ h.2))
 
-pub taken-between : (n : Next) (d : OpenDocument) (t : List ℕ) → HasTakenIn n d t → d.fault ≡ None
+pub taken-between : (n : Next) (d : PartialDocument) (t : List ℕ) → HasTakenIn n d t → d.fault ≡ None
     → d.token ≡ token.Nothing → Between n d t
 taken-between n d t h unset none = opened-between n d t h.opened h.known (h.held unset) none
 
 -- What is read of the bytes so far, by settings that still read.
-pub reads-so : (n : Next) (d : OpenDocument) (t : List ℕ) (o : Opened) (p : Settings) → Known n d t o → IsReading d p
-    → (u : List ℕ) → Comes n u → front_answer (rules_as owned p) (t ++ u) ≡ opened_to p (t ++ u) o (length t)
+pub reads-so : (n : Next) (d : PartialDocument) (t : List ℕ) (o : Opened) (p : Settings) → Known n d t o → IsReading d p
+    → (u : List ℕ) → Comes n u → prefix_answer (rules_as owned p) (t ++ u) ≡ opened_to p (t ++ u) o (length t)
 reads-so n d t o p k (inl h) u comes =
     let q = d.settings in
-    let read : front_answer (rules_as owned q) (t ++ u) ≡ opened_to q (t ++ u) o (length t) =
+    let read : prefix_answer (rules_as owned q) (t ++ u) ≡ opened_to q (t ++ u) o (length t) =
     subst (λ x. ReadsAt q t u x o) h.1 (k.mode u comes) in
-    subst (λ q. front_answer (rules_as owned q) (t ++ u) ≡ opened_to q (t ++ u) o (length t)) (sym h.0) read
+    subst (λ q. prefix_answer (rules_as owned q) (t ++ u) ≡ opened_to q (t ++ u) o (length t)) (sym h.0) read
 reads-so n d t o p k (inr h) u comes =
     let q = strictly d.settings in
-    let read : front_answer (rules_as owned q) (t ++ u) ≡ opened_to q (t ++ u) o (length t) =
+    let read : prefix_answer (rules_as owned q) (t ++ u) ≡ opened_to q (t ++ u) o (length t) =
     subst (λ x. ReadsAt q t u x o) h.1 (k.strict u comes) in
-    subst (λ q. front_answer (rules_as owned q) (t ++ u) ≡ opened_to q (t ++ u) o (length t)) (sym h.0) read
+    subst (λ q. prefix_answer (rules_as owned q) (t ++ u) ≡ opened_to q (t ++ u) o (length t)) (sym h.0) read
 
--- the same where w stands behind them
-pub reads-behind : (n m : Next) (d : OpenDocument) (t w : List ℕ) (o : Opened) (p : Settings) → Known n d t o
+-- the same where w stands after them
+pub reads-after : (n m : Next) (d : PartialDocument) (t w : List ℕ) (o : Opened) (p : Settings) → Known n d t o
     → Follows n w m → IsReading d p → (u : List ℕ) → Comes m u
-    → front_answer (rules_as owned p) ((t ++ w) ++ u) ≡ opened_to p ((t ++ w) ++ u) o (length t)
-reads-behind n m d t w o p k follows reading u comes =
-    subst (λ v. front_answer (rules_as owned p) v ≡ opened_to p v o (length t)) (sym (append_assoc t w u))
+    → prefix_answer (rules_as owned p) ((t ++ w) ++ u) ≡ opened_to p ((t ++ w) ++ u) o (length t)
+reads-after n m d t w o p k follows reading u comes =
+    subst (λ v. prefix_answer (rules_as owned p) v ≡ opened_to p v o (length t)) (sym (append_assoc t w u))
     (reads-so n d t o p k reading (w ++ u) (follows u comes))
 
 same-end : (x y : Tree) (n m : ℕ) → at_end x n ≡ at_end y m → n ≡ m
@@ -297,11 +297,11 @@ same-end x y n m h = cc
 value-ends : (a : Awaits) (fs : List OpenFrame) (x : Tree) (n : ℕ) → at_value a fs ≡ at_end x n → ⊥
 value-ends a fs x n h = cc
 
-parts-end : (a : Awaits) (h : Shape) (xs : List (PartTree h)) (fs : List OpenFrame) (x : Tree) (n : ℕ)
+parts-end : (a : Awaits) (h : ContainerKind) (xs : List (PartTree h)) (fs : List OpenFrame) (x : Tree) (n : ℕ)
     → between_parts a h xs fs ≡ at_end x n → ⊥
 parts-end a h xs fs x n is = cc
 
--- A blank more stands behind a whole value.
+-- A blank more stands after a whole value.
 blank-ends : (t : List ℕ) (c : ℕ) (s : Arrived) (x : Tree) (n : ℕ) → is_blank c ≡ true → passed s ≡ at_end x n
     → EndsRight t (between_tokens s) → EndsRight (t ++ c ∷ []) (between_tokens (at_end x n))
 blank-ends t c (at_value a fs) x n blank is h = absurd (value-ends a fs x n is)
@@ -335,7 +335,7 @@ byte-ends t c s (at_value a fs) e h = tt
 byte-ends t c s (between_parts a k xs fs) e h = tt
 
 -- The value takes a byte.
-pub takes-byte : (d : OpenDocument) (v : OpenValue) (c : ℕ) (t : List ℕ) (s : Arrived)
+pub takes-byte : (d : PartialDocument) (v : PartialValue) (c : ℕ) (t : List ℕ) (s : Arrived)
     → Known (with_byte c) d t (between_tokens s) → d.token ≡ token.Nothing → TakesByte v s c
     → HasTakenIn anything (record d { value = v }) (t ++ c ∷ [])
 takes-byte d v c t s k none g =
@@ -355,7 +355,7 @@ takes-byte d v c t s k none g =
     }
 
 -- Inside these containers it begins.
-begins-in : (d : OpenDocument) (v : OpenValue) (c : ℕ) (t : List ℕ) (s : Arrived) (fs : List OpenFrame)
+begins-in : (d : PartialDocument) (v : PartialValue) (c : ℕ) (t : List ℕ) (s : Arrived) (fs : List OpenFrame)
     → Known (with_byte c) d t (between_tokens s) → d.fault ≡ None → d.position ≡ length t
     → IsLeft v (at_value awaits.Value fs) → length fs ≤ 200 → HasRoomInside v.spine.items
     → Everywhere c (λ p u j. completed p u s j ≡ value_from (rules_as owned p) u fs j)
@@ -384,21 +384,21 @@ begins-in d v c t s fs k unset place left low room goes =
     before-here c t u = subst (λ v. slice_get v (length t) ≡ Some c) (append_assoc t (c ∷ []) u) (byte-here c t u)
 
 -- A scalar begins with it,
-pub begins-here : (d : OpenDocument) (v : OpenValue) (c : ℕ) (t : List ℕ) (s : Arrived)
+pub begins-here : (d : PartialDocument) (v : PartialValue) (c : ℕ) (t : List ℕ) (s : Arrived)
     → Known (with_byte c) d t (between_tokens s) → d.fault ≡ None → d.position ≡ length t
     → (g : BeginsScalar v s c) → BeginsHere c (record d { value = v }) t g.frames
 begins-here d v c t s k unset place g =
     begins-in d v c t s g.frames k unset place g.left g.low g.room g.goes
 
 -- or a value that is awaited.
-pub value-here : (d : OpenDocument) (v : OpenValue) (c : ℕ) (t : List ℕ) (s : Arrived)
+pub value-here : (d : PartialDocument) (v : PartialValue) (c : ℕ) (t : List ℕ) (s : Arrived)
     → Known (with_byte c) d t (between_tokens s) → d.fault ≡ None → d.position ≡ length t → BeginsItem c
     → (g : BeginsValue v s) → BeginsHere c (record d { value = v }) t g.frames
 value-here d v c t s k unset place item g =
     begins-in d v c t s g.frames k unset place g.left g.low g.room (g.goes c item)
 
 -- It stands where the value has moved on already.
-pub stands-at : (d : OpenDocument) (v : OpenValue) (c : ℕ) (t : List ℕ) (s : Arrived)
+pub stands-at : (d : PartialDocument) (v : PartialValue) (c : ℕ) (t : List ℕ) (s : Arrived)
     → Known (with_byte c) d t (between_tokens s) → d.token ≡ token.Nothing → d.fault ≡ None → d.position ≡ length t
     → StandsAt c (record d { value = v }) t s
 stands-at d v c t s k none unset place = record {
@@ -409,23 +409,23 @@ stands-at d v c t s k none unset place = record {
 }
 
 -- It is wrong there: the document is refused.
-pub wrong-refused : (d : OpenDocument) (v : OpenValue) (c : ℕ) (t : List ℕ) (s : Arrived) (kind : FaultKind)
+pub wrong-refused : (d : PartialDocument) (v : PartialValue) (c : ℕ) (t : List ℕ) (s : Arrived) (kind : FaultKind)
     → StandsAt c d t s → Everywhere c (λ p u j. completed p u s j ≡ fault (fault_kind kind) j j)
     → IsRefused d anything (t ++ c ∷ []) (fault_kind kind) d.position
 wrong-refused d v c t s kind at wrong p u reading comes =
     let w = (t ++ c ∷ []) ++ u in
     let j = length t in
-    let read = reads-behind (with_byte c) anything d t (c ∷ []) (between_tokens s) p at.known (follows-byte c) reading u comes in
+    let read = reads-after (with_byte c) anything d t (c ∷ []) (between_tokens s) p at.known (follows-byte c) reading u comes in
     (j, read ∙ wrong p w j (byte-here c t u) ∙ ap (λ i. fault (fault_kind kind) i j) (sym at.position))
 
 -- By strict settings each of a document's readings is strict, where its mode is off.
-reading-strict : (d : OpenDocument) (p : Settings) → is_active d.settings.mode ≡ false → IsReading d p
+reading-strict : (d : PartialDocument) (p : Settings) → is_active d.settings.mode ≡ false → IsReading d p
     → is_active p.mode ≡ false
 reading-strict d p off (inl h) = ap (λ (q : Settings). is_active q.mode) h.0 ∙ off
 reading-strict d p off (inr h) = ap (λ (q : Settings). is_active q.mode) h.0
 
 -- and there is no fault that partial reading alone passes over.
-reading-first : (n : Next) (d : OpenDocument) (t : List ℕ) (o : Opened) (p : Settings) → Known n d t o
+reading-first : (n : Next) (d : PartialDocument) (t : List ℕ) (o : Opened) (p : Settings) → Known n d t o
     → is_active d.settings.mode ≡ false → IsReading d p → d.first ≡ None
 reading-first n d t o p k off (inl h) = k.same off h.1
 reading-first n d t o p k off (inr h) = h.1
@@ -436,16 +436,16 @@ record Whole (s : Arrived) : Type 0 where
   blanks : ℕ
   is : s ≡ at_end value blanks
 
-whole-end : (v : OpenValue) (s : Arrived) → IsLeft v s → v.awaits ≡ awaits.Nothing → Whole s
+whole-end : (v : PartialValue) (s : Arrived) → IsLeft v s → v.awaits ≡ awaits.Nothing → Whole s
 whole-end v (at_value b fs) h none =
     let never : ⊥ = subst IsBeforeValue (sym h.0 ∙ none) h.1 in absurd never
 whole-end v (between_parts b k xs fs) h none =
     let never : ⊥ = subst IsBetweenParts (sym h.0 ∙ none) h.1 in absurd never
 whole-end v (at_end x n) h none = record { value = x; blanks = n; is = refl }
 
--- Behind a whole value another byte than a blank is the fault of the text.
+-- After a whole value another byte than a blank is the fault of the text.
 trailing-answered : (p : Settings) (t u : List ℕ) (c : ℕ) (x : Tree) (n : ℕ) → is_active p.mode ≡ false
-    → front_answer (rules_as owned p) ((t ++ c ∷ []) ++ u) ≡ done x (length t - n)
+    → prefix_answer (rules_as owned p) ((t ++ c ∷ []) ++ u) ≡ done x (length t - n)
     → EndsRight t (between_tokens (at_end x n)) → is_blank c ≡ false
     → IsAnswered p ((t ++ c ∷ []) ++ u) trailing_characters (length t)
 trailing-answered p t u c x n off read ends other =
@@ -462,19 +462,19 @@ trailing-answered p t u c x n off read ends other =
     let last : if_last x e (past_blanks w e) (slice_get w (past_blanks w e)) ≡ if_last x e j (slice_get w j) =
     ap (λ i. if_last x e i (slice_get w i)) past in (
       j,
-      if-false (is_active p.mode) (front_answer r w) (whole_answer r w) off ∙ whole-is r w ∙ ap (to_end w) read ∙ last
+      if-false (is_active p.mode) (prefix_answer r w) (whole_answer r w) off ∙ whole-is r w ∙ ap (to_end w) read ∙ last
           ∙ ap (if_last x e j) at,
     )
 
 -- what is read there
-trailing-read : (d : OpenDocument) (c : ℕ) (t u : List ℕ) (s : Arrived) (w : Whole s) (p : Settings) → StandsAt c d t s
+trailing-read : (d : PartialDocument) (c : ℕ) (t u : List ℕ) (s : Arrived) (w : Whole s) (p : Settings) → StandsAt c d t s
     → IsReading d p
-    → front_answer (rules_as owned p) ((t ++ c ∷ []) ++ u) ≡ done w.value (length t - w.blanks)
+    → prefix_answer (rules_as owned p) ((t ++ c ∷ []) ++ u) ≡ done w.value (length t - w.blanks)
 trailing-read d c t u s w p at reading =
-    reads-behind (with_byte c) anything d t (c ∷ []) (between_tokens s) p at.known (follows-byte c) reading u tt
+    reads-after (with_byte c) anything d t (c ∷ []) (between_tokens s) p at.known (follows-byte c) reading u tt
     ∙ ap (λ s. completed p ((t ++ c ∷ []) ++ u) s (length t)) w.is
 
-trailing-at : (d : OpenDocument) (c : ℕ) (t u : List ℕ) (s : Arrived) (p : Settings) → StandsAt c d t s
+trailing-at : (d : PartialDocument) (c : ℕ) (t u : List ℕ) (s : Arrived) (p : Settings) → StandsAt c d t s
     → IsLeft d.value s → d.value.awaits ≡ awaits.Nothing → is_blank c ≡ false → IsReading d p
     → is_active p.mode ≡ false → d.first ≡ None
     → IsAnswered p ((t ++ c ∷ []) ++ u) trailing_characters d.position
@@ -485,7 +485,7 @@ trailing-at d c t u s p at left none other reading off first =
     (trailing-answered p t u c w.value w.blanks off (trailing-read d c t u s w p at reading) ends other)
 
 -- With partial reading off it is refused,
-pub trailing-ended : (d : OpenDocument) (c : ℕ) (t : List ℕ) (s : Arrived) → StandsAt c d t s → IsLeft d.value s
+pub trailing-ended : (d : PartialDocument) (c : ℕ) (t : List ℕ) (s : Arrived) → StandsAt c d t s → IsLeft d.value s
     → d.value.awaits ≡ awaits.Nothing → is_blank c ≡ false → is_active d.settings.mode ≡ false
     → IsEnded d anything (t ++ c ∷ []) trailing_characters d.position
 trailing-ended d c t s at left none other off p u reading comes =
@@ -493,8 +493,8 @@ trailing-ended d c t s at left none other off p u reading comes =
     (reading-first (with_byte c) d t (between_tokens s) p at.known off reading)
 
 -- else passed over.
-pub trailing-noted : (d : OpenDocument) (c : ℕ) (t : List ℕ) (s : Arrived) → StandsAt c d t s → IsLeft d.value s
-    → d.value.awaits ≡ awaits.Nothing → is_blank c ≡ false → is_active d.settings.mode ≡ true → (new : OpenDocument)
+pub trailing-noted : (d : PartialDocument) (c : ℕ) (t : List ℕ) (s : Arrived) → StandsAt c d t s → IsLeft d.value s
+    → d.value.awaits ≡ awaits.Nothing → is_blank c ≡ false → is_active d.settings.mode ≡ true → (new : PartialDocument)
     → new ≡ with_first d (noted_in d.first fault_of.TrailingCharacters d.position)
     → HasTakenIn anything new (t ++ c ∷ [])
 trailing-noted d c t s at left none other on new is =
@@ -522,29 +522,29 @@ trailing-noted d c t s at left none other on new is =
     subst (λ d. HasTakenIn anything d (t ++ c ∷ [])) (sym is) all
 
 -- What is missing before the byte is the fault by strict settings;
-closes-fault : (d : OpenDocument) (c : ℕ) (t u : List ℕ) (s : Arrived) (kind : FaultKind) (p : Settings)
+closes-fault : (d : PartialDocument) (c : ℕ) (t u : List ℕ) (s : Arrived) (kind : FaultKind) (p : Settings)
     → StandsAt c d t s → ClosesBefore d.value s c (fault_kind kind) → IsReading d p → is_active p.mode ≡ false
     → IsFaulty p ((t ++ c ∷ []) ++ u) (fault_kind kind) d.position
 closes-fault d c t u s kind p at g reading off =
     let w = (t ++ c ∷ []) ++ u in
     let j = length t in
     let read =
-    reads-behind (with_byte c) anything d t (c ∷ []) (between_tokens s) p at.known (follows-byte c) reading u tt in (
+    reads-after (with_byte c) anything d t (c ∷ []) (between_tokens s) p at.known (follows-byte c) reading u tt in (
       j,
       read ∙ g.fails p w j (byte-here c t u) off ∙ ap (λ i. fault (fault_kind kind) i j) (sym at.position),
     )
 
 -- where the mode is off, for good;
-pub closes-refused : (d : OpenDocument) (c : ℕ) (t : List ℕ) (s : Arrived) (kind : FaultKind) → StandsAt c d t s
+pub closes-refused : (d : PartialDocument) (c : ℕ) (t : List ℕ) (s : Arrived) (kind : FaultKind) → StandsAt c d t s
     → ClosesBefore d.value s c (fault_kind kind) → is_active d.settings.mode ≡ false
     → IsRefused d anything (t ++ c ∷ []) (fault_kind kind) d.position
 closes-refused d c t s kind at g off p u reading comes =
     closes-fault d c t u s kind p at g reading (reading-strict d p off reading)
 
 -- else the container ends there, and each that the byte ends.
-pub closes-noted : (d : OpenDocument) (v : OpenValue) (c : ℕ) (t : List ℕ) (s : Arrived) (kind : FaultKind)
+pub closes-noted : (d : PartialDocument) (v : PartialValue) (c : ℕ) (t : List ℕ) (s : Arrived) (kind : FaultKind)
     → StandsAt c d t s → (g : ClosesBefore d.value s c (fault_kind kind)) → ClosesOver v g.next c
-    → is_active d.settings.mode ≡ true → (new : OpenDocument)
+    → is_active d.settings.mode ≡ true → (new : PartialDocument)
     → new ≡ with_first d (noted_in d.first kind d.position)
     → HasTakenIn anything (record new { value = v }) (t ++ c ∷ [])
 closes-noted d v c t s kind at g over on new is =
@@ -568,10 +568,10 @@ closes-noted d v c t s kind at g over on new is =
       known = known-as anything noted next (t ++ c ∷ []) o' refl refl refl known;
       held = λ unset. (at.token, over.left);
     } in
-    subst (λ (d : OpenDocument). HasTakenIn anything (record d { value = v }) (t ++ c ∷ [])) (sym is) all
+    subst (λ (d : PartialDocument). HasTakenIn anything (record d { value = v }) (t ++ c ∷ [])) (sym is) all
 
 -- Where no token is unfinished a document stands as another with its value, settings, faults and position.
-pub arrived-as : (d new : OpenDocument) (t : List ℕ) → d.fault ≡ None → d.token ≡ token.Nothing
+pub arrived-as : (d new : PartialDocument) (t : List ℕ) → d.fault ≡ None → d.token ≡ token.Nothing
     → new.settings ≡ d.settings → new.fault ≡ d.fault → new.first ≡ d.first → new.token ≡ d.token
     → new.position ≡ d.position → ((s : Arrived) → IsLeft d.value s → IsLeft new.value s) → HasArrived d t
     → HasArrived new t
@@ -588,7 +588,7 @@ arrived-as d new t unset none settings fault-is first token-is position left h =
     }
 
 -- Before the first byte
-pub new-arrived : (d : OpenDocument) → d.fault ≡ None → d.first ≡ None → d.token ≡ token.Nothing → d.position ≡ 0
+pub new-arrived : (d : PartialDocument) → d.fault ≡ None → d.first ≡ None → d.token ≡ token.Nothing → d.position ≡ 0
     → IsLeft d.value (at_value awaits.Value []) → ((p : Settings) → HasRead p [] (at_value awaits.Value []))
     → HasArrived d []
 new-arrived d unset first none position left read =
@@ -615,7 +615,7 @@ new-arrived d unset first none position left read =
     }
 
 -- Where a document is over, any bytes leave it so.
-over-fault : (d : OpenDocument) (t w : List ℕ) (f : Fault) → d.fault ≡ Some f → HasTakenIn anything d t
+over-fault : (d : PartialDocument) (t w : List ℕ) (f : Fault) → d.fault ≡ Some f → HasTakenIn anything d t
     → HasTakenIn anything d (t ++ w)
 over-fault d t w f is h =
     let none : d.fault ≡ None → ⊥ = λ h. none-some f (sym h ∙ is) in
@@ -628,12 +628,12 @@ over-fault d t w f is h =
       held = λ unset. absurd (none unset);
     }
   where
-    not-reading : (d : OpenDocument) (p : Settings) (f : Fault) → d.fault ≡ Some f
+    not-reading : (d : PartialDocument) (p : Settings) (f : Fault) → d.fault ≡ Some f
         → (d.first ≡ None → d.fault ≡ None) → IsReading d p → ⊥
     not-reading d p f is noted (inl h) = none-some f (sym h.1 ∙ is)
     not-reading d p f is noted (inr h) = none-some f (sym (noted h.1) ∙ is)
 
-over-whole : (d : OpenDocument) (t w : List ℕ) (f : Fault) → d.fault ≡ None → d.first ≡ Some f
+over-whole : (d : PartialDocument) (t w : List ℕ) (f : Fault) → d.fault ≡ None → d.first ≡ Some f
     → d.token ≡ token.Nothing → d.value.awaits ≡ awaits.Nothing → HasTakenIn anything d t
     → HasTakenIn anything d (t ++ w)
 over-whole d t w f unset first none whole h =
@@ -653,7 +653,7 @@ over-whole d t w f unset first none whole h =
       held = λ _. (none, subst (IsLeft d.value) e.is b.left);
     }
 
-pub over-takes : (d : OpenDocument) (t w : List ℕ) → IsOver d → HasTakenIn anything d t
+pub over-takes : (d : PartialDocument) (t w : List ℕ) → IsOver d → HasTakenIn anything d t
     → HasTakenIn anything d (t ++ w)
 over-takes d t w (inl h) read = over-fault d t w h.0 h.1 read
 over-takes d t w (inr h) read = by d.fault refl
@@ -663,7 +663,7 @@ over-takes d t w (inr h) read = by d.fault refl
     by (Some f) is = over-fault d t w f is read
 
 -- The bytes that were taken are counted.
-scalar-as : (d new : OpenDocument) (k : Token) (w : List ℕ) → new.settings ≡ d.settings → new.name ≡ d.name
+scalar-as : (d new : PartialDocument) (k : Token) (w : List ℕ) → new.settings ≡ d.settings → new.name ≡ d.name
     → new.word ≡ d.word → new.number ≡ d.number → new.string ≡ d.string → HoldsScalar d k w → HoldsScalar new k w
 scalar-as d new token.Word w settings names words numbers strings h = (
   subst (λ x. HoldsWord new.name x w) (sym words) (subst (λ x. HoldsWord x d.word w) (sym names) h.0),
@@ -677,13 +677,13 @@ scalar-as d new token.Text w settings names words numbers strings h =
 scalar-as d new token.Nothing w settings names words numbers strings h = h
 scalar-as d new token.Key w settings names words numbers strings h = h
 
-pub counted-holding : (d : OpenDocument) (j : ℕ) (t : List ℕ) (o : Opened) → Holding d t o
+pub counted-holding : (d : PartialDocument) (j : ℕ) (t : List ℕ) (o : Opened) → Holding d t o
     → Holding (record d { position = j }) t o
 counted-holding d j t (between_tokens s) h = h
 counted-holding d j t (in_scalar fs b) h =
     let new = record d { position = j } in (
       h.0,
-      record { front = h.1.front; is = h.1.is; begin = h.1.begin; place = h.1.place },
+      record { prefix = h.1.prefix; is = h.1.is; begin = h.1.begin; place = h.1.place },
       scalar-as d new d.token h.0 refl refl refl refl refl h.2,
       h.3,
       h.4,
@@ -691,7 +691,7 @@ counted-holding d j t (in_scalar fs b) h =
     )
 counted-holding d j t (in_key fs ms b) h = (
   h.0,
-  record { front = h.1.front; is = h.1.is; begin = h.1.begin; place = h.1.place },
+  record { prefix = h.1.prefix; is = h.1.is; begin = h.1.begin; place = h.1.place },
   h.2,
   record { rest = h.3.rest; is = h.3.is; taken = h.3.taken },
   h.4,
@@ -699,7 +699,7 @@ counted-holding d j t (in_key fs ms b) h = (
 )
 
 -- What was taken does not depend on the position.
-pub moved : (n : Next) (d : OpenDocument) (j : ℕ) (t : List ℕ) → HasTakenIn n d t
+pub moved : (n : Next) (d : PartialDocument) (j : ℕ) (t : List ℕ) → HasTakenIn n d t
     → HasTakenIn n (record d { position = j }) t
 moved n d j t h = record {
   opened = h.opened;
@@ -707,12 +707,12 @@ moved n d j t h = record {
   held = λ unset. counted-holding d j t h.opened (h.held unset);
 }
 
-pub counted : (d : OpenDocument) (j : ℕ) (t : List ℕ) → HasTakenIn anything d t → j ≡ length t
+pub counted : (d : PartialDocument) (j : ℕ) (t : List ℕ) → HasTakenIn anything d t → j ≡ length t
     → HasArrived (record d { position = j }) t
 counted d j t h is = record { read = moved anything d j t h; position = is }
 
--- What is neither taken nor closes what is open stands behind the whole value.
-pub over-else : (v : OpenValue) (s : Arrived) (c : ℕ) (w : Went) → IsEnding w → (w ≡ went.Taken → ⊥)
+-- What is neither taken nor closes what is open stands after the whole value.
+pub over-else : (v : PartialValue) (s : Arrived) (c : ℕ) (w : Went) → IsEnding w → (w ≡ went.Taken → ⊥)
     → ((k : FaultKind) → w ≡ went.Closed k → ⊥) → Goes v s c w → Goes v s c went.Over
 over-else v s c went.Taken e taken closed g = absurd (taken refl)
 over-else v s c (went.Closed k) e taken closed g = absurd (closed k refl)
@@ -722,7 +722,7 @@ over-else v s c went.Key e taken closed g = absurd e
 over-else v s c (went.Wrong k) e taken closed g = absurd e
 
 -- What stands open before the byte
-pub between-before : (c : ℕ) (d : OpenDocument) (t : List ℕ) → HasArrived d t → d.fault ≡ None
+pub between-before : (c : ℕ) (d : PartialDocument) (t : List ℕ) → HasArrived d t → d.fault ≡ None
     → d.token ≡ token.Nothing → Between (with_byte c) d t
 between-before c d t h unset none =
     let b = taken-between anything d t h.read unset none in

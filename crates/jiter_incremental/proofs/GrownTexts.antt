@@ -17,33 +17,33 @@ use Rattle.jiter_scan.specs.declared.errors.Fault.{Fault}
 use Rattle.jiter_scan.specs.declared.errors.FaultKind.TheVariants as fault_of
 use Rattle.jiter_scan.specs.declared.partial_mode.PartialMode.{PartialMode}
 use Rattle.jiter_scan.specs.declared.partial_mode.PartialMode.TheVariants.{Off, On, TrailingStrings}
-use Rattle.jiter_steps.specs.OpenString.{IsEven, grown, text_or}
-use Rattle.jiter_steps.specs.OpenText.{with_text}
+use Rattle.jiter_steps.specs.PartialString.{IsEven, grown, text_or}
+use Rattle.jiter_steps.specs.PartialText.{with_text}
 use Rattle.jiter_steps.specs.Read.{done, fault}
 use Rattle.jiter_steps.specs.Tree.{Tree, string}
-use Rattle.jiter_steps.specs.declared.open_string.OpenString.{OpenString}
+use Rattle.jiter_steps.specs.declared.partial_string.PartialString.{PartialString}
 use Rattle.jiter_steps.proofs.OpenStrings.{ascii-of, ended, grown-taken, plain-of}
 use Rattle.jiter_steps.proofs.OpenTexts.{is_text-kept}
 use Rattle.jiter_incremental.specs.Arrived.{at_value, owned, shown}
-use Rattle.jiter_incremental.specs.Arriving.{HasReceived, received}
+use Rattle.jiter_incremental.specs.IncrementalParser.{HasReceived, received}
 use Rattle.jiter_incremental.specs.DocumentEnds.{AnswersSo, KeepsText, broken_as, is_broken, is_shown, kind_as, kind_at_end, shown_as}
 use Rattle.jiter_incremental.specs.DocumentEnds.{so_far, token_tree}
 use Rattle.jiter_incremental.specs.DocumentStrings.{IsOfString}
 use Rattle.jiter_incremental.specs.Growing.{IsGrowing, moved_to, moved_unless, with_end}
-use Rattle.jiter_incremental.specs.OpenDocument.{HasArrived, Holding, Known, MayRefuseAt, Opened, ReadsAt, anything, between_tokens}
-use Rattle.jiter_incremental.specs.OpenDocument.{in_key, in_scalar, strictly}
-use Rattle.jiter_incremental.specs.OpenValue.{IsPutTogether, IsShown, behind_value, text_of}
+use Rattle.jiter_incremental.specs.PartialDocument.{HasArrived, Holding, Known, MayRefuseAt, Opened, ReadsAt, anything, between_tokens}
+use Rattle.jiter_incremental.specs.PartialDocument.{in_key, in_scalar, strictly}
+use Rattle.jiter_incremental.specs.PartialValue.{IsPutTogether, IsShown, after_value, text_of}
 use Rattle.jiter_incremental.specs.Replaced.{HasReplaced, HoldsTextInside, with_root}
 use Rattle.jiter_value.specs.Settings.{answer_as}
 use Rattle.jiter_incremental.specs.Spine.{HasValue, OpenFrame, filled}
 use Rattle.jiter_incremental.specs.Together.{HasMoved, HoldsTogether, IsSettled, with_parts}
 use Rattle.jiter_value.specs.Value.{view}
-use Rattle.jiter_incremental.specs.declared.arriving.Settled.{Settled}
-use Rattle.jiter_incremental.specs.declared.open_document.OpenDocument.{OpenDocument}
-use Rattle.jiter_incremental.specs.declared.open_document.Token.{Token}
-use Rattle.jiter_incremental.specs.declared.open_document.Token.TheVariants as token
-use Rattle.jiter_incremental.specs.declared.open_value.Awaits.TheVariants as awaits
-use Rattle.jiter_incremental.specs.declared.open_value.OpenValue.{OpenValue}
+use Rattle.jiter_incremental.specs.declared.incremental_parser.Settled.{Settled}
+use Rattle.jiter_incremental.specs.declared.partial_document.PartialDocument.{PartialDocument}
+use Rattle.jiter_incremental.specs.declared.partial_document.Token.{Token}
+use Rattle.jiter_incremental.specs.declared.partial_document.Token.TheVariants as token
+use Rattle.jiter_incremental.specs.declared.partial_value.Awaits.TheVariants as awaits
+use Rattle.jiter_incremental.specs.declared.partial_value.PartialValue.{PartialValue}
 use Rattle.jiter_value.specs.declared.settings.Settings.{Settings}
 use Rattle.jiter_value.specs.declared.value.JsonValue.{JsonValue}
 use Rattle.jiter_incremental.proofs.Documents.Blanks.{refuse-in, refuse-on}
@@ -51,7 +51,7 @@ use Rattle.jiter_incremental.proofs.Documents.Ends.{IsAnsweredSo, nothing-comes,
 use Rattle.jiter_incremental.proofs.Documents.Ends.{with_fault, with_value}
 use Rattle.jiter_incremental.proofs.Documents.Strings.{goes-on, is-inside, known-more, with_string}
 use Rattle.jiter_incremental.proofs.Documents.{counted-holding, known-as}
-use Rattle.jiter_incremental.proofs.Settled.{InScalar, in-scalar, not-shown, shown-behind, shown-there}
+use Rattle.jiter_incremental.proofs.Settled.{InScalar, in-scalar, not-shown, shown-after, shown-there}
 use Rattle.jiter_incremental.proofs.ShownTexts.{text-again, text-deep, text-inside}
 
 -- ---- plain bytes
@@ -72,7 +72,7 @@ plain-run v n stop low all =
 -- ---- the document apart
 
 -- A document in which a string or a key is unfinished: what it leaves open is known and held.
-pub record InText (d : OpenDocument) (t : List ℕ) (o : Opened) : Type 0 where
+pub record InText (d : PartialDocument) (t : List ℕ) (o : Opened) : Type 0 where
   pub known : Known anything d t o
   pub held : Holding d t o
   pub place : d.position ≡ length t
@@ -84,7 +84,7 @@ string-token k (inl e) n = absurd (cc)
 string-token k (inr e) n = absurd (cc)
 
 -- One that was put together,
-pub text-apart : (d : OpenDocument) (depth : ℕ) (shows : Bool) (t : List ℕ) (o : Opened) → Known anything d t o
+pub text-apart : (d : PartialDocument) (depth : ℕ) (shows : Bool) (t : List ℕ) (o : Opened) → Known anything d t o
     → d.position ≡ length t → d.fault ≡ None → IsOfString d.token → (k : HoldsTogether d depth shows t o)
     → InText k.apart t o
 text-apart d depth shows t o known place unset kind k =
@@ -100,11 +100,11 @@ text-apart d depth shows t o known place unset kind k =
     }
 
 -- the same document, with this string, at this place
-abbrev pub gone : OpenDocument → OpenString → ℕ → OpenDocument
+abbrev pub gone : PartialDocument → PartialString → ℕ → PartialDocument
 gone d s j = record (with_string d s) { position = j }
 
 -- and with this value
-abbrev pub gone_in : OpenDocument → OpenString → OpenValue → ℕ → OpenDocument
+abbrev pub gone_in : PartialDocument → PartialString → PartialValue → ℕ → PartialDocument
 gone_in d s v j = record (gone d s j) { value = v }
 
 -- the same reading, so many bytes on
@@ -112,7 +112,7 @@ abbrev pub counted_on : Settled → ℕ → Settled
 counted_on s n = record s { document = record (s.document) { position = s.document.position + n } }
 
 -- Memory may be refused in it before each byte.
-pub text-wanted : (a : OpenDocument) (t v : List ℕ) (o : Opened) → InText a t o → 0 < length v
+pub text-wanted : (a : PartialDocument) (t v : List ℕ) (o : Opened) → InText a t o → 0 < length v
     → MayRefuseAt (t ++ v) (length t)
 text-wanted a t [] o h some = absurd (omega arith)
 text-wanted a t (c ∷ v) o h some =
@@ -121,8 +121,8 @@ text-wanted a t (c ∷ v) o h some =
     subst (λ w. MayRefuseAt w (length t)) (append_assoc t (c ∷ []) v)
     (refuse-on (t ++ c ∷ []) v (length t) (refuse-in a t c arrived h.unset (string-token a.token h.kind)))
 
--- Plain bytes go on with it behind whole characters and whole escapes.
-pub text-on : (a : OpenDocument) (t v : List ℕ) (o : Opened) (j : ℕ) → InText a t o → IsEven a.string
+-- Plain bytes go on with it after whole characters and whole escapes.
+pub text-on : (a : PartialDocument) (t v : List ℕ) (o : Opened) (j : ℕ) → InText a t o → IsEven a.string
     → Pass is_plain_ascii v → j ≡ length (t ++ v) → InText (gone a (grown a.string v) j) (t ++ v) o
 text-on a t v o j h even plain is =
     let s = grown a.string v in
@@ -156,15 +156,15 @@ off-strict p off = by p.mode refl where
   by TrailingStrings is = absurd (false≢true (sym off ∙ ap is_active is))
 
 -- A string that is not shown is not kept.
-pub keeps-hidden : (d : OpenDocument) → is_shown d ≡ false → d.string.text.broken ≡ false → KeepsText d
+pub keeps-hidden : (d : PartialDocument) → is_shown d ≡ false → d.string.text.broken ≡ false → KeepsText d
 keeps-hidden d off whole = λ is on.
     absurd (false≢true (sym off ∙ ap (shown_as d) is ∙ ap₂ (λ a b. a && not b) on whole))
 
 -- the value that is told in the document's mode, if there is one
-abbrev pub told_value : OpenDocument → Opened → Option Tree
+abbrev pub told_value : PartialDocument → Opened → Option Tree
 told_value d o = if is_active d.settings.mode then shown (so_far d o) else None
 
-module _ (d : OpenDocument) (t : List ℕ) (o : Opened) (h : InText d t o) where
+module _ (d : PartialDocument) (t : List ℕ) (o : Opened) (h : InText d t o) where
   kind-string : IsOfString d.token → kind_at_end d o ≡ Some eof_string
   kind-string (inl is) = ap (λ j. kind_as d j o) is
   kind-string (inr is) = ap (λ j. kind_as d j o) is
@@ -229,7 +229,7 @@ moved-told p t u (Some f) k i j m n v w h was is =
     (n, is ∙ ap (λ a. fault a j n) kind)
 
 -- With partial reading off the fault that was noted stays, and that of the end moves.
-strict-on : (d b : OpenDocument) (t v : List ℕ) (o : Opened) → InText d t o → InText b (t ++ v) o
+strict-on : (d b : PartialDocument) (t v : List ℕ) (o : Opened) → InText d t o → InText b (t ++ v) o
     → b.settings ≡ d.settings → b.first ≡ d.first → (x : Option Fault) (r w : Option Tree)
     → AnswersSo (strictly d.settings) t x r
     → AnswersSo (strictly d.settings) (t ++ v) (moved_unless d.first b.position x) w
@@ -256,7 +256,7 @@ root-is p t None root y (Some v) k h (with_value a c e g) is =
 root-is p t (Some f) root y (Some v) k h (with_value a c e g) is = let read = sym g ∙ h.1 in absurd (cc)
 root-is p t x root y None k h a is = absurd (none-some y is)
 
--- A value is told behind more bytes where one was told before, which stands at the root then.
+-- A value is told after more bytes where one was told before, which stands at the root then.
 pub told-on : (p : Settings) (t u : List ℕ) (x : Option Fault) (j : ℕ) (root new : Tree) (v w : Option Tree)
     (k l : Option Kind)
     → AnswersSo p t x (Some root) → IsAnsweredSo p t v k → IsAnsweredSo p u w l → k ≡ Some eof_string
@@ -280,7 +280,7 @@ told-on p t u x j root new (Some v) None k l h a b was cut at same is = absurd (
 -- ---- the same string with more characters
 
 -- It is shown with them as it was,
-grown-shown : (a : OpenDocument) (v : List ℕ) (j : ℕ) (k : Token) → shown_as (gone a (grown a.string v) j) k ≡ shown_as a k
+grown-shown : (a : PartialDocument) (v : List ℕ) (j : ℕ) (k : Token) → shown_as (gone a (grown a.string v) j) k ≡ shown_as a k
 grown-shown a v j token.Nothing = refl
 grown-shown a v j token.Word = refl
 grown-shown a v j token.Number = refl
@@ -288,19 +288,19 @@ grown-shown a v j token.Text = refl
 grown-shown a v j token.Key = refl
 
 -- and where it is not, the value so far is the same.
-far-same : (a b : OpenDocument) (o : Opened) → is_shown a ≡ false → is_shown b ≡ false → so_far a o ≡ so_far b o
+far-same : (a b : PartialDocument) (o : Opened) → is_shown a ≡ false → is_shown b ≡ false → so_far a o ≡ so_far b o
 far-same a b (between_tokens s) off none = refl
 far-same a b (in_scalar fs i) off none =
-    if-false (is_shown a) (behind_value (token_tree a a.token) fs) (at_value awaits.Value fs) off
-    ∙ sym (if-false (is_shown b) (behind_value (token_tree b b.token) fs) (at_value awaits.Value fs) none)
+    if-false (is_shown a) (after_value (token_tree a a.token) fs) (at_value awaits.Value fs) off
+    ∙ sym (if-false (is_shown b) (after_value (token_tree b b.token) fs) (at_value awaits.Value fs) none)
 far-same a b (in_key fs ms i) off none = refl
 
 -- One that is shown is a text, in a mode that keeps it.
-shown-text : (d : OpenDocument) → IsOfString d.token → is_shown d ≡ true → d.token ≡ token.Text
+shown-text : (d : PartialDocument) → IsOfString d.token → is_shown d ≡ true → d.token ≡ token.Text
 shown-text d (inl is) on = is
 shown-text d (inr is) on = absurd (not-shown d token.Key on is refl)
 
-kept-mode : (d : OpenDocument) → d.token ≡ token.Text → is_shown d ≡ true → allows_trailing_strings d.settings.mode ≡ true
+kept-mode : (d : PartialDocument) → d.token ≡ token.Text → is_shown d ≡ true → allows_trailing_strings d.settings.mode ≡ true
 kept-mode d is on = (and_parts _ _ (sym (ap (shown_as d) is) ∙ on)).0
 
 kept-active : (m : PartialMode) → allows_trailing_strings m ≡ true → is_active m ≡ true
@@ -309,7 +309,7 @@ kept-active On h = absurd (false≢true h)
 kept-active TrailingStrings h = refl
 
 -- A string that is kept is its characters so far.
-pub keeps-text : (d : OpenDocument) → d.string.text.broken ≡ false → IsUtf8 d.string.text.text → KeepsText d
+pub keeps-text : (d : PartialDocument) → d.string.text.broken ≡ false → IsUtf8 d.string.text.text → KeepsText d
 keeps-text d whole utf8 = λ is on w h t i s end.
     let owned_so = h.escaped || is_some d.string.escape in
     (ended d.string w h t i s end).0
@@ -319,7 +319,7 @@ keeps-text d whole utf8 = λ is on w h t i s end.
 -- ---- what is received
 
 module _ (s : Settled) (t : List ℕ) (h : HasReceived (received s) t) (grows : s.growing ≡ true) where
-  abbrev d : OpenDocument
+  abbrev d : PartialDocument
   d = s.document
 
   abbrev o : Opened
@@ -331,7 +331,7 @@ module _ (s : Settled) (t : List ℕ) (h : HasReceived (received s) t) (grows : 
   pub k : HoldsTogether d s.depth s.shown t o
   k = h.together.held growing.0
 
-  abbrev a : OpenDocument
+  abbrev a : PartialDocument
   a = k.apart
 
   before : InText a t o
@@ -346,7 +346,7 @@ module _ (s : Settled) (t : List ℕ) (h : HasReceived (received s) t) (grows : 
   pub grown-wanted : (v : List ℕ) → 0 < length v → MayRefuseAt (t ++ v) d.position
   grown-wanted v some = subst (MayRefuseAt (t ++ v)) (sym h.position) (text-wanted a t v o before some)
 
-  strict-so : (v : List ℕ) (b : OpenDocument) → InText b (t ++ v) o → b.settings ≡ a.settings → b.first ≡ a.first
+  strict-so : (v : List ℕ) (b : PartialDocument) → InText b (t ++ v) o → b.settings ≡ a.settings → b.first ≡ a.first
       → (w : Option Tree) → AnswersSo (strictly d.settings) (t ++ v) (moved_unless d.first b.position s.strict) w
   strict-so v b g same noted w =
       subst (λ p. AnswersSo (strictly p) (t ++ v) (moved_unless d.first b.position s.strict) w) (sym same-settings)
@@ -356,7 +356,7 @@ module _ (s : Settled) (t : List ℕ) (h : HasReceived (received s) t) (grows : 
       (subst (λ p. AnswersSo (strictly p) t s.strict (Some root)) same-settings h.strict)))
 
   -- Of this document and these faults the bytes are received.
-  module _ (u : List ℕ) (b : OpenDocument) (behind : InText b u o) (e : OpenDocument)
+  module _ (u : List ℕ) (b : PartialDocument) (after : InText b u o) (e : PartialDocument)
       (holds : HoldsTogether e s.depth s.shown u o) (settings : e.settings ≡ b.settings) (unset : e.fault ≡ b.fault)
       (noted : e.first ≡ b.first) (place : e.position ≡ b.position) (kind : e.token ≡ d.token)
       (even : IsEven e.string)
@@ -367,14 +367,14 @@ module _ (s : Settled) (t : List ℕ) (h : HasReceived (received s) t) (grows : 
       received-so f g told-so strict-told-so = record {
         together = record {
           opened = o;
-          known = known-as anything b e u o settings unset noted behind.known;
-          position = place ∙ behind.place;
+          known = known-as anything b e u o settings unset noted after.known;
+          position = place ∙ after.place;
           held = λ _. holds;
         };
-        position = place ∙ behind.place;
+        position = place ∙ after.place;
         mode = told-so;
         strict = strict-told-so;
-        growing = λ _. (unset ∙ behind.unset, subst IsOfString (sym kind) growing.1, even);
+        growing = λ _. (unset ∙ after.unset, subst IsOfString (sym kind) growing.1, even);
       }
 
   -- One that is not shown goes on.
@@ -388,7 +388,7 @@ module _ (s : Settled) (t : List ℕ) (h : HasReceived (received s) t) (grows : 
     abbrev j : ℕ
     j = d.position + length v
 
-    abbrev new : OpenDocument
+    abbrev new : PartialDocument
     new = gone a (grown a.string v) j
 
     now : InText new (t ++ v) o
@@ -438,7 +438,7 @@ module _ (s : Settled) (t : List ℕ) (h : HasReceived (received s) t) (grows : 
     abbrev x : JsonValue
     x = placed.0
 
-    abbrev with_text_in : OpenValue
+    abbrev with_text_in : PartialValue
     with_text_in = placed.1
 
     on : is_shown a ≡ true
@@ -474,14 +474,14 @@ module _ (s : Settled) (t : List ℕ) (h : HasReceived (received s) t) (grows : 
     active : is_active a.settings.mode ≡ true
     active = kept-active a.settings.mode (kept-mode a text on)
 
-    shown-told : (b : OpenDocument) → is_active b.settings.mode ≡ true → is_shown b ≡ true → b.token ≡ token.Text
+    shown-told : (b : PartialDocument) → is_active b.settings.mode ≡ true → is_shown b ≡ true → b.token ≡ token.Text
         → told_value b o ≡ Some (filled fs (string (text_of b.string.text.text)))
     shown-told b is_on seen is =
         let tree = token_tree b b.token in
         if-true (is_active b.settings.mode) (shown (so_far b o)) None is_on
         ∙ ap (λ p. shown (so_far b p)) scalar.is
-        ∙ ap shown (if-true (is_shown b) (behind_value tree fs) (at_value awaits.Value fs) seen)
-        ∙ shown-behind tree fs ∙ ap (λ q. Some (filled fs (token_tree b q))) is
+        ∙ ap shown (if-true (is_shown b) (after_value tree fs) (at_value awaits.Value fs) seen)
+        ∙ shown-after tree fs ∙ ap (λ q. Some (filled fs (token_tree b q))) is
 
     told-apart : told_value a o ≡ Some (filled fs (string (text_of w)))
     told-apart = shown-told a active on text
@@ -501,7 +501,7 @@ module _ (s : Settled) (t : List ℕ) (h : HasReceived (received s) t) (grows : 
     text-held = (w, held-text)
 
     -- Where its text was replaced in the root,
-    module _ (v : OpenValue) (same : v ≡ with_root d.value v.root) (u : List ℕ)
+    module _ (v : PartialValue) (same : v ≡ with_root d.value v.root) (u : List ℕ)
         (r : HasReplaced s.depth d.value.root v.root u) where
       whole : view v.root ≡ filled fs (view r.0)
       whole =
@@ -509,9 +509,9 @@ module _ (s : Settled) (t : List ℕ) (h : HasReceived (received s) t) (grows : 
           (text-deep a.value with_text_in d.value x s.depth fs placed.3 placed.4 value) root-text
 
       -- the document is together with the other text.
-      holds-again : (b : OpenDocument) (t' : List ℕ) → Holding b t' o → b.value ≡ a.value → b.token ≡ a.token
+      holds-again : (b : PartialDocument) (t' : List ℕ) → Holding b t' o → b.value ≡ a.value → b.token ≡ a.token
           → is_shown b ≡ true → b.string.text.text ≡ u → IsUtf8 u → d.string.text ≡ with_text b.string.text []
-          → d.string.escape ≡ b.string.escape → (e : OpenDocument) → e ≡ with_parts b d.number d.string v
+          → d.string.escape ≡ b.string.escape → (e : PartialDocument) → e ≡ with_parts b d.number d.string v
           → HoldsTogether e s.depth s.shown t' o
       holds-again b t' held values kind seen text_so utf8 left escape e is =
           let again =
@@ -532,7 +532,7 @@ module _ (s : Settled) (t : List ℕ) (h : HasReceived (received s) t) (grows : 
           }
 
     -- Memory was refused: it is as it was.
-    pub shown-stays : (v : OpenValue) → v ≡ with_root d.value v.root
+    pub shown-stays : (v : PartialValue) → v ≡ with_root d.value v.root
         → ((u : List ℕ) → HoldsTextInside s.depth d.value.root u → HasReplaced s.depth d.value.root v.root u)
         → HasReceived (received (record s { document = gone_in d d.string v d.position })) t
     shown-stays v same replaced =
@@ -547,7 +547,7 @@ module _ (s : Settled) (t : List ℕ) (h : HasReceived (received s) t) (grows : 
         (subst (λ y. AnswersSo (strictly d.settings) t s.strict (Some y)) root_so h.strict)
 
     -- Plain bytes more stand there.
-    module _ (v : List ℕ) (plain : Pass is_plain_ascii v) (nv : OpenValue) (same : nv ≡ with_root d.value nv.root)
+    module _ (v : List ℕ) (plain : Pass is_plain_ascii v) (nv : PartialValue) (same : nv ≡ with_root d.value nv.root)
         (put-in : (u : List ℕ) → HoldsTextInside s.depth d.value.root u → HasReplaced s.depth d.value.root nv.root (u ++ v))
       where
         replaced : HasReplaced s.depth d.value.root nv.root (w ++ v)
@@ -559,11 +559,11 @@ module _ (s : Settled) (t : List ℕ) (h : HasReceived (received s) t) (grows : 
         abbrev until : ℕ
         until = d.position + length v
 
-        abbrev next : OpenDocument
+        abbrev next : PartialDocument
         next = gone a (grown a.string v) until
 
-        behind-it : InText next (t ++ v) o
-        behind-it = text-on a t v o until before even-apart-shown plain (omega (arith, h.position, length-append t v))
+        after-it : InText next (t ++ v) o
+        after-it = text-on a t v o until before even-apart-shown plain (omega (arith, h.position, length-append t v))
 
         seen-now : is_shown next ≡ true
         seen-now = grown-shown a v until a.token ∙ on
@@ -578,15 +578,15 @@ module _ (s : Settled) (t : List ℕ) (h : HasReceived (received s) t) (grows : 
         mode-shown =
             told-on a.settings t (t ++ v) s.fault until root (view nv.root) (told_value a o) (told_value next o) (Some eof_string)
             (Some eof_string) (subst (λ p. AnswersSo p t s.fault (Some root)) same-settings h.mode) mode-apart
-            (mode-told next (t ++ v) o behind-it (keeps-text next right-apart utf8) right-apart) refl refl behind-it.place
+            (mode-told next (t ++ v) o after-it (keeps-text next right-apart utf8) right-apart) refl refl after-it.place
             (ap is_some told-apart ∙ sym (ap is_some told-b)) (λ y is here. there-now ∙ same_Some _ _ (sym told-b ∙ here))
 
         pub shown-received : HasReceived (received (with_end (record s { document = gone_in d d.string nv until }))) (t ++ v)
         shown-received =
             let e = gone_in d d.string nv until in
-            received-so (t ++ v) next behind-it e
-            (holds-again nv same (w ++ v) replaced next (t ++ v) behind-it.held refl refl seen-now refl utf8 moved.1 moved.2 e
+            received-so (t ++ v) next after-it e
+            (holds-again nv same (w ++ v) replaced next (t ++ v) after-it.held refl refl seen-now refl utf8 moved.1 moved.2 e
             (ap (λ q. gone_in q d.string nv until) k.same)) same-settings (ap (λ q. q.fault) k.same) (ap (λ q. q.first) k.same)
             refl refl growing.2 (moved_to until s.fault) (moved_unless d.first until s.strict)
             (subst (λ p. AnswersSo p (t ++ v) (moved_to until s.fault) (Some (view nv.root))) (sym same-settings) mode-shown)
-            (strict-so v next behind-it refl refl (Some (view nv.root)))
+            (strict-so v next after-it refl refl (Some (view nv.root)))

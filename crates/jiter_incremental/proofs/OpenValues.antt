@@ -6,7 +6,7 @@ use Rattle.std.proofs.lemmas.Bool.{eq-eqb, ne_eqb, eqb-true}
 use Rattle.std.proofs.lemmas.Bool.Decides.{nat_tests}
 use Rattle.std.proofs.lemmas.List.{length-map}
 use Rattle.std.specs.Prelude.{slice_get, Option, Some, None, Result, Ok, Err, IfOk}
-use Rattle.jiter_scan.specs.declared.memory.Refused.{Refused}
+use Rattle.jiter_scan.specs.declared.memory.AllocFailed.{AllocFailed}
 use Rattle.std.proofs.lemmas.Option.{slice_get_within, slice_get-get_or, get_or_from_slice_get}
 use Rattle.jiter_scan.proofs.Choices.{if_case, if-true, if-false}
 use Rattle.jiter_scan.specs.Kind.{Kind, is_forgiven, recursion_limit, expected_value, expected_colon}
@@ -21,13 +21,13 @@ use Rattle.jiter_steps.specs.Frames.{array_in, object_in, parts_from, parts_step
 use Rattle.jiter_steps.specs.Literal.{start_of}
 use Rattle.jiter_steps.specs.Step.{Step, more, closed, stuck, step, colon, object_colon, value_first, container_first}
 use Rattle.jiter_steps.specs.Step.{opening, begins_part, closer_of, comma_kind_of, container_comma, end_kind_of}
-use Rattle.jiter_steps.specs.Read.{Rules, done, fault, behind_colon, behind_key, behind_part, front_answer}
+use Rattle.jiter_steps.specs.Read.{Rules, done, fault, after_colon, after_key, after_part, prefix_answer}
 use Rattle.jiter_steps.specs.Read.{if_begun, with_key}
 use Rattle.jiter_scan.specs.declared.errors.FaultKind.{FaultKind}
 use Rattle.jiter_steps.specs.StringDecoder.{text_view}
 use Rattle.jiter_steps.specs.Tree.{Text, Tree, null, object, members_of}
-use Rattle.jiter_steps.specs.declared.parse.Shape.{Shape}
-use Rattle.jiter_steps.specs.declared.parse.Shape.TheVariants as shape
+use Rattle.jiter_steps.specs.declared.parse.ContainerKind.{ContainerKind}
+use Rattle.jiter_steps.specs.declared.parse.ContainerKind.TheVariants as shape
 use Rattle.jiter_steps.specs.declared.parse.Literal.{Literal}
 use Rattle.jiter_steps.specs.declared.parse.Start.{Start}
 use Rattle.jiter_steps.specs.declared.parse.Start.TheVariants as start
@@ -37,25 +37,25 @@ use Rattle.jiter_steps.proofs.Grammar.Blanks.{past_blanks-blank, past_blanks-oth
 use Rattle.jiter_steps.proofs.Reading.Values.{Advances, inside_at-none, inside_at-starts, parts_at_is}
 use Rattle.jiter_incremental.specs.Arrived.{Arrived, at_value, between_parts, at_end, value_then, part_row}
 use Rattle.jiter_incremental.specs.Arrived.{container_of, end_of, owned, HasRead, IsBeforeValue, IsBetweenParts, Holds}
-use Rattle.jiter_incremental.specs.OpenValue.{behind_value, completed, IsLeft, Everywhere, EndsHere, TakesByte, BeginsScalar}
-use Rattle.jiter_incremental.specs.OpenValue.{BeginsKey, ClosesBefore, ClosesOver, Goes, ReadsOn, passed, text_of, IsScalarStart}
-use Rattle.jiter_incremental.specs.OpenValue.{AwaitsValue, BeginsItem, BeginsValue, IsBeforePart, IsBehind, IsEnding, IsSeenAs, ValueAt}
+use Rattle.jiter_incremental.specs.PartialValue.{after_value, completed, IsLeft, Everywhere, EndsHere, TakesByte, BeginsScalar}
+use Rattle.jiter_incremental.specs.PartialValue.{BeginsKey, ClosesBefore, ClosesOver, Goes, ReadsOn, passed, text_of, IsScalarStart}
+use Rattle.jiter_incremental.specs.PartialValue.{AwaitsValue, BeginsItem, BeginsValue, IsBeforePart, IsAfter, IsEnding, IsSeenAs, ValueAt}
 use Rattle.jiter_value.specs.Settings.{rules_as}
 use Rattle.jiter_incremental.specs.Spine.{OpenFrame, around, begun, parents_of, spine_of, AwaitsPart, IsOfKey, HasRoomInside, HasValue, StandsFor, filled}
 use Rattle.jiter_value.specs.Stacks.{PartTree, built, empty_tree}
-use Rattle.jiter_incremental.specs.declared.open_value.Awaits.{Awaits}
-use Rattle.jiter_incremental.specs.declared.open_value.Awaits.TheVariants as awaits
+use Rattle.jiter_incremental.specs.declared.partial_value.Awaits.{Awaits}
+use Rattle.jiter_incremental.specs.declared.partial_value.Awaits.TheVariants as awaits
 use Rattle.jiter_value.specs.Value.{view}
-use Rattle.jiter_incremental.specs.declared.open_value.OpenValue.{OpenValue}
-use Rattle.jiter_incremental.specs.declared.open_value.Went.{Went}
-use Rattle.jiter_incremental.specs.declared.open_value.Went.TheVariants as went
+use Rattle.jiter_incremental.specs.declared.partial_value.PartialValue.{PartialValue}
+use Rattle.jiter_incremental.specs.declared.partial_value.Went.{Went}
+use Rattle.jiter_incremental.specs.declared.partial_value.Went.TheVariants as went
 use Rattle.jiter_value.specs.declared.settings.Settings.{Settings}
 use Rattle.jiter_value.specs.declared.value.JsonValue.{JsonValue}
 use Rattle.jiter_incremental.proofs.Arrivals.{shown-stands}
 use Rattle.jiter_value.proofs.MadeTexts.{rules_as-advances}
 
 -- a container that begins has no part
-pub no-parts : (h : Shape) → empty_tree h ≡ built h []
+pub no-parts : (h : ContainerKind) → empty_tree h ≡ built h []
 no-parts shape.Array = refl
 no-parts shape.Object = refl
 
@@ -73,15 +73,15 @@ module _ (p : Settings) (t : List ℕ) where
   kept k h =
       if_case (λ (f : Kind → Bool). f k ≡ false) (is_active p.mode) is_forgiven nothing_forgiven (λ on. h) (λ off. refl)
 
-  -- behind a value
-  behind-is : (x : Tree) (e : ℕ) (fs : List OpenFrame)
-      → resume r t fs (done x e) ≡ completed p t (behind_value x fs) e
-  behind-is x e [] = let same : e ≡ e - 0 = omega arith in ap (done x) same
-  behind-is x e (items_frame xs ∷ fs) = refl
-  behind-is x e (members_frame ms k ∷ fs) = refl
+  -- after a value
+  after-is : (x : Tree) (e : ℕ) (fs : List OpenFrame)
+      → resume r t fs (done x e) ≡ completed p t (after_value x fs) e
+  after-is x e [] = let same : e ≡ e - 0 = omega arith in ap (done x) same
+  after-is x e (items_frame xs ∷ fs) = refl
+  after-is x e (members_frame ms k ∷ fs) = refl
 
   -- what is built of parts, and a container between them
-  builds : (h : Shape) (xs : List (PartTree h)) (depth e : ℕ) → (container_of r t h depth).build e xs ≡ built h xs
+  builds : (h : ContainerKind) (xs : List (PartTree h)) (depth e : ℕ) → (container_of r t h depth).build e xs ≡ built h xs
   builds shape.Array xs depth e = refl
   builds shape.Object xs depth e = refl
 
@@ -134,7 +134,7 @@ module _ (p : Settings) (t : List ℕ) where
           value-fails fs expected_value
           (inside_at-starts r t (201 - length fs) j start.Nothing (omega (arith, few)) (ap start_of is ∙ starts)) refl
 
-      pub value-begins : (h : Shape) (fs : List OpenFrame) → length fs ≤ 200 → start_of c ≡ opening h
+      pub value-begins : (h : ContainerKind) (fs : List OpenFrame) → length fs ≤ 200 → start_of c ≡ opening h
           → completed p t (at_value awaits.Value fs) j ≡ completed p t (between_parts awaits.First h [] fs) (j + 1)
       value-begins shape.Array fs few starts =
           let s = step t (container_first shape.Array) (j + 1) in
@@ -166,7 +166,7 @@ module _ (p : Settings) (t : List ℕ) where
           ∙ resume-fault r t fs expected_colon j j (kept expected_colon refl)
 
       -- and between the parts of a container.
-      module _ (a : Awaits) (h : Shape) (xs : List (PartTree h)) (fs : List OpenFrame) where
+      module _ (a : Awaits) (h : ContainerKind) (xs : List (PartTree h)) (fs : List OpenFrame) where
         between-here : (u : Step) → part_row r t a h j (Some c) ≡ u
             → completed p t (between_parts a h xs fs) j
             ≡ resume r t fs (parts_step r t (container_of r t h (length fs)) xs u)
@@ -176,11 +176,11 @@ module _ (p : Settings) (t : List ℕ) where
 
         pub part-ends : part_row r t a h j (Some c) ≡ closed (j + 1)
             → completed p t (between_parts a h xs fs) j
-            ≡ completed p t (behind_value (built h xs) fs) (j + 1)
+            ≡ completed p t (after_value (built h xs) fs) (j + 1)
         part-ends e =
             between-here (closed (j + 1)) e
             ∙ ap (λ v. resume r t fs (done v (j + 1))) (builds h xs (length fs) (j + 1))
-            ∙ behind-is (built h xs) (j + 1) fs
+            ∙ after-is (built h xs) (j + 1) fs
 
         pub part-wrong : (k : Kind) → part_row r t a h j (Some c) ≡ stuck k j → r.forgives k ≡ false
             → completed p t (between_parts a h xs fs) j ≡ fault k j j
@@ -191,15 +191,15 @@ module _ (p : Settings) (t : List ℕ) where
             ∙ resume-fault r t fs k j j bad
 
         pub part-missing : (k : Kind) → part_row r t a h j (Some c) ≡ stuck k j → r.forgives k ≡ true
-            → completed p t (between_parts a h xs fs) j ≡ completed p t (behind_value (built h xs) fs) j
+            → completed p t (between_parts a h xs fs) j ≡ completed p t (after_value (built h xs) fs) j
         part-missing k e ok =
             let parts = container_of r t h (length fs) in
             between-here (stuck k j) e
             ∙ ap (resume r t fs) (if_forgiven-yes r t (λ e. parts.build e xs) k j j ok)
             ∙ ap (λ v. resume r t fs (done v j)) (builds h xs (length fs) j)
-            ∙ behind-is (built h xs) j fs
+            ∙ after-is (built h xs) j fs
 
-      pub comma-taken : (a : Awaits) (h : Shape) (xs : List (PartTree h)) (fs : List OpenFrame)
+      pub comma-taken : (a : Awaits) (h : ContainerKind) (xs : List (PartTree h)) (fs : List OpenFrame)
           → part_row r t a h j (Some c) ≡ step t (part_row r t awaits.Next h) (j + 1)
           → completed p t (between_parts a h xs fs) j ≡ completed p t (between_parts awaits.Next h xs fs) (j + 1)
       comma-taken a h xs fs e = between-here a h xs fs (step t (part_row r t awaits.Next h) (j + 1)) e
@@ -219,7 +219,7 @@ module _ (p : Settings) (t : List ℕ) where
 
 -- Before its first byte a value is awaited.
 pub none-read : (p : Settings) → HasRead p [] (at_value awaits.Value [])
-unfolding front_answer
+unfolding prefix_answer
 none-read p = record { goes = λ u. by u (past_blanks u 0) (slice_get u (past_blanks u 0)) } where
   by : (u : List ℕ) (i : ℕ) (o : Option ℕ)
       → if_begun (rules_as owned p) u i o ≡ value_then (rules_as owned p) u 0 (value_first i o)
@@ -258,7 +258,7 @@ forgives-off : (p : Settings) (k : Kind) → is_active p.mode ≡ false → (rul
 forgives-off p k off = rw off refl
 
 -- What is told of a byte where a value is awaited
-pub begins-container : (new : OpenValue) (h : Shape) (fs : List OpenFrame) (c : ℕ) → is_blank c ≡ false
+pub begins-container : (new : PartialValue) (h : ContainerKind) (fs : List OpenFrame) (c : ℕ) → is_blank c ≡ false
     → length fs ≤ 200 → start_of c ≡ opening h → IsLeft new (between_parts awaits.First h [] fs)
     → TakesByte new (at_value awaits.Value fs) c
 begins-container new h fs c other few starts left = record {
@@ -274,7 +274,7 @@ scalar-starts s (inl h) = subst IsScalarStart (sym h) tt
 scalar-starts s (inr (inl h)) = subst IsScalarStart (sym h) tt
 scalar-starts s (inr (inr h)) = subst IsScalarStart (sym h.1) tt
 
-pub begins-scalar : (old new : OpenValue) (fs : List OpenFrame) (c : ℕ) → is_blank c ≡ false → length fs ≤ 200
+pub begins-scalar : (old new : PartialValue) (fs : List OpenFrame) (c : ℕ) → is_blank c ≡ false → length fs ≤ 200
     → AwaitsPart old.spine.items fs → IsOfKey (text_view old.key) fs
     → map view new.spine.items ≡ map view old.spine.items → new.key ≡ old.key → new.awaits ≡ awaits.Value
     → HasRoomInside new.spine.items → IsScalarStart (start_of c) → BeginsScalar new (at_value awaits.Value fs) c
@@ -293,7 +293,7 @@ begins-scalar old new fs c other few h of same key is room starts = record {
 }
 
 -- and where a key begins.
-pub begins-key : (old new : OpenValue) (a : Awaits) (ms : List (Text × Tree)) (fs : List OpenFrame) (c : ℕ)
+pub begins-key : (old new : PartialValue) (a : Awaits) (ms : List (Text × Tree)) (fs : List OpenFrame) (c : ℕ)
     → is_blank c ≡ false
     → ((p : Settings) (t : List ℕ) (j : ℕ) → part_row (rules_as owned p) t a shape.Object j (Some c) ≡ more j)
     → map view old.spine.items ≡ spine_of fs (object (members_of ms)) → new.spine ≡ old.spine
@@ -307,11 +307,11 @@ begins-key old new a ms fs c other row h same is quote = record {
   quote = eqb-true c 34 quote;
 }
 
--- Where a value ends that is whole behind a byte
-ends-behind : (s : Arrived) (c : ℕ) (x : Tree) (fs : List OpenFrame) → EndsHere s c (behind_value x fs)
-ends-behind s c x [] = inl refl
-ends-behind s c x (items_frame xs ∷ fs) = tt
-ends-behind s c x (members_frame ms k ∷ fs) = tt
+-- Where a value ends that is whole after a byte
+ends-after : (s : Arrived) (c : ℕ) (x : Tree) (fs : List OpenFrame) → EndsHere s c (after_value x fs)
+ends-after s c x [] = inl refl
+ends-after s c x (items_frame xs ∷ fs) = tt
+ends-after s c x (members_frame ms k ∷ fs) = tt
 
 ends-blank : (s : Arrived) (c : ℕ) → is_blank c ≡ true → EndsHere s c (passed s)
 ends-blank (at_value a fs) c blank = tt
@@ -337,7 +337,7 @@ module _ (a : Awaits) (xs : List Tree) (fs : List OpenFrame) (c : ℕ) (other : 
     same-there : Everywhere c (λ p t j. completed p t between j ≡ completed p t item j)
     same-there = λ p t j here. item-begins p t j c here other a xs fs (row p t j)
 
-    pub item-goes : (new : OpenValue) (w : Went) → Goes new item c w → Goes new between c w
+    pub item-goes : (new : PartialValue) (w : Went) → Goes new item c w → Goes new between c w
     item-goes new went.Taken g = record {
       next = g.next;
       left = g.left;
@@ -370,35 +370,35 @@ module _ (a : Awaits) (xs : List Tree) (fs : List OpenFrame) (c : ℕ) (other : 
     item-goes new went.Over g = let none : awaits.Value ≡ awaits.Nothing = sym g.0.0 ∙ g.1 in absurd (cc)
 
 -- where another byte leads between the parts of a container
-abbrev pub RowIs : Awaits → ℕ → (List ℕ → ℕ → Step) → Shape → Type 0
+abbrev pub RowIs : Awaits → ℕ → (List ℕ → ℕ → Step) → ContainerKind → Type 0
 RowIs a c u h = (p : Settings) (t : List ℕ) (j : ℕ) → part_row (rules_as owned p) t a h j (Some c) ≡ u t j
 
--- What a byte is behind a part
-row-comma : (h : Shape) (c : ℕ) → c ≡ 44 → RowIs awaits.Comma c (λ t j. step t (container_comma h) (j + 1)) h
+-- What a byte is after a part
+row-comma : (h : ContainerKind) (c : ℕ) → c ≡ 44 → RowIs awaits.Comma c (λ t j. step t (container_comma h) (j + 1)) h
 row-comma h c is = subst (λ c. RowIs awaits.Comma c (λ t j. step t (container_comma h) (j + 1)) h) (sym is) (by h) where
-  by : (h : Shape) → RowIs awaits.Comma 44 (λ t j. step t (container_comma h) (j + 1)) h
+  by : (h : ContainerKind) → RowIs awaits.Comma 44 (λ t j. step t (container_comma h) (j + 1)) h
   by shape.Array = λ p t j. refl
   by shape.Object = λ p t j. refl
 
-row-end : (h : Shape) (c : ℕ) → c ≡ closer_of h → RowIs awaits.Comma c (λ t j. closed (j + 1)) h
+row-end : (h : ContainerKind) (c : ℕ) → c ≡ closer_of h → RowIs awaits.Comma c (λ t j. closed (j + 1)) h
 row-end h c closes = λ p t j. if-true (c == closer_of h) _ _ (eq-eqb c (closer_of h) closes)
 
-row-missing : (h : Shape) (c : ℕ) → ¬ (c ≡ 44) → ¬ (c ≡ closer_of h)
+row-missing : (h : ContainerKind) (c : ℕ) → ¬ (c ≡ 44) → ¬ (c ≡ closer_of h)
     → RowIs awaits.Comma c (λ t j. stuck (comma_kind_of h) j) h
 row-missing h c one two = λ p t j.
     if-false (c == closer_of h) _ _ (ne_eqb c (closer_of h) two) ∙ if-false (c == 44) _ _ (ne_eqb c 44 one)
 
-missing-forgiven : (h : Shape) → is_forgiven (comma_kind_of h) ≡ true
+missing-forgiven : (h : ContainerKind) → is_forgiven (comma_kind_of h) ≡ true
 missing-forgiven shape.Array = refl
 missing-forgiven shape.Object = refl
 
 -- What is told of it
-module _ (a : Awaits) (h : Shape) (xs : List (PartTree h)) (fs : List OpenFrame) (c : ℕ) (other : is_blank c ≡ false)
+module _ (a : Awaits) (h : ContainerKind) (xs : List (PartTree h)) (fs : List OpenFrame) (c : ℕ) (other : is_blank c ≡ false)
   where
     abbrev there : Arrived
     there = between_parts a h xs fs
 
-    pub goes-comma : (new : OpenValue) → RowIs a c (λ t j. step t (container_comma h) (j + 1)) h
+    pub goes-comma : (new : PartialValue) → RowIs a c (λ t j. step t (container_comma h) (j + 1)) h
         → new.awaits ≡ awaits.Next → map view new.spine.items ≡ spine_of fs (built h xs) → TakesByte new there c
     goes-comma new row is left = record {
       next = between_parts awaits.Next h xs fs;
@@ -407,19 +407,19 @@ module _ (a : Awaits) (h : Shape) (xs : List (PartTree h)) (fs : List OpenFrame)
       goes = λ p t j here. comma-taken p t j c here other a h xs fs (row p t j);
     }
 
-    pub goes-end : (new : OpenValue) → RowIs a c (λ t j. closed (j + 1)) h → IsLeft new (behind_value (built h xs) fs)
+    pub goes-end : (new : PartialValue) → RowIs a c (λ t j. closed (j + 1)) h → IsLeft new (after_value (built h xs) fs)
         → TakesByte new there c
     goes-end new row left = record {
-      next = behind_value (built h xs) fs;
+      next = after_value (built h xs) fs;
       left = left;
-      ends = ends-behind there c (built h xs) fs;
+      ends = ends-after there c (built h xs) fs;
       goes = λ p t j here. part-ends p t j c here other a h xs fs (row p t j);
     }
 
-    pub goes-missing : (new : OpenValue) (k : Kind) → RowIs a c (λ t j. stuck k j) h → is_forgiven k ≡ true
-        → IsLeft new (behind_value (built h xs) fs) → ClosesBefore new there c k
+    pub goes-missing : (new : PartialValue) (k : Kind) → RowIs a c (λ t j. stuck k j) h → is_forgiven k ≡ true
+        → IsLeft new (after_value (built h xs) fs) → ClosesBefore new there c k
     goes-missing new k row ok left = record {
-      next = behind_value (built h xs) fs;
+      next = after_value (built h xs) fs;
       left = left;
       goes = λ p t j here on. part-missing p t j c here other a h xs fs k (row p t j) (forgives-on p k on ok);
       fails = λ p t j here off. part-wrong p t j c here other a h xs fs k (row p t j) (forgives-off p k off);
@@ -430,12 +430,12 @@ module _ (a : Awaits) (h : Shape) (xs : List (PartTree h)) (fs : List OpenFrame)
     goes-wrong k row bad = λ p t j here. part-wrong p t j c here other a h xs fs k (row p t j) (kept p t k bad)
 
 -- and of a blank.
-passed-left : (v : OpenValue) (s : Arrived) → IsLeft v s → IsLeft v (passed s)
+passed-left : (v : PartialValue) (s : Arrived) → IsLeft v s → IsLeft v (passed s)
 passed-left v (at_value a fs) h = h
 passed-left v (between_parts a k xs fs) h = h
 passed-left v (at_end x n) h = h
 
-pub goes-blank : (v : OpenValue) (s : Arrived) (c : ℕ) → is_blank c ≡ true → IsLeft v s → TakesByte v s c
+pub goes-blank : (v : PartialValue) (s : Arrived) (c : ℕ) → is_blank c ≡ true → IsLeft v s → TakesByte v s c
 goes-blank v s c blank h = record {
   next = passed s;
   left = passed-left v s h;
@@ -443,8 +443,8 @@ goes-blank v s c blank h = record {
   goes = λ p t j here. leads-blank p t j c here s blank;
 }
 
--- What is told behind a key
-pub goes-colon : (old new : OpenValue) (fs : List OpenFrame) (c : ℕ) → is_blank c ≡ false → (c == 58) ≡ true
+-- What is told after a key
+pub goes-colon : (old new : PartialValue) (fs : List OpenFrame) (c : ℕ) → is_blank c ≡ false → (c == 58) ≡ true
     → AwaitsPart old.spine.items fs → IsOfKey (text_view old.key) fs → new.spine ≡ old.spine → new.key ≡ old.key
     → new.awaits ≡ awaits.Value → TakesByte new (at_value awaits.Colon fs) c
 goes-colon old new fs c other colon h of spine key is = record {
@@ -460,13 +460,13 @@ goes-colon old new fs c other colon h of spine key is = record {
 }
 
 -- What is left open, by what is awaited
-pub record AtValue (v : OpenValue) (a : Awaits) (s : Arrived) : Type 0 where
+pub record AtValue (v : PartialValue) (a : Awaits) (s : Arrived) : Type 0 where
   pub frames : List OpenFrame
   pub all : s ≡ at_value a frames
   pub left : AwaitsPart v.spine.items frames
   pub key : IsOfKey (text_view v.key) frames
 
-pub at-value : (v : OpenValue) (a : Awaits) (s : Arrived) → v.awaits ≡ a → IsBeforeValue a → IsLeft v s → AtValue v a s
+pub at-value : (v : PartialValue) (a : Awaits) (s : Arrived) → v.awaits ≡ a → IsBeforeValue a → IsLeft v s → AtValue v a s
 at-value v a (at_value b fs) is before h = record {
   frames = fs;
   all = ap (λ c. at_value c fs) (sym h.0 ∙ is);
@@ -476,14 +476,14 @@ at-value v a (at_value b fs) is before h = record {
 at-value v a (between_parts b k xs fs) is before h = absurd (not-both a before (subst IsBetweenParts (sym h.0 ∙ is) h.1))
 at-value v a (at_end x n) is before h = absurd (subst IsBeforeValue (sym is ∙ h.0) before)
 
-pub record BetweenParts (v : OpenValue) (a : Awaits) (s : Arrived) : Type 0 where
-  pub shape : Shape
+pub record BetweenParts (v : PartialValue) (a : Awaits) (s : Arrived) : Type 0 where
+  pub shape : ContainerKind
   pub parts : List (PartTree shape)
   pub frames : List OpenFrame
   pub all : s ≡ between_parts a shape parts frames
   pub left : map view v.spine.items ≡ spine_of frames (built shape parts)
 
-pub between-parts : (v : OpenValue) (a : Awaits) (s : Arrived) → v.awaits ≡ a → IsBetweenParts a → IsLeft v s
+pub between-parts : (v : PartialValue) (a : Awaits) (s : Arrived) → v.awaits ≡ a → IsBetweenParts a → IsLeft v s
     → BetweenParts v a s
 between-parts v a (at_value b fs) is inside h =
     absurd (not-both a (subst IsBeforeValue (sym h.0 ∙ is) h.1) inside)
@@ -497,7 +497,7 @@ between-parts v a (between_parts b k xs fs) is inside h = record {
 between-parts v a (at_end x n) is inside h = absurd (subst IsBetweenParts (sym is ∙ h.0) inside)
 
 -- Where a value is awaited, or a part of an array, whichever byte begins an item begins a value.
-pub value-at : (v : OpenValue) (s : Arrived) → v.awaits ≡ awaits.Value → IsLeft v s → ValueAt v s
+pub value-at : (v : PartialValue) (s : Arrived) → v.awaits ≡ awaits.Value → IsLeft v s → ValueAt v s
 value-at v s is left =
     let a = at-value v awaits.Value s is tt left in
     record {
@@ -526,7 +526,7 @@ between-of a before = absurd before
 object-array : shape.Object ≡ shape.Array → ⊥
 object-array h = cc
 
-item-at : (v : OpenValue) (s : Arrived) (h : Shape) (xs : List (PartTree h)) (fs : List OpenFrame) → IsBeforePart v.awaits
+item-at : (v : PartialValue) (s : Arrived) (h : ContainerKind) (xs : List (PartTree h)) (fs : List OpenFrame) → IsBeforePart v.awaits
     → h ≡ shape.Array → s ≡ between_parts v.awaits h xs fs → map view v.spine.items ≡ spine_of fs (built h xs)
     → ValueAt v s
 item-at v s shape.Array xs fs before _ all left = record {
@@ -540,8 +540,8 @@ item-at v s shape.Array xs fs before _ all left = record {
 }
 item-at v s shape.Object xs fs before same all left = absurd (object-array same)
 
-pub item-awaited : (v : OpenValue) (s : Arrived) → IsBeforePart v.awaits
-    → ((h : Shape) (xs : List (PartTree h)) (fs : List OpenFrame)
+pub item-awaited : (v : PartialValue) (s : Arrived) → IsBeforePart v.awaits
+    → ((h : ContainerKind) (xs : List (PartTree h)) (fs : List OpenFrame)
     → map view v.spine.items ≡ spine_of fs (built h xs) → h ≡ shape.Array)
     → IsLeft v s → ValueAt v s
 item-awaited v s before array left =
@@ -549,7 +549,7 @@ item-awaited v s before array left =
     item-at v s b.shape b.parts b.frames before (array b.shape b.parts b.frames b.left) b.all b.left
 
 -- There it begins.
-pub begins-value : (v : OpenValue) (s : Arrived) (at : ValueAt v s) → length at.frames ≤ 200
+pub begins-value : (v : PartialValue) (s : Arrived) (at : ValueAt v s) → length at.frames ≤ 200
     → HasRoomInside v.spine.items → BeginsValue (record v { awaits = awaits.Value }) s
 begins-value v s at low room = record {
   frames = at.frames;
@@ -560,11 +560,11 @@ begins-value v s at low room = record {
 }
 
 -- A container begins there with its bracket.
-pub opens-item : (h : Shape) (c : ℕ) → start_of c ≡ opening h → BeginsItem c
+pub opens-item : (h : ContainerKind) (c : ℕ) → start_of c ≡ opening h → BeginsItem c
 opens-item shape.Array c h = let is : c ≡ 91 = grind (arith, nat_tests, h) in subst BeginsItem (sym is) (refl, refl)
 opens-item shape.Object c h = let is : c ≡ 123 = grind (arith, nat_tests, h) in subst BeginsItem (sym is) (refl, refl)
 
-pub opens-value : (old new : OpenValue) (s : Arrived) (c : ℕ) (h : Shape) (at : ValueAt old s)
+pub opens-value : (old new : PartialValue) (s : Arrived) (c : ℕ) (h : ContainerKind) (at : ValueAt old s)
     → length at.frames ≤ 200 → start_of c ≡ opening h → IsLeft new (between_parts awaits.First h [] at.frames)
     → TakesByte new s c
 opens-value old new s c h at low starts left =
@@ -583,7 +583,7 @@ spine-empty : (old new : List JsonValue) → map view new ≡ map view old → o
 spine-empty old [] same none = refl
 spine-empty old (v ∷ vs) same none = let is = same ∙ ap (map view) none in absurd (cc)
 
-pub seen-left : (old new : OpenValue) (s : Arrived) → IsSeenAs old new → IsLeft old s → IsLeft new s
+pub seen-left : (old new : PartialValue) (s : Arrived) → IsSeenAs old new → IsLeft old s → IsLeft new s
 seen-left old new (at_value a fs) h left = (
   h.awaits ∙ left.0,
   left.1,
@@ -597,11 +597,11 @@ seen-left old new (at_end x n) h left = (
   ap view h.root ∙ left.2,
 )
 
-seen-back : (old new : OpenValue) → IsSeenAs old new → IsSeenAs new old
+seen-back : (old new : PartialValue) → IsSeenAs old new → IsSeenAs new old
 seen-back old new h =
     record { spine = sym h.spine; root = sym h.root; key = sym h.key; awaits = sym h.awaits }
 
-pub seen-awaits : (old new : OpenValue) → IsSeenAs old new → AwaitsValue old → AwaitsValue new
+pub seen-awaits : (old new : PartialValue) → IsSeenAs old new → AwaitsValue old → AwaitsValue new
 seen-awaits old new h awaited = λ s left.
     let x = awaited s (seen-left new old s (seen-back old new h) left) in
     let at = x.0 in (
@@ -614,46 +614,46 @@ seen-awaits old new h awaited = λ s left.
       x.1,
     )
 
--- Behind a part a comma is awaited, or the end.
-at-comma : (a : Awaits) → IsBehind a → ¬ (a ≡ awaits.Nothing) → a ≡ awaits.Comma
-at-comma awaits.Comma behind inside = refl
-at-comma awaits.Nothing behind inside = absurd (inside refl)
-at-comma a behind inside = absurd behind
+-- After a part a comma is awaited, or the end.
+at-comma : (a : Awaits) → IsAfter a → ¬ (a ≡ awaits.Nothing) → a ≡ awaits.Comma
+at-comma awaits.Comma after inside = refl
+at-comma awaits.Nothing after inside = absurd (inside refl)
+at-comma a after inside = absurd after
 
 -- What is told of another byte there
-module _ (v : OpenValue) (behind : IsBehind v.awaits) (inside : ¬ (v.awaits ≡ awaits.Nothing)) (c : ℕ)
+module _ (v : PartialValue) (after : IsAfter v.awaits) (inside : ¬ (v.awaits ≡ awaits.Nothing)) (c : ℕ)
     (other : is_blank c ≡ false)
   where
-    pub behind-parts : (s : Arrived) → IsLeft v s → BetweenParts v awaits.Comma s
-    behind-parts s left = between-parts v awaits.Comma s (at-comma v.awaits behind inside) tt left
+    pub after-parts : (s : Arrived) → IsLeft v s → BetweenParts v awaits.Comma s
+    after-parts s left = between-parts v awaits.Comma s (at-comma v.awaits after inside) tt left
 
-    pub comma-behind : (new : OpenValue) → c ≡ 44 → new.spine ≡ v.spine → new.awaits ≡ awaits.Next
+    pub comma-after : (new : PartialValue) → c ≡ 44 → new.spine ≡ v.spine → new.awaits ≡ awaits.Next
         → (s : Arrived) → IsLeft v s → TakesByte new s c
-    comma-behind new comma same is = λ s left.
-        let b = behind-parts s left in
+    comma-after new comma same is = λ s left.
+        let b = after-parts s left in
         let spine = ap (λ (w : Vec JsonValue Global). map view w.items) same ∙ b.left in
         let goes = goes-comma awaits.Comma b.shape b.parts b.frames c other new (row-comma b.shape c comma) is spine in
         subst (λ x. TakesByte new x c) (sym b.all) goes
 
     -- The innermost container ends.
-    module _ (new : OpenValue) (h : Shape)
-        (same : (g : Shape) (xs : List (PartTree g)) (fs : List OpenFrame)
+    module _ (new : PartialValue) (h : ContainerKind)
+        (same : (g : ContainerKind) (xs : List (PartTree g)) (fs : List OpenFrame)
         → map view v.spine.items ≡ spine_of fs (built g xs) → h ≡ g)
-        (ends : (g : Shape) (xs : List (PartTree g)) (fs : List OpenFrame)
-        → map view v.spine.items ≡ spine_of fs (built g xs) → IsLeft new (behind_value (built g xs) fs))
+        (ends : (g : ContainerKind) (xs : List (PartTree g)) (fs : List OpenFrame)
+        → map view v.spine.items ≡ spine_of fs (built g xs) → IsLeft new (after_value (built g xs) fs))
       where
-        pub end-behind : c ≡ closer_of h → (s : Arrived) → IsLeft v s → TakesByte new s c
-        end-behind closes = λ s left.
-            let b = behind-parts s left in
+        pub end-after : c ≡ closer_of h → (s : Arrived) → IsLeft v s → TakesByte new s c
+        end-after closes = λ s left.
+            let b = after-parts s left in
             let is = same b.shape b.parts b.frames b.left in
             let row = row-end b.shape c (closes ∙ ap closer_of is) in
             let goes = goes-end awaits.Comma b.shape b.parts b.frames c other new row (ends b.shape b.parts b.frames b.left) in
             subst (λ x. TakesByte new x c) (sym b.all) goes
 
-        pub missing-behind : (k : Kind) → ¬ (c ≡ 44) → ¬ (c ≡ closer_of h) → k ≡ comma_kind_of h
+        pub missing-after : (k : Kind) → ¬ (c ≡ 44) → ¬ (c ≡ closer_of h) → k ≡ comma_kind_of h
             → (s : Arrived) → IsLeft v s → ClosesBefore new s c k
-        missing-behind k one two kind = λ s left.
-            let b = behind-parts s left in
+        missing-after k one two kind = λ s left.
+            let b = after-parts s left in
             let is = same b.shape b.parts b.frames b.left in
             let row = row-missing b.shape c one (subst (λ g. ¬ (c ≡ closer_of g)) is two) in
             let goes = goes-missing awaits.Comma b.shape b.parts b.frames c other new (comma_kind_of b.shape) row
@@ -662,26 +662,26 @@ module _ (v : OpenValue) (behind : IsBehind v.awaits) (inside : ¬ (v.awaits ≡
             (subst (λ x. ClosesBefore new x c (comma_kind_of b.shape)) (sym b.all) goes)
 
 -- A container between its parts is one that awaits a part, by its shape.
-pub between-awaits : (h : Shape) (xs : List (PartTree h)) (fs : List OpenFrame) (spine : List JsonValue)
+pub between-awaits : (h : ContainerKind) (xs : List (PartTree h)) (fs : List OpenFrame) (spine : List JsonValue)
     → map view spine ≡ spine_of fs (built h xs) → (gs : List OpenFrame) × AwaitsPart spine gs
 between-awaits shape.Array xs fs spine h = (items_frame xs ∷ fs, h)
 between-awaits shape.Object ms fs spine h = (members_frame ms (text_of []) ∷ fs, h)
 
 -- What is told of a byte between the parts of a container of a shape,
-abbrev pub BetweenGoes : OpenValue → OpenValue → ℕ → Result Went Refused → Awaits → Shape → Type 0
+abbrev pub BetweenGoes : PartialValue → PartialValue → ℕ → Result Went AllocFailed → Awaits → ContainerKind → Type 0
 BetweenGoes old new c r a h =
     (xs : List (PartTree h)) (fs : List OpenFrame) → map view old.spine.items ≡ spine_of fs (built h xs)
     → is_blank c ≡ false → IfOk r (Goes new (between_parts a h xs fs) c)
 
 -- and where it begins a part.
-abbrev pub PartGoes : OpenValue → OpenValue → ℕ → Result Went Refused → Shape → Type 0
+abbrev pub PartGoes : PartialValue → PartialValue → ℕ → Result Went AllocFailed → ContainerKind → Type 0
 PartGoes old new c r h =
     (a : Awaits) (xs : List (PartTree h)) (fs : List OpenFrame)
     → map view old.spine.items ≡ spine_of fs (built h xs) → is_blank c ≡ false → begins_part h c ≡ true
     → ((p : Settings) (t : List ℕ) (j : ℕ) → part_row (rules_as owned p) t a h j (Some c) ≡ more j)
     → IfOk r (Goes new (between_parts a h xs fs) c)
 
-pub item-part : (old new : OpenValue) (c : ℕ) (r : Result Went Refused)
+pub item-part : (old new : PartialValue) (c : ℕ) (r : Result Went AllocFailed)
     → ((fs : List OpenFrame) → AwaitsPart old.spine.items fs → IsOfKey (text_view old.key) fs → is_blank c ≡ false
     → IfOk r (Goes new (at_value awaits.Value fs) c))
     → PartGoes old new c r shape.Array
@@ -689,13 +689,13 @@ item-part old new c r goes = λ a xs fs h other begins row.
     by a xs fs other row r (goes (items_frame xs ∷ fs) h tt other) where
       by : (a : Awaits) (xs : List Tree) (fs : List OpenFrame) → is_blank c ≡ false
           → ((p : Settings) (t : List ℕ) (j : ℕ) → part_row (rules_as owned p) t a shape.Array j (Some c) ≡ more j)
-          → (r : Result Went Refused) → IfOk r (Goes new (at_value awaits.Value (items_frame xs ∷ fs)) c)
+          → (r : Result Went AllocFailed) → IfOk r (Goes new (at_value awaits.Value (items_frame xs ∷ fs)) c)
           → IfOk r (Goes new (between_parts a shape.Array xs fs) c)
       by a xs fs other row (Ok w) g = item-goes a xs fs c other row new w g
       by a xs fs other row (Err e) g = tt
 
 -- The spine of a container of a shape, between its parts
-abbrev pub Inside : List JsonValue → Shape → Type 0
+abbrev pub Inside : List JsonValue → ContainerKind → Type 0
 Inside spine h = (xs : List (PartTree h)) × (fs : List OpenFrame) × (map view spine ≡ spine_of fs (built h xs))
 
 long : (f : OpenFrame) (fs : List OpenFrame) (spine : List JsonValue) (x : Tree)
@@ -703,27 +703,27 @@ long : (f : OpenFrame) (fs : List OpenFrame) (spine : List JsonValue) (x : Tree)
 long f fs spine x h =
     omega (arith, ap length h, length-map spine view, length-append (parents_of fs) (around f x ∷ []))
 
--- where the input ends behind a part of the innermost container
-pub container-end : (x : Tree) (fs : List OpenFrame) (spine : List JsonValue) (h : Shape) (k : Kind) → ¬ (spine ≡ [])
+-- where the input ends after a part of the innermost container
+pub container-end : (x : Tree) (fs : List OpenFrame) (spine : List JsonValue) (h : ContainerKind) (k : Kind) → ¬ (spine ≡ [])
     → AwaitsPart spine fs
-    → ((g : Shape) (xs : List (PartTree g)) (gs : List OpenFrame) → map view spine ≡ spine_of gs (built g xs) → h ≡ g)
-    → k ≡ end_kind_of h → Some k ≡ end_of (behind_value x fs)
+    → ((g : ContainerKind) (xs : List (PartTree g)) (gs : List OpenFrame) → map view spine ≡ spine_of gs (built g xs) → h ≡ g)
+    → k ≡ end_kind_of h → Some k ≡ end_of (after_value x fs)
 container-end x [] spine h k inside awaits same kind = absurd (inside awaits)
 container-end x (items_frame xs ∷ fs) spine h k inside awaits same kind =
     ap Some (kind ∙ ap end_kind_of (same shape.Array xs fs awaits))
 container-end x (members_frame ms l ∷ fs) spine h k inside awaits same kind =
     ap Some (kind ∙ ap end_kind_of (same shape.Object ms fs awaits))
 
--- Behind a value that is put somewhere
+-- After a value that is put somewhere
 pub put-left : (a : Awaits) (spine : List JsonValue) (root : JsonValue) (k : Text) (x : Tree) (fs : List OpenFrame)
     → HasValue spine root fs x → (spine ≡ [] → a ≡ awaits.Nothing) → (0 < length spine → a ≡ awaits.Comma)
-    → Holds a spine root k (behind_value x fs)
+    → Holds a spine root k (after_value x fs)
 put-left a spine root k x [] h none some = (none h.0, h.0, h.1)
 put-left a spine root k x (items_frame xs ∷ fs) h none some = (some (long (items_frame xs) fs spine x h), tt, h)
 put-left a spine root k x (members_frame ms l ∷ fs) h none some =
     (some (long (members_frame ms l) fs spine x h), tt, h)
 
--- and behind a key.
+-- and after a key.
 pub key-read : (p : Settings) (t : List ℕ) (j e : ℕ) (ms : List (Text × Tree)) (fs : List OpenFrame) (k : Text)
     → j < length t → (rules_as owned p).key t j ≡ taken k e
     → key_from (rules_as owned p) t fs ms j ≡ completed p t (at_value awaits.Colon (members_frame ms k ∷ fs)) e
@@ -733,33 +733,33 @@ key-read p t j e ms fs k lt read =
     let inner = value_in r t (suc (length fs)) in
     ap (resume r t fs)
     (parts_at_is r t c (container_in-goes r t (rules_as-advances owned p t) shape.Object (length fs)) ms j lt refl
-    ∙ ap (behind_part r c t (parts_from r t c) ms) (ap (behind_key inner t j) read ∙ by r t fs k (object_colon t e)))
+    ∙ ap (after_part r c t (parts_from r t c) ms) (ap (after_key inner t j) read ∙ by r t fs k (object_colon t e)))
   where
     by : (r : Rules Text Tree) (t : List ℕ) (fs : List OpenFrame) (k : Text) (x : Extent)
-        → behind_colon k (value_in r t (suc (length fs))) x ≡ with_key k (value_then r t (suc (length fs)) x)
+        → after_colon k (value_in r t (suc (length fs))) x ≡ with_key k (value_then r t (suc (length fs)) x)
     by r t fs k (taken u j) = refl
     by r t fs k (failed kind j) = refl
 
 -- A scalar that is read is put there.
 pub scalar-read : (x : Tree) (p : Settings) (t : List ℕ) (j e : ℕ) (fs : List OpenFrame)
     → value_in (rules_as owned p) t (length fs) j ≡ done x e
-    → value_from (rules_as owned p) t fs j ≡ completed p t (behind_value x fs) e
-scalar-read x p t j e fs h = ap (resume (rules_as owned p) t fs) h ∙ behind-is p t x e fs
+    → value_from (rules_as owned p) t fs j ≡ completed p t (after_value x fs) e
+scalar-read x p t j e fs h = ap (resume (rules_as owned p) t fs) h ∙ after-is p t x e fs
 
 -- In a partial mode what is left open at first leads, before the byte, to what is left now.
-pub record ClosesTo (new : OpenValue) (s : Arrived) (c : ℕ) : Type 0 where
+pub record ClosesTo (new : PartialValue) (s : Arrived) (c : ℕ) : Type 0 where
   pub next : Arrived
   pub left : IsLeft new next
   pub goes : Everywhere c (λ p t j. is_active p.mode ≡ true → completed p t s j ≡ completed p t next j)
 
--- There the byte is taken, or the value is whole, and the byte is one more behind it.
-whole-on : (v : OpenValue) (s : Arrived) → IsLeft v s → v.awaits ≡ awaits.Nothing → (p : Settings) (t : List ℕ) (j : ℕ)
+-- There the byte is taken, or the value is whole, and the byte is one more after it.
+whole-on : (v : PartialValue) (s : Arrived) → IsLeft v s → v.awaits ≡ awaits.Nothing → (p : Settings) (t : List ℕ) (j : ℕ)
     → completed p t s j ≡ completed p t (passed s) (j + 1)
 whole-on v (at_value a fs) left is p t j = absurd (subst IsBeforeValue (sym left.0 ∙ is) left.1)
 whole-on v (between_parts a k xs fs) left is p t j = absurd (subst IsBetweenParts (sym left.0 ∙ is) left.1)
 whole-on v (at_end x n) left is p t j = let same : j - n ≡ j + 1 - (n + 1) = omega arith in ap (done x) same
 
-pub closes-over : (old new : OpenValue) (s : Arrived) (c : ℕ) (w : Went) → ClosesTo old s c
+pub closes-over : (old new : PartialValue) (s : Arrived) (c : ℕ) (w : Went) → ClosesTo old s c
     → ((u : Arrived) → IsLeft old u → Goes new u c w) → IsEnding w → ((k : FaultKind) → ¬ (w ≡ went.Closed k))
     → ClosesOver new s c
 closes-over old new s c went.Taken to goes ending last =
@@ -779,8 +779,8 @@ closes-over old new s c went.Over to goes ending last =
 closes-over old new s c (went.Closed k) to goes ending last = absurd (last k refl)
 closes-over old new s c w to goes ending last = absurd ending
 
--- What was read, and a byte that is taken behind it
-pub read-on : (p : Settings) (t : List ℕ) (c : ℕ) (s : Arrived) (new : OpenValue) (g : TakesByte new s c)
+-- What was read, and a byte that is taken after it
+pub read-on : (p : Settings) (t : List ℕ) (c : ℕ) (s : Arrived) (new : PartialValue) (g : TakesByte new s c)
     → HasRead p t s → HasRead p (t ++ c ∷ []) g.next
 read-on p t c s new g read = record {
   goes = λ u.
@@ -791,10 +791,10 @@ read-on p t c s new g read = record {
       slice_get-get_or w (length t) 0 long ∙ ap Some (get_or-append_seam t c u 0) in
       let one : length t + 1 ≡ length (t ++ c ∷ []) = omega (arith, length-append t (c ∷ [])) in
       let all = read.goes (c ∷ u) ∙ g.goes p w (length t) here ∙ ap (completed p w g.next) one in
-      subst (λ x. front_answer r x ≡ completed p x g.next (length (t ++ c ∷ []))) (sym (append_assoc t (c ∷ []) u)) all;
+      subst (λ x. prefix_answer r x ≡ completed p x g.next (length (t ++ c ∷ []))) (sym (append_assoc t (c ∷ []) u)) all;
 }
 
-pub reads-on : (p : Settings) (t : List ℕ) (c : ℕ) (s : Arrived) (new : OpenValue) (r : Result Went Refused)
+pub reads-on : (p : Settings) (t : List ℕ) (c : ℕ) (s : Arrived) (new : PartialValue) (r : Result Went AllocFailed)
     → HasRead p t s → IfOk r (Goes new s c) → IfOk r (ReadsOn new p (t ++ c ∷ []))
 reads-on p t c s new (Ok went.Taken) read g = (g.next, g.left, read-on p t c s new g read)
 reads-on p t c s new (Ok w) read g = tt

@@ -16,17 +16,17 @@ use Rattle.jiter_steps.specs.Blank.{past_blanks}
 use Rattle.jiter_steps.specs.Read.{done, fault}
 use Rattle.jiter_steps.specs.Tree.{Tree}
 use Rattle.jiter_incremental.specs.Arrived.{owned, shown}
-use Rattle.jiter_incremental.specs.Arriving.{HasReceived, received}
+use Rattle.jiter_incremental.specs.IncrementalParser.{HasReceived, received}
 use Rattle.jiter_incremental.specs.DocumentEnds.{AnswersSo, so_far}
 use Rattle.jiter_incremental.specs.Growing.{IsGrowing}
-use Rattle.jiter_incremental.specs.OpenDocument.{HasArrived, MayRefuseAt, Opened, ReadsAt, strictly}
+use Rattle.jiter_incremental.specs.PartialDocument.{HasArrived, MayRefuseAt, Opened, ReadsAt, strictly}
 use Rattle.jiter_value.specs.Owned.{owned_tree}
 use Rattle.jiter_value.specs.Parses.{Parses, keeping_repeats, reading_as}
 use Rattle.jiter_value.specs.Settings.{answer_as, answer_by}
 use Rattle.jiter_incremental.specs.Together.{IsTogether}
 use Rattle.jiter_value.specs.Value.{view}
-use Rattle.jiter_incremental.specs.declared.arriving.Settled.{Settled}
-use Rattle.jiter_incremental.specs.declared.open_document.OpenDocument.{OpenDocument}
+use Rattle.jiter_incremental.specs.declared.incremental_parser.Settled.{Settled}
+use Rattle.jiter_incremental.specs.declared.partial_document.PartialDocument.{PartialDocument}
 use Rattle.jiter_value.specs.declared.settings.Settings.{Settings}
 use Rattle.jiter_value.specs.declared.value.JsonValue.{JsonValue}
 use Rattle.jiter_incremental.proofs.Documents.Blanks.{refuse-on}
@@ -54,7 +54,7 @@ first-set x (Some g) some noted = refl
 first-set x None some noted = absurd (false≢true (sym (ap is_some (noted refl)) ∙ some))
 
 -- The document is together again.
-pub settled : (s : Settled) (old : OpenDocument) (t : List ℕ) (h : HasArrived old t)
+pub settled : (s : Settled) (old : PartialDocument) (t : List ℕ) (h : HasArrived old t)
     → IsTogether s.document s.depth s.shown t → s.document.settings ≡ old.settings
     → ((v : Tree) → shown (so_far old h.read.opened) ≡ Some v → view s.document.value.root ≡ v)
     → AnswersSo old.settings t s.fault (shown (so_far old h.read.opened))
@@ -72,7 +72,7 @@ settled s old t h together same value mode strict growing =
     }
 
 -- Then a fault is told with partial reading off.
-first-told : (d : OpenDocument) (t : List ℕ) (h : HasArrived d t) (x : Option Fault) (w : Tree)
+first-told : (d : PartialDocument) (t : List ℕ) (h : HasArrived d t) (x : Option Fault) (w : Tree)
     → is_some d.fault ≡ true → AnswersSo (strictly d.settings) t x (shown (so_far d h.read.opened))
     → AnswersSo (strictly d.settings) t x (Some w)
 first-told d t h x w some told =
@@ -106,7 +106,7 @@ refused s t h some mode strict still =
     }
 
 -- Bytes have arrived, whether memory was refused or not.
-pub arrived-either : {T E : Type 0} (r : Result T E) (d : OpenDocument) (t piece : List ℕ) (n : ℕ)
+pub arrived-either : {T E : Type 0} (r : Result T E) (d : PartialDocument) (t piece : List ℕ) (n : ℕ)
     → OnOk r (HasArrived d (t ++ piece)) → OnErr r (HasArrived d (t ++ take n piece)) → (u : List ℕ) × HasArrived d u
 arrived-either (Ok x) d t piece n ok err = (t ++ piece, ok)
 arrived-either (Err e) d t piece n ok err = (t ++ take n piece, err)
@@ -147,7 +147,7 @@ pub never-refused : (names : Bool) (t : List ℕ) (r : Result JsonValue JsonErro
 never-refused names t r h =
     parses-same owned_tree owned_tree (λ v. refl) ⊥ (past_blanks t 0 < length t) (λ no. absurd no) names Off t r h
 
--- the bytes of borrowed pieces, one behind the other
+-- the bytes of borrowed pieces, one after the other
 abbrev pub bytes_of : List (Bor (List ℕ)) → List ℕ
 bytes_of pieces = flat_map {X = Bor (List ℕ)} {A = ℕ} (λ piece. piece.now) pieces
 
@@ -165,7 +165,7 @@ module _ (pieces : List (Bor (List ℕ))) (i : ℕ) (other : Bor (List ℕ)) (wi
       ∙ flat_map-append (λ (p : Bor (List ℕ)). p.now) (take i pieces) (get_or pieces i other ∷ [])
       ∙ ap (λ w. before ++ w) (append-nil piece)
 
-  -- and those behind it
+  -- and those after it
   pieces-parts : bytes_of pieces ≡ (before ++ piece) ++ bytes_of (drop (i + 1) pieces)
   pieces-parts =
       ap bytes_of (sym (take-append-drop (i + 1) pieces))

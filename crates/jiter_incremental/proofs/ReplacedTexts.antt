@@ -5,7 +5,7 @@ use Rattle.std.specs.Prelude.{slice_set}
 use Rattle.std.specs.declared.alloc.Global.{Global}
 use Rattle.std.specs.declared.borrow.CowStr.{CowStr}
 use Rattle.jiter_steps.specs.Tree.{Tree, string}
-use Rattle.jiter_incremental.specs.OpenValue.{text_of}
+use Rattle.jiter_incremental.specs.PartialValue.{text_of}
 use Rattle.jiter_incremental.specs.Replaced.{HasReplaced, HoldsTextInside, IsReplaced, StandsRound}
 use Rattle.jiter_incremental.specs.Spine.{IsInside, IsLastPart, OpenFrame, around, filled}
 use Rattle.jiter_value.specs.Stacks.{Member}

@@ -7,28 +7,28 @@ use Rattle.std.proofs.lemmas.Bool.{false≢true}
 use Rattle.std.proofs.lemmas.List.{length-map, same_from_push}
 use Rattle.std.proofs.lemmas.Option.{same_Some}
 use Rattle.jiter_scan.proofs.Choices.{if-true, if-false}
-use Rattle.jiter_scan.specs.OpenNumber.{IsBegun, number_from}
-use Rattle.jiter_scan.specs.declared.open_number.OpenNumber.{OpenNumber}
+use Rattle.jiter_scan.specs.PartialNumber.{IsBegun, number_from}
+use Rattle.jiter_scan.specs.declared.partial_number.PartialNumber.{PartialNumber}
 use Rattle.jiter_steps.specs.Frames.{items_frame, members_frame}
-use Rattle.jiter_steps.specs.OpenString.{HasTaken}
-use Rattle.jiter_steps.specs.OpenText.{with_text}
+use Rattle.jiter_steps.specs.PartialString.{HasTaken}
+use Rattle.jiter_steps.specs.PartialText.{with_text}
 use Rattle.jiter_steps.specs.StringDecoder.{text_view}
 use Rattle.jiter_steps.specs.Tree.{Tree, members_of, object, string}
-use Rattle.jiter_steps.specs.declared.open_string.OpenString.{OpenString}
+use Rattle.jiter_steps.specs.declared.partial_string.PartialString.{PartialString}
 use Rattle.jiter_incremental.specs.Arrived.{Arrived, at_end, at_value, between_parts, shown}
 use Rattle.jiter_incremental.specs.DocumentEnds.{is_shown, shown_as, so_far, token_tree}
-use Rattle.jiter_incremental.specs.OpenDocument.{HasArrived, Holding, HoldsScalar, Known, Next, Opened}
-use Rattle.jiter_incremental.specs.OpenDocument.{TakenFrom, anything, between_tokens, in_key, in_scalar}
-use Rattle.jiter_incremental.specs.OpenValue.{IsApartAs, IsLeft, IsPutTogether, IsShown, behind_value, text_of}
+use Rattle.jiter_incremental.specs.PartialDocument.{HasArrived, Holding, HoldsScalar, Known, Next, Opened}
+use Rattle.jiter_incremental.specs.PartialDocument.{TakenFrom, anything, between_tokens, in_key, in_scalar}
+use Rattle.jiter_incremental.specs.PartialValue.{IsApartAs, IsLeft, IsPutTogether, IsShown, after_value, text_of}
 use Rattle.jiter_incremental.specs.Spine.{AwaitsPart, HasRoomInside, HasValue, IsInPlace, IsInside, IsOfKey, IsOpen, IsRoomy}
 use Rattle.jiter_incremental.specs.Spine.{OpenFrame, StandsFor, filled, parents_of, spine_of}
 use Rattle.jiter_incremental.specs.Together.{HasMoved, HoldsTogether, IsSettled, IsTogether, shown_bytes, with_parts}
 use Rattle.jiter_value.specs.Value.{view}
-use Rattle.jiter_incremental.specs.declared.open_document.OpenDocument.{OpenDocument}
-use Rattle.jiter_incremental.specs.declared.open_document.Token.{Token}
-use Rattle.jiter_incremental.specs.declared.open_document.Token.TheVariants as token
-use Rattle.jiter_incremental.specs.declared.open_value.Awaits.TheVariants as awaits
-use Rattle.jiter_incremental.specs.declared.open_value.OpenValue.{OpenValue}
+use Rattle.jiter_incremental.specs.declared.partial_document.PartialDocument.{PartialDocument}
+use Rattle.jiter_incremental.specs.declared.partial_document.Token.{Token}
+use Rattle.jiter_incremental.specs.declared.partial_document.Token.TheVariants as token
+use Rattle.jiter_incremental.specs.declared.partial_value.Awaits.TheVariants as awaits
+use Rattle.jiter_incremental.specs.declared.partial_value.PartialValue.{PartialValue}
 use Rattle.jiter_value.specs.declared.value.JsonValue.{JsonValue, out-JsonValue}
 use Rattle.jiter_incremental.proofs.Arrivals.{shown-stands}
 use Rattle.jiter_incremental.proofs.OpenValues.{awaits-same, held-stands, length-parents}
@@ -42,7 +42,7 @@ spine-length spine fs x h =
     ∙ ap (λ n. n + 1) (length-parents fs)
 
 -- What was put together can be taken apart,
-pub opens : (old v : OpenValue) (depth : ℕ) → IsPutTogether old v depth → 0 < depth → IsOpen depth (view v.root)
+pub opens : (old v : PartialValue) (depth : ℕ) → IsPutTogether old v depth → 0 < depth → IsOpen depth (view v.root)
 opens old v depth h some = by h.stands where
   by : StandsFor old.spine.items old.root (view v.root) → IsOpen depth (view v.root)
   by (inl none) = absurd (omega (arith, h.deep, ap length none.0, some))
@@ -54,7 +54,7 @@ opens old v depth h some = by h.stands where
   }
 
 -- and then it stands apart as before.
-module _ (old v new : OpenValue) (depth : ℕ) (h : IsPutTogether old v depth)
+module _ (old v new : PartialValue) (depth : ℕ) (h : IsPutTogether old v depth)
     (awaits : new.awaits ≡ v.awaits) (key : new.key ≡ v.key)
     (spine : (fs : List OpenFrame) → (x : Tree) → depth ≡ length fs + 1 → view v.root ≡ filled fs x
     → map view new.spine.items ≡ spine_of fs x)
@@ -78,7 +78,7 @@ module _ (old v new : OpenValue) (depth : ℕ) (h : IsPutTogether old v depth)
         ∙ sym s.apart
 
 -- What stood there does again: a value in its place,
-module _ (old new : OpenValue) (h : IsApartAs old new) where
+module _ (old new : PartialValue) (h : IsApartAs old new) where
   empty-again : old.spine.items ≡ [] → new.spine.items ≡ []
   empty-again none = awaits-same [] old.spine.items new.spine.items h.spine none
 
@@ -113,7 +113,7 @@ module _ (old new : OpenValue) (h : IsApartAs old new) where
   left-again (at_end v n) l = (h.awaits ∙ l.0, empty-again l.1, ap view (h.root l.1) ∙ l.2)
 
 -- The open containers of a document stand for a value,
-pub held-root : (d : OpenDocument) (t : List ℕ) (o : Opened) → Holding d t o
+pub held-root : (d : PartialDocument) (t : List ℕ) (o : Opened) → Holding d t o
     → (v : Tree) × StandsFor d.value.spine.items d.value.root v
 held-root d t (between_tokens s) h =
     held-stands d.value.awaits d.value.spine.items d.value.root (text_view d.value.key) s h.1
@@ -124,33 +124,33 @@ held-root d t (in_key fs ms b) h =
     (filled fs x, inr (record { frames = fs; innermost = x; apart = h.5; whole = refl }))
 
 -- which is the value so far, where no scalar is shown.
-pub plain-root : (d : OpenDocument) (t : List ℕ) (o : Opened) (v : Tree) → Holding d t o → is_shown d ≡ false
+pub plain-root : (d : PartialDocument) (t : List ℕ) (o : Opened) (v : Tree) → Holding d t o → is_shown d ≡ false
     → shown (so_far d o) ≡ Some v → StandsFor d.value.spine.items d.value.root v
 plain-root d t (between_tokens s) v h off is =
     shown-stands d.value.awaits d.value.spine.items d.value.root (text_view d.value.key) s v h.1 is
 plain-root d t (in_scalar fs b) v h off is =
     let s = at_value awaits.Value fs in
-    let none = if-false (is_shown d) (behind_value (token_tree d d.token) fs) s off in
+    let none = if-false (is_shown d) (after_value (token_tree d d.token) fs) s off in
     shown-stands d.value.awaits d.value.spine.items d.value.root (text_view d.value.key) s v h.3
     (sym (ap shown none) ∙ is)
 plain-root d t (in_key fs ms b) v h off is =
     inr (record { frames = fs; innermost = object (members_of ms); apart = h.5; whole = sym (same_Some _ _ is) })
 
 -- A scalar is unfinished, where the token is none of the others.
-pub record InScalar (d : OpenDocument) (t : List ℕ) (o : Opened) : Type 0 where
+pub record InScalar (d : PartialDocument) (t : List ℕ) (o : Opened) : Type 0 where
   pub frames : List OpenFrame
   pub begin : ℕ
   pub is : o ≡ in_scalar frames begin
   pub held : Holding d t (in_scalar frames begin)
 
-in-scalar-by : (d : OpenDocument) (t : List ℕ) (o : Opened) → Holding d t o → (d.token ≡ token.Nothing → ⊥)
+in-scalar-by : (d : PartialDocument) (t : List ℕ) (o : Opened) → Holding d t o → (d.token ≡ token.Nothing → ⊥)
     → (d.token ≡ token.Key → ⊥) → InScalar d t o
 in-scalar-by d t (between_tokens s) h some no-key = absurd (some h.0)
 in-scalar-by d t (in_scalar fs b) h some no-key = record { frames = fs; begin = b; is = refl; held = h }
 in-scalar-by d t (in_key fs ms b) h some no-key = absurd (no-key h.2)
 
 -- one whose text moved into its value,
-pub text-moved : (k : Token) (d : OpenDocument) (s : OpenString) (x : JsonValue) → shown_as d k ≡ true
+pub text-moved : (k : Token) (d : PartialDocument) (s : PartialString) (x : JsonValue) → shown_as d k ≡ true
     → (k ≡ token.Number → ⊥) → view x ≡ string (text_of d.string.text.text) → s.text ≡ with_text d.string.text []
     → s.escape ≡ d.string.escape → IsUtf8 d.string.text.text → HasMoved k d d.number s x
 text-moved token.Text d s x on other seen text escape utf8 = (seen, text, escape, utf8)
@@ -160,50 +160,50 @@ text-moved token.Word d s x on other seen text escape utf8 = absurd (false≢tru
 text-moved token.Key d s x on other seen text escape utf8 = absurd (false≢true on)
 
 -- one that is shown,
-pub not-shown : (d : OpenDocument) (k : Token) → is_shown d ≡ true → d.token ≡ k → shown_as d k ≡ false → ⊥
+pub not-shown : (d : PartialDocument) (k : Token) → is_shown d ≡ true → d.token ≡ k → shown_as d k ≡ false → ⊥
 not-shown d k on is off = let no : true ≡ false = sym on ∙ ap (shown_as d) is ∙ off in cc
 
-pub in-scalar : (d : OpenDocument) (t : List ℕ) (o : Opened) → Holding d t o → is_shown d ≡ true → InScalar d t o
+pub in-scalar : (d : PartialDocument) (t : List ℕ) (o : Opened) → Holding d t o → is_shown d ≡ true → InScalar d t o
 in-scalar d t o h on =
     in-scalar-by d t o h (λ is. not-shown d token.Nothing on is refl) (λ is. not-shown d token.Key on is refl)
 
 -- and one whose text moved
-in-moved : (d : OpenDocument) (t : List ℕ) (o : Opened) (n : OpenNumber) (s : OpenString) (x : JsonValue)
+in-moved : (d : PartialDocument) (t : List ℕ) (o : Opened) (n : PartialNumber) (s : PartialString) (x : JsonValue)
     → Holding d t o → HasMoved d.token d n s x → InScalar d t o
 in-moved d t o n s x h moved =
     let of : (k : Token) → d.token ≡ k → HasMoved k d n s x = λ k is. subst (λ k. HasMoved k d n s x) is moved in
     in-scalar-by d t o h (of token.Nothing) (of token.Key)
 
 -- Where it is shown, the value stands in its place,
-pub shown-there : (d : OpenDocument) (t : List ℕ) (o : Opened) (x : JsonValue) (w : OpenValue) (i : InScalar d t o)
+pub shown-there : (d : PartialDocument) (t : List ℕ) (o : Opened) (x : JsonValue) (w : PartialValue) (i : InScalar d t o)
     → IsShown d.value w x → HasValue w.spine.items w.root i.frames (view x)
 shown-there d t o x w i shows = shows.value i.frames i.held.3.2 i.held.3.3
 
 -- and it is the value so far.
-pub shown-behind : (x : Tree) (fs : List OpenFrame) → shown (behind_value x fs) ≡ Some (filled fs x)
-shown-behind x [] = refl
-shown-behind x (items_frame xs ∷ fs) = refl
-shown-behind x (members_frame ms k ∷ fs) = refl
+pub shown-after : (x : Tree) (fs : List OpenFrame) → shown (after_value x fs) ≡ Some (filled fs x)
+shown-after x [] = refl
+shown-after x (items_frame xs ∷ fs) = refl
+shown-after x (members_frame ms k ∷ fs) = refl
 
-pub shown-root : (d : OpenDocument) (t : List ℕ) (o : Opened) (v : Tree) (x : JsonValue) (w : OpenValue) → Holding d t o
+pub shown-root : (d : PartialDocument) (t : List ℕ) (o : Opened) (v : Tree) (x : JsonValue) (w : PartialValue) → Holding d t o
     → is_shown d ≡ true → view x ≡ token_tree d d.token → IsShown d.value w x → shown (so_far d o) ≡ Some v
     → StandsFor w.spine.items w.root v
 shown-root d t o v x w h on seen shows is =
     let i = in-scalar d t o h on in
     let tree = token_tree d d.token in
-    let there = if-true (is_shown d) (behind_value tree i.frames) (at_value awaits.Value i.frames) on in
-    let whole = sym is ∙ ap (λ p. shown (so_far d p)) i.is ∙ ap shown there ∙ shown-behind tree i.frames in
+    let there = if-true (is_shown d) (after_value tree i.frames) (at_value awaits.Value i.frames) on in
+    let whole = sym is ∙ ap (λ p. shown (so_far d p)) i.is ∙ ap shown there ∙ shown-after tree i.frames in
     stands-in-place i.frames w.spine.items w.root (view x) v (shown-there d t o x w i shows)
     (same_Some _ _ whole ∙ ap (filled i.frames) (sym seen))
 
 -- It is put together.
-known-parts : (m : Next) (d : OpenDocument) (n : OpenNumber) (s : OpenString) (v : OpenValue) (t : List ℕ) (o : Opened)
+known-parts : (m : Next) (d : PartialDocument) (n : PartialNumber) (s : PartialString) (v : PartialValue) (t : List ℕ) (o : Opened)
     → Known m d t o → Known m (with_parts d n s v) t o
 known-parts m d n s v t o h =
     record { mode = h.mode; strict = h.strict; ends = h.ends; noted = h.noted; same = h.same }
 
-module _ (d : OpenDocument) (t : List ℕ) (h : HasArrived d t) (unset : d.fault ≡ None) (depth : ℕ) where
-  pub settled-plain : (v : OpenValue) → is_shown d ≡ false → IsPutTogether d.value v depth
+module _ (d : PartialDocument) (t : List ℕ) (h : HasArrived d t) (unset : d.fault ≡ None) (depth : ℕ) where
+  pub settled-plain : (v : PartialValue) → is_shown d ≡ false → IsPutTogether d.value v depth
       → IsTogether (with_parts d d.number d.string v) depth false t
   settled-plain v shows put = record {
     opened = h.read.opened;
@@ -212,7 +212,7 @@ module _ (d : OpenDocument) (t : List ℕ) (h : HasArrived d t) (unset : d.fault
     held = λ _. record { apart = d; held = h.read.held unset; shows = shows; same = refl; settled = (refl, refl, put) };
   }
 
-  pub settled-shown : (n : OpenNumber) (s : OpenString) (x : JsonValue) (v w : OpenValue) → is_shown d ≡ true
+  pub settled-shown : (n : PartialNumber) (s : PartialString) (x : JsonValue) (v w : PartialValue) → is_shown d ≡ true
       → HasMoved d.token d n s x
       → IsShown d.value v x → IsPutTogether v w depth → IsTogether (with_parts d n s w) depth true t
   settled-shown n s x v w on moved shows put = record {
@@ -223,28 +223,28 @@ module _ (d : OpenDocument) (t : List ℕ) (h : HasArrived d t) (unset : d.fault
   }
 
 -- What was put together,
-pub parts-of : (shows : Bool) (old new : OpenDocument) (depth : ℕ) → IsSettled shows old new depth
-    → (w : OpenValue) × IsPutTogether w new.value depth
+pub parts-of : (shows : Bool) (old new : PartialDocument) (depth : ℕ) → IsSettled shows old new depth
+    → (w : PartialValue) × IsPutTogether w new.value depth
 parts-of false old new depth h = (old.value, h.2)
 parts-of true old new depth h = (h.1, h.4)
 
 -- and the text that was given back
-abbrev TextBack : Token → OpenDocument → OpenNumber → OpenString → Type 0
+abbrev TextBack : Token → PartialDocument → PartialNumber → PartialString → Type 0
 TextBack token.Number d n s = (n.stage ≡ d.number.stage) × (string_bytes n.text ≡ string_bytes d.number.text)
 TextBack token.Text d n s = s ≡ d.string
 TextBack other d n s = Unit {0}
 
-text-there : (k : Token) (d : OpenDocument) → TextBack k d d.number d.string
+text-there : (k : Token) (d : PartialDocument) → TextBack k d d.number d.string
 text-there token.Number d = (refl, refl)
 text-there token.Text d = refl
 text-there token.Nothing d = tt
 text-there token.Word d = tt
 text-there token.Key d = tt
 
-pub same-string : (a b : OpenString) → a.text ≡ b.text → a.escape ≡ b.escape → a ≡ b
+pub same-string : (a b : PartialString) → a.text ≡ b.text → a.escape ≡ b.escape → a ≡ b
 same-string a b text escape = ap₂ (λ x y. record { text = x; escape = y }) text escape
 
-text-back : (k : Token) (d : OpenDocument) (n back : OpenNumber) (s again : OpenString) (x y : JsonValue)
+text-back : (k : Token) (d : PartialDocument) (n back : PartialNumber) (s again : PartialString) (x y : JsonValue)
     → HasMoved k d n s x → y ≡ x
     → (k ≡ token.Number → (back.stage ≡ n.stage) × (string_bytes back.text ≡ shown_bytes y (string_bytes n.text)))
     → ((w : List ℕ) → k ≡ token.Text → view y ≡ string (text_of w)
@@ -262,7 +262,7 @@ text-back token.Word d n back s again x y moved is number text = tt
 text-back token.Key d n back s again x y moved is number text = tt
 
 -- All is held again.
-module _ (d : OpenDocument) (n : OpenNumber) (s : OpenString) (v : OpenValue) where
+module _ (d : PartialDocument) (n : PartialNumber) (s : PartialString) (v : PartialValue) where
   scalar-again : (k : Token) (w : List ℕ) → TextBack k d n s → HoldsScalar d k w → HoldsScalar (with_parts d n s v) k w
   scalar-again token.Word w b h = h
   scalar-again token.Number w b h = (
@@ -280,7 +280,7 @@ module _ (d : OpenDocument) (n : OpenNumber) (s : OpenString) (v : OpenValue) wh
   scalar-again token.Key w b h = absurd h
 
   taken-again : (t : List ℕ) (b : ℕ) (w : List ℕ) → TakenFrom d t b w → TakenFrom (with_parts d n s v) t b w
-  taken-again t b w h = record { front = h.front; is = h.is; begin = h.begin; place = h.place }
+  taken-again t b w h = record { prefix = h.prefix; is = h.is; begin = h.begin; place = h.place }
 
   holds-scalar : (t : List ℕ) (fs : List OpenFrame) (b : ℕ) → Holding d t (in_scalar fs b) → TextBack d.token d n s
       → IsLeft v (at_value awaits.Value fs) → HasRoomInside v.spine.items
@@ -288,7 +288,7 @@ module _ (d : OpenDocument) (n : OpenNumber) (s : OpenString) (v : OpenValue) wh
   holds-scalar t fs b h back left room =
       (h.0, taken-again t b h.0 h.1, scalar-again d.token h.0 back h.2, left, h.4, room)
 
-holds-plain : (d : OpenDocument) (v : OpenValue) (t : List ℕ) (o : Opened) → IsApartAs d.value v → Holding d t o
+holds-plain : (d : PartialDocument) (v : PartialValue) (t : List ℕ) (o : Opened) → IsApartAs d.value v → Holding d t o
     → Holding (with_parts d d.number d.string v) t o
 holds-plain d v t (between_tokens s) a h = (h.0, left-again d.value v a s h.1)
 holds-plain d v t (in_scalar fs b) a h =
@@ -304,8 +304,8 @@ holds-plain d v t (in_key fs ms b) a h = (
 )
 
 -- The bytes have arrived,
-arrived-again : (d : OpenDocument) (depth : ℕ) (shows : Bool) (t : List ℕ) (n : OpenNumber) (s : OpenString)
-    (v : OpenValue) (h : IsTogether d depth shows t) → Holding (with_parts d n s v) t h.opened
+arrived-again : (d : PartialDocument) (depth : ℕ) (shows : Bool) (t : List ℕ) (n : PartialNumber) (s : PartialString)
+    (v : PartialValue) (h : IsTogether d depth shows t) → Holding (with_parts d n s v) t h.opened
     → HasArrived (with_parts d n s v) t
 arrived-again d depth shows t n s v h held = record {
   read = record { opened = h.opened; known = known-parts anything d n s v t h.opened h.known; held = λ _. held };
@@ -313,8 +313,8 @@ arrived-again d depth shows t n s v h held = record {
 }
 
 -- where no scalar was shown,
-pub unsettled-plain : (d : OpenDocument) (depth : ℕ) (t : List ℕ) (v : OpenValue) → d.fault ≡ None
-    → IsTogether d depth false t → ((w : OpenValue) → IsPutTogether w d.value depth → IsApartAs w v)
+pub unsettled-plain : (d : PartialDocument) (depth : ℕ) (t : List ℕ) (v : PartialValue) → d.fault ≡ None
+    → IsTogether d depth false t → ((w : PartialValue) → IsPutTogether w d.value depth → IsApartAs w v)
     → HasArrived (with_parts d d.number d.string v) t
 unsettled-plain d depth t v unset h again =
     let k = h.held unset in
@@ -326,8 +326,8 @@ unsettled-plain d depth t v unset h again =
     (holds-plain k.apart v t h.opened (again k.apart.value k.settled.2) k.held))
 
 -- and where one was, which is taken back.
-module _ (d : OpenDocument) (depth : ℕ) (t : List ℕ) (unset : d.fault ≡ None) (h : IsTogether d depth true t)
-    (v : OpenValue) (again : (w : OpenValue) → IsPutTogether w d.value depth → IsApartAs w v) where
+module _ (d : PartialDocument) (depth : ℕ) (t : List ℕ) (unset : d.fault ≡ None) (h : IsTogether d depth true t)
+    (v : PartialValue) (again : (w : PartialValue) → IsPutTogether w d.value depth → IsApartAs w v) where
   hidden : HoldsTogether d depth true t h.opened
   hidden = h.held unset
 
@@ -345,7 +345,7 @@ module _ (d : OpenDocument) (depth : ℕ) (t : List ℕ) (unset : d.fault ≡ No
   pub has-value : (fs : List OpenFrame) × (x : Tree) × HasValue v.spine.items v.root fs x
   has-value = (inside.frames, view shows.0, stands)
 
-  pub unsettled-shown : (n : OpenNumber) (s : OpenString) (w : OpenValue) (y : JsonValue)
+  pub unsettled-shown : (n : PartialNumber) (s : PartialString) (w : PartialValue) (y : JsonValue)
       → ((x : JsonValue) → IsInPlace v.spine.items v.root x → y ≡ x)
       → ((fs : List OpenFrame) → (x : Tree) → HasValue v.spine.items v.root fs x
       → AwaitsPart w.spine.items fs × IsOfKey (text_view w.key) fs)

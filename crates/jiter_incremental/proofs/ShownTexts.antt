@@ -5,11 +5,11 @@ use Rattle.std.specs.Prelude.{slice_set}
 use Rattle.std.specs.Vec.{with_item}
 use Rattle.std.proofs.lemmas.List.{map_push, same_from_push}
 use Rattle.jiter_steps.specs.Tree.{Tree}
-use Rattle.jiter_incremental.specs.OpenValue.{IsPutTogether, IsShown}
+use Rattle.jiter_incremental.specs.PartialValue.{IsPutTogether, IsShown}
 use Rattle.jiter_incremental.specs.Replaced.{IsReplaced, StandsRound, with_root}
 use Rattle.jiter_incremental.specs.Spine.{HasValue, IsInPlace, IsInside, IsLastPart, OpenFrame, around, filled, parents_of}
 use Rattle.jiter_value.specs.Value.{view}
-use Rattle.jiter_incremental.specs.declared.open_value.OpenValue.{OpenValue}
+use Rattle.jiter_incremental.specs.declared.partial_value.PartialValue.{PartialValue}
 use Rattle.jiter_value.specs.declared.value.JsonValue.{JsonValue}
 use Rattle.jiter_incremental.proofs.Settled.{spine-length}
 use Rattle.jiter_incremental.proofs.Spines.{last-set, not-empty, stands-in-place}
@@ -18,7 +18,7 @@ inside-more : (n : ℕ) (x w root : JsonValue) → IsInside n w root → IsLastP
 inside-more zero x w root h l = (x, subst (IsLastPart x) (sym h) l, refl)
 inside-more (suc n) x w root h l = (h.0, h.1, inside-more n x w h.0 h.2 l)
 
-module _ (old shows now : OpenValue) (x : JsonValue) (depth : ℕ) (fs : List OpenFrame) (s : IsShown old shows x)
+module _ (old shows now : PartialValue) (x : JsonValue) (depth : ℕ) (fs : List OpenFrame) (s : IsShown old shows x)
     (put : IsPutTogether shows now depth) (value : HasValue shows.spine.items shows.root fs (view x)) where
   -- It stands as deep as there are open containers,
   deep-by : (gs : List OpenFrame) → HasValue shows.spine.items shows.root gs (view x) → depth ≡ length gs
@@ -45,7 +45,7 @@ module _ (old shows now : OpenValue) (x : JsonValue) (depth : ℕ) (fs : List Op
   -- Where it is replaced, the other is shown.
   module _ (root y : JsonValue) (r : IsReplaced depth now.root root y) (whole : view root ≡ filled fs (view y)) where
     abbrev ShownAgain : Type 0
-    ShownAgain = (v : OpenValue) × IsShown old v y × IsPutTogether v (with_root now root) depth
+    ShownAgain = (v : PartialValue) × IsShown old v y × IsPutTogether v (with_root now root) depth
 
     -- with no container
     module _ (none : shows.spine.items ≡ []) where
@@ -88,7 +88,7 @@ module _ (old shows now : OpenValue) (x : JsonValue) (depth : ℕ) (fs : List Op
       spine-is : spine ≡ before ++ z.0 ∷ []
       spine-is = last-set shows.spine.items before (length before) w z.0 all refl
 
-      abbrev again : OpenValue
+      abbrev again : PartialValue
       again = record {
         alloc = shows.alloc;
         awaits = shows.awaits;
@@ -107,10 +107,10 @@ module _ (old shows now : OpenValue) (x : JsonValue) (depth : ℕ) (fs : List Op
           ap (map view) spine-is ∙ map_push view before z.0
           ∙ ap₂ (λ (ts : List Tree) (t : Tree). ts ++ t ∷ []) was.0 (z.3 f (view x) was.1)
 
-      inner-place : (front : List JsonValue) (v : JsonValue) → spine ≡ front ++ v ∷ [] → IsInside (length front) v root
-      inner-place front v is =
-          let same = same_from_push before front z.0 v (sym spine-is ∙ is) in
-          subst (λ u. IsInside (length front) u root) same.1
+      inner-place : (prefix : List JsonValue) (v : JsonValue) → spine ≡ prefix ++ v ∷ [] → IsInside (length prefix) v root
+      inner-place prefix v is =
+          let same = same_from_push before prefix z.0 v (sym spine-is ∙ is) in
+          subst (λ u. IsInside (length prefix) u root) same.1
           (subst (λ ws. IsInside (length ws) z.0 root) same.0 z.1)
 
       inner-again : ShownAgain

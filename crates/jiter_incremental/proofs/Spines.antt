@@ -237,24 +237,24 @@ nothing-in : {X : Type 0} (xs : List X) → length xs ≡ 0 → xs ≡ []
 nothing-in [] h = refl
 nothing-in (x ∷ xs) h = absurd (omega (arith, h))
 
--- The parents in a spine, and the value behind them: what stands for a whole,
-pub record Behind (spine : List JsonValue) (value : JsonValue) (v : Tree) : Type 0 where
+-- The parents in a spine, and the value after them: what stands for a whole,
+pub record After (spine : List JsonValue) (value : JsonValue) (v : Tree) : Type 0 where
   pub frames : List OpenFrame
   pub parents : map view spine ≡ parents_of frames
   pub whole : v ≡ filled frames (view value)
 
 -- with the innermost container at its end,
-pub innermost-behind : (spine : List JsonValue) (value : JsonValue) (fs : List OpenFrame) (x : Tree)
+pub innermost-after : (spine : List JsonValue) (value : JsonValue) (fs : List OpenFrame) (x : Tree)
     → map view (spine ++ value ∷ []) ≡ spine_of fs x → (map view spine ≡ parents_of fs) × (view value ≡ x)
-innermost-behind spine value fs x h =
+innermost-after spine value fs x h =
     same_from_push (map view spine) (parents_of fs) (view value) x (sym (map_push view spine value) ∙ h)
 
-pub behind-of : (spine : List JsonValue) (value root : JsonValue) (v : Tree) → StandsFor (spine ++ value ∷ []) root v
-    → Behind spine value v
-behind-of spine value root v (inl h) =
+pub after-of : (spine : List JsonValue) (value root : JsonValue) (v : Tree) → StandsFor (spine ++ value ∷ []) root v
+    → After spine value v
+after-of spine value root v (inl h) =
     let long = length-append spine (value ∷ []) in absurd (omega (arith, ap length h.0, long))
-behind-of spine value root v (inr s) =
-    let same = innermost-behind spine value s.frames s.innermost s.apart in
+after-of spine value root v (inr s) =
+    let same = innermost-after spine value s.frames s.innermost s.apart in
     record { frames = s.frames; parents = same.0; whole = s.whole ∙ ap (filled s.frames) (sym same.1) }
 
 -- and once the value stands in its place.
@@ -351,7 +351,7 @@ pub innermost-begun : (fs : List OpenFrame) (spine : List JsonValue) (got : Json
 innermost-begun [] spine got n at g h = absurd (omega (arith, ap length h, at))
 innermost-begun (f ∷ fs) spine got n at g h =
     let i = innermost-of spine got n at g in
-    (f, (innermost-behind i.before got fs (begun f) (ap (map view) (sym i.all) ∙ h)).1)
+    (f, (innermost-after i.before got fs (begun f) (ap (map view) (sym i.all) ∙ h)).1)
 
 -- the spine is seen as it was, if it is;
 pub innermost-same : (spine : List JsonValue) (got new : JsonValue) (n : ℕ) → n + 1 ≡ length spine
@@ -382,7 +382,7 @@ pub goes-inside : (fs : List OpenFrame) (spine : List JsonValue) (root got new :
 goes-inside [] spine root got new k n x at g put h of = absurd (omega (arith, ap length h, at))
 goes-inside (f ∷ fs) spine root got new k n x at g put h of =
     let i = innermost-of spine got n at g in
-    let was = innermost-behind i.before got fs (begun f) (ap (map view) (sym i.all) ∙ h) in
+    let was = innermost-after i.before got fs (begun f) (ap (map view) (sym i.all) ∙ h) in
     rw (last-set spine i.before n got new i.all i.at)
     (map_push view i.before new ∙ ap₂ (λ ss y. ss ++ y ∷ []) was.0 (put f was.1 (key-of-first k f fs of)))
 
@@ -454,7 +454,7 @@ innermost-part (f ∷ fs) spine root got n x at g h =
     record {
       frame = f;
       part = x;
-      is = (innermost-behind i.before got fs (around f x) (ap (map view) (sym i.all) ∙ h)).1;
+      is = (innermost-after i.before got fs (around f x) (ap (map view) (sym i.all) ∙ h)).1;
     }
 
 -- and without it it is awaited again.
@@ -469,7 +469,7 @@ pub awaits-again : (fs : List OpenFrame) (spine : List JsonValue) (root got new 
 awaits-again [] spine root got new k n x at g without h = absurd (omega (arith, ap length h.0, at))
 awaits-again (f ∷ fs) spine root got new k n x at g without h =
     let i = innermost-of spine got n at g in
-    let was = innermost-behind i.before got fs (around f x) (ap (map view) (sym i.all) ∙ h) in
+    let was = innermost-after i.before got fs (around f x) (ap (map view) (sym i.all) ∙ h) in
     let now = without f x was.1 in
     let awaits : map view (slice_set spine n new) ≡ spine_of fs (begun f) =
     rw (last-set spine i.before n got new i.all i.at)

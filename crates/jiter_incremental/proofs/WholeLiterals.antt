@@ -16,12 +16,12 @@ use Rattle.jiter_steps.specs.Read.{array_of, done, follow, inside_at, object_of,
 use Rattle.jiter_steps.specs.Step.{closed, closer_of, container_first, opening, step}
 use Rattle.jiter_steps.specs.declared.parse.Literal.{Literal}
 use Rattle.jiter_steps.specs.declared.parse.Literal.TheVariants as literal
-use Rattle.jiter_steps.specs.declared.parse.Shape.{Shape}
-use Rattle.jiter_steps.specs.declared.parse.Shape.TheVariants as shape
+use Rattle.jiter_steps.specs.declared.parse.ContainerKind.{ContainerKind}
+use Rattle.jiter_steps.specs.declared.parse.ContainerKind.TheVariants as shape
 use Rattle.jiter_steps.specs.declared.parse.Start.TheVariants as start
 use Rattle.jiter_incremental.specs.Arrived.{owned}
-use Rattle.jiter_incremental.specs.OpenDocument.{IsScalarWithin}
-use Rattle.jiter_incremental.specs.OpenValue.{BeginsItem}
+use Rattle.jiter_incremental.specs.PartialDocument.{IsScalarWithin}
+use Rattle.jiter_incremental.specs.PartialValue.{BeginsItem}
 use Rattle.jiter_value.specs.Settings.{rules_as}
 use Rattle.jiter_value.specs.Stacks.{empty_tree}
 use Rattle.jiter_incremental.specs.declared.names.Name.TheVariants as name
@@ -72,8 +72,8 @@ literal-item c literal.Null h = let is : c ≡ 110 = grind (arith, nat_tests, h)
 literal-item c literal.True h = let is : c ≡ 116 = grind (arith, nat_tests, h) in subst BeginsItem (sym is) (refl, refl)
 literal-item c literal.False h = let is : c ≡ 102 = grind (arith, nat_tests, h) in subst BeginsItem (sym is) (refl, refl)
 
--- where its closer stands behind its bracket
-first-closes : (t : List ℕ) (j : ℕ) (h : Shape) → slice_get t j ≡ Some (closer_of h)
+-- where its closer stands after its bracket
+first-closes : (t : List ℕ) (j : ℕ) (h : ContainerKind) → slice_get t j ≡ Some (closer_of h)
     → step t (container_first h) j ≡ closed (j + 1)
 first-closes t j shape.Array here =
     let is = get_or_from_slice_get t j 93 0 here in
@@ -87,7 +87,7 @@ first-closes t j shape.Object here =
     ∙ ap (container_first shape.Object j) here
 
 -- it is read,
-empty-read : (p : Settings) (t : List ℕ) (depth b c : ℕ) → depth ≤ 200 → slice_get t b ≡ Some c → (h : Shape)
+empty-read : (p : Settings) (t : List ℕ) (depth b c : ℕ) → depth ≤ 200 → slice_get t b ≡ Some c → (h : ContainerKind)
     → start_of c ≡ opening h → slice_get t (b + 1) ≡ Some (closer_of h)
     → value_in (rules_as owned p) t depth b ≡ done (empty_tree h) (b + 1 + 1)
 empty-read p t depth b c few here shape.Array starts ends =
@@ -101,7 +101,7 @@ empty-read p t depth b c few here shape.Object starts ends =
     begins-so p t depth b c few here start.Object starts
     ∙ ap (follow r (parts_at r o t (length t) []) (λ e. o.build e [])) (first-closes t (b + 1) shape.Object ends)
 
-module _ (piece : List ℕ) (at : ℕ) (h : Shape) (starts : start_of (get_or piece at 0) ≡ opening h)
+module _ (piece : List ℕ) (at : ℕ) (h : ContainerKind) (starts : start_of (get_or piece at 0) ≡ opening h)
     (ends : slice_get piece (at + 1) ≡ Some (closer_of h)) where
   abbrev bracket : ℕ
   bracket = get_or piece at 0

@@ -4,19 +4,19 @@ use Rattle.jiter_scan.specs.Kind.{Kind, eof_object, eof_value}
 use Rattle.jiter_scan.specs.Scanned.{taken, failed}
 use Rattle.jiter_scan.specs.Word.{Extent}
 use Rattle.jiter_steps.specs.Frames.{resume, value_in, array_in, object_in, parts_step}
-use Rattle.jiter_steps.specs.Read.{Reading, done, fault, Rules, Container, front_answer}
+use Rattle.jiter_steps.specs.Read.{Reading, done, fault, Rules, Container, prefix_answer}
 use Rattle.jiter_steps.specs.Step.{Step, step, value_first, object_colon, container_first, container_comma, end_kind_of}
 use Rattle.jiter_steps.specs.Step.{container_step}
 use Rattle.jiter_steps.specs.Tree.{Text, Tree}
-use Rattle.jiter_steps.specs.declared.parse.Shape.{Shape}
-use Rattle.jiter_steps.specs.declared.parse.Shape.TheVariants as shape
+use Rattle.jiter_steps.specs.declared.parse.ContainerKind.{ContainerKind}
+use Rattle.jiter_steps.specs.declared.parse.ContainerKind.TheVariants as shape
 use Rattle.jiter_value.specs.Owned.{owned_text}
 use Rattle.jiter_value.specs.Settings.{Keeping, each, rules_as}
 use Rattle.jiter_incremental.specs.Spine.{OpenFrame, begun, filled, spine_of, AwaitsPart, IsOfKey}
 use Rattle.jiter_value.specs.Stacks.{PartTree, built}
 use Rattle.jiter_value.specs.Value.{view}
-use Rattle.jiter_incremental.specs.declared.open_value.Awaits.{Awaits}
-use Rattle.jiter_incremental.specs.declared.open_value.Awaits.TheVariants as awaits
+use Rattle.jiter_incremental.specs.declared.partial_value.Awaits.{Awaits}
+use Rattle.jiter_incremental.specs.declared.partial_value.Awaits.TheVariants as awaits
 use Rattle.jiter_value.specs.declared.settings.Settings.{Settings}
 use Rattle.jiter_value.specs.declared.value.JsonValue.{JsonValue}
 
@@ -25,7 +25,7 @@ use Rattle.jiter_value.specs.declared.value.JsonValue.{JsonValue}
 -- is whole, and ended so many bytes before.
 pub data Arrived : Type 0 where
   at_value : Awaits → List OpenFrame → Arrived
-  between_parts : Awaits → (h : Shape) → List (PartTree h) → List OpenFrame → Arrived
+  between_parts : Awaits → (h : ContainerKind) → List (PartTree h) → List OpenFrame → Arrived
   at_end : Tree → ℕ → Arrived
 
 -- the value so far, if there is one
@@ -74,12 +74,12 @@ module _ (r : Rules Text Tree) (t : List ℕ) where
   value_then depth (failed k j) = fault k j j
 
   -- what decides between the parts of a container
-  abbrev pub part_row : Awaits → Shape → ℕ → Option ℕ → Step
+  abbrev pub part_row : Awaits → ContainerKind → ℕ → Option ℕ → Step
   part_row awaits.First h = container_first h
   part_row awaits.Next h = container_comma h
   part_row a h = container_step h t
 
-  abbrev pub container_of : (h : Shape) → ℕ → Container (PartTree h) Tree
+  abbrev pub container_of : (h : ContainerKind) → ℕ → Container (PartTree h) Tree
   container_of shape.Array depth = array_in r t depth
   container_of shape.Object depth = object_in r t depth
 
@@ -94,7 +94,7 @@ module _ (r : Rules Text Tree) (t : List ℕ) where
 abbrev pub owned : Keeping
 owned = each owned_text
 
--- These bytes leave this open: whatever comes behind them completes it to the value that the whole begins with.
+-- These bytes leave this open: whatever comes after them completes it to the value that the whole begins with.
 pub record HasRead (p : Settings) (t : List ℕ) (s : Arrived) : Type 0 where
   pub goes : (u : List ℕ)
-      → front_answer (rules_as owned p) (t ++ u) ≡ leads_on (rules_as owned p) (t ++ u) s (length t)
+      → prefix_answer (rules_as owned p) (t ++ u) ≡ leads_on (rules_as owned p) (t ++ u) s (length t)

@@ -1,77 +1,77 @@
--- What the bytes of a document answer that have arrived so far, if the input ends behind them.
+-- What the bytes of a document answer that have arrived so far, if the input ends after them.
 use Rattle.std.specs.Prelude.{◌≡◌, ℕ, ◌&&◌, ◌||◌, Bool, true, false, not, if◌then◌else◌, List, length, string_bytes, Option, Some, None}
 use Rattle.std.specs.Prelude.{is_some}
 use Rattle.jiter_scan.specs.Kind.{Kind, eof_string, eof_value, fault_kind}
 use Rattle.jiter_scan.specs.Number.{number_value}
-use Rattle.jiter_scan.specs.OpenNumber.{is_whole}
+use Rattle.jiter_scan.specs.PartialNumber.{is_whole}
 use Rattle.jiter_scan.specs.PartialMode.{allows_trailing_strings}
 use Rattle.jiter_scan.specs.declared.errors.Fault.{Fault}
 use Rattle.jiter_steps.specs.Node.{number_tree}
-use Rattle.jiter_steps.specs.OpenString.{HasTaken, Wherever, text_or}
+use Rattle.jiter_steps.specs.PartialString.{HasTaken, Wherever, text_or}
 use Rattle.jiter_steps.specs.Read.{done, fault}
 use Rattle.jiter_steps.specs.StringReading.{content_at, kept}
 use Rattle.jiter_steps.specs.Tree.{Tree, string}
-use Rattle.jiter_steps.specs.declared.parse.Shape.TheVariants as shape
+use Rattle.jiter_steps.specs.declared.parse.ContainerKind.TheVariants as shape
 use Rattle.jiter_incremental.specs.Arrived.{Arrived, at_value, between_parts, end_of, owned}
-use Rattle.jiter_incremental.specs.OpenDocument.{Opened, between_tokens, in_key, in_scalar}
-use Rattle.jiter_incremental.specs.OpenValue.{behind_value, text_of}
+use Rattle.jiter_incremental.specs.PartialDocument.{Opened, between_tokens, in_key, in_scalar}
+use Rattle.jiter_incremental.specs.PartialValue.{after_value, text_of}
 use Rattle.jiter_value.specs.Owned.{owned_text, tree_as}
 use Rattle.jiter_value.specs.Settings.{answer_as}
-use Rattle.jiter_incremental.specs.declared.open_document.OpenDocument.{OpenDocument}
-use Rattle.jiter_incremental.specs.declared.open_document.Token.{Token}
-use Rattle.jiter_incremental.specs.declared.open_document.Token.TheVariants as token
-use Rattle.jiter_incremental.specs.declared.open_value.Awaits.TheVariants as awaits
+use Rattle.jiter_incremental.specs.declared.partial_document.PartialDocument.{PartialDocument}
+use Rattle.jiter_incremental.specs.declared.partial_document.Token.{Token}
+use Rattle.jiter_incremental.specs.declared.partial_document.Token.TheVariants as token
+use Rattle.jiter_incremental.specs.declared.partial_value.Awaits.TheVariants as awaits
 use Rattle.jiter_value.specs.declared.settings.Settings.{Settings}
 
 -- the scalar that is unfinished is a value where the input ends,
-abbrev pub shown_as : OpenDocument → Token → Bool
+abbrev pub shown_as : PartialDocument → Token → Bool
 shown_as d token.Number = is_whole d.number.stage
 shown_as d token.Text = allows_trailing_strings d.settings.mode && not d.string.text.broken
 shown_as d other = false
 
-abbrev pub is_shown : OpenDocument → Bool
+abbrev pub is_shown : PartialDocument → Bool
 is_shown d = shown_as d d.token
 
 -- and this one.
-abbrev pub token_tree : OpenDocument → Token → Tree
+abbrev pub token_tree : PartialDocument → Token → Tree
 token_tree d token.Number = tree_as owned_text (number_tree (number_value (string_bytes d.number.text)))
 token_tree d other = string (text_of d.string.text.text)
 
 -- What is left open with it: an unfinished scalar or key that is no value is dropped.
-abbrev pub so_far : OpenDocument → Opened → Arrived
+abbrev pub so_far : PartialDocument → Opened → Arrived
 so_far d (between_tokens s) = s
-so_far d (in_scalar fs b) = if is_shown d then behind_value (token_tree d d.token) fs else at_value awaits.Value fs
+so_far d (in_scalar fs b) = if is_shown d then after_value (token_tree d d.token) fs else at_value awaits.Value fs
 so_far d (in_key fs ms b) = between_parts awaits.Next shape.Object ms fs
 
 -- the string that is unfinished is kept, and is no text
-abbrev pub broken_as : OpenDocument → Token → Bool
+abbrev pub broken_as : PartialDocument → Token → Bool
 broken_as d token.Text = allows_trailing_strings d.settings.mode && d.string.text.broken
 broken_as d other = false
 
-abbrev pub is_broken : OpenDocument → Bool
+abbrev pub is_broken : PartialDocument → Bool
 is_broken d = broken_as d d.token
 
 -- The fault where the input ends and nothing is forgiven, unless the value is whole there
-abbrev pub kind_as : OpenDocument → Token → Opened → Option Kind
+abbrev pub kind_as : PartialDocument → Token → Opened → Option Kind
 kind_as d token.Word o = Some eof_value
 kind_as d token.Text o = Some eof_string
 kind_as d token.Key o = Some eof_string
 kind_as d token.Number (in_scalar fs b) =
-    if is_whole d.number.stage then end_of (behind_value (token_tree d token.Number) fs) else Some eof_value
+    if is_whole d.number.stage then end_of (after_value (token_tree d token.Number) fs) else Some eof_value
 kind_as d token.Number other = None
 kind_as d token.Nothing (between_tokens s) = end_of s
 kind_as d token.Nothing other = None
 
-abbrev pub kind_at_end : OpenDocument → Opened → Option Kind
+abbrev pub kind_at_end : PartialDocument → Opened → Option Kind
 kind_at_end d o = kind_as d d.token o
 
 -- That fault, where the bytes end
-abbrev pub IsEndFault : OpenDocument → Option Kind → Option Fault → Type 0
+abbrev pub IsEndFault : PartialDocument → Option Kind → Option Fault → Type 0
 IsEndFault d k None = k ≡ None
 IsEndFault d k (Some f) = (k ≡ Some (fault_kind f.kind)) × (f.index ≡ d.position)
 
--- Where the input ends in the string that is kept, it is its characters so far, or a byte behind them is wrong.
-abbrev pub KeepsText : OpenDocument → Type 0
+-- Where the input ends in the string that is kept, it is its characters so far, or a byte after them is wrong.
+abbrev pub KeepsText : PartialDocument → Type 0
 KeepsText d =
     d.token ≡ token.Text → allows_trailing_strings d.settings.mode ≡ true → (w : List ℕ) (h : HasTaken d.string w)
     → Wherever w (λ t i j. length t ≡ j

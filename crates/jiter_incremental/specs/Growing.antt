@@ -1,13 +1,13 @@
 -- A piece that begins within a string or a key.
 use Rattle.std.specs.Prelude.{◌≡◌, ℕ, Option, Some, None}
 use Rattle.jiter_scan.specs.declared.errors.Fault.{Fault}
-use Rattle.jiter_steps.specs.OpenString.{IsEven}
+use Rattle.jiter_steps.specs.PartialString.{IsEven}
 use Rattle.jiter_incremental.specs.DocumentStrings.{IsOfString}
-use Rattle.jiter_incremental.specs.declared.arriving.Settled.{Settled}
-use Rattle.jiter_incremental.specs.declared.open_document.OpenDocument.{OpenDocument}
+use Rattle.jiter_incremental.specs.declared.incremental_parser.Settled.{Settled}
+use Rattle.jiter_incremental.specs.declared.partial_document.PartialDocument.{PartialDocument}
 
 -- A string or a key is unfinished, and its bytes so far are whole characters and whole escapes.
-abbrev pub IsGrowing : OpenDocument → Type 0
+abbrev pub IsGrowing : PartialDocument → Type 0
 IsGrowing d = (d.fault ≡ None) × IsOfString d.token × IsEven d.string
 
 -- the fault of the end, if one is told, where the bytes end now

@@ -1,13 +1,13 @@
 pub mod Spine
 pub mod Arrived
-pub mod OpenValue
+pub mod PartialValue
 pub mod Replaced
 pub mod Names
-pub mod OpenDocument
+pub mod PartialDocument
 pub mod DocumentStrings
 pub mod DocumentEnds
 pub mod Together
 pub mod Growing
-pub mod Arriving
-pub mod LineFeeds
+pub mod IncrementalParser
+pub mod LineIndex
 pub mod Caller

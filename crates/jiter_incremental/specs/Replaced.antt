@@ -1,10 +1,10 @@
 -- A text inside open containers that are together, each the last part of the next, and another one in its place.
 use Rattle.std.specs.Prelude.{◌≡◌, ℕ, ◌+◌, List, length}
 use Rattle.jiter_steps.specs.Tree.{Tree, string}
-use Rattle.jiter_incremental.specs.OpenValue.{text_of}
+use Rattle.jiter_incremental.specs.PartialValue.{text_of}
 use Rattle.jiter_incremental.specs.Spine.{IsInside, IsLastPart, OpenFrame, around, filled}
 use Rattle.jiter_value.specs.Value.{view}
-use Rattle.jiter_incremental.specs.declared.open_value.OpenValue.{OpenValue}
+use Rattle.jiter_incremental.specs.declared.partial_value.PartialValue.{PartialValue}
 use Rattle.jiter_value.specs.declared.value.JsonValue.{JsonValue}
 
 -- a text of these bytes stands so many containers deep
@@ -28,5 +28,5 @@ abbrev pub HasReplaced : ℕ → JsonValue → JsonValue → List ℕ → Type 0
 HasReplaced n old new w = (x : JsonValue) × (view x ≡ string (text_of w)) × IsReplaced n old new x
 
 -- the same value, with this root
-abbrev pub with_root : OpenValue → JsonValue → OpenValue
+abbrev pub with_root : PartialValue → JsonValue → PartialValue
 with_root v root = record { alloc = v.alloc; awaits = v.awaits; spine = v.spine; root = root; key = v.key }

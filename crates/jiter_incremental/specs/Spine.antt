@@ -1,4 +1,4 @@
--- The open containers of a document that arrives in pieces: inside each other, and one behind the other.
+-- The open containers of a document that arrives in pieces: inside each other, and one after the other.
 use Rattle.std.specs.Prelude.{◌≡◌, ◌⊎◌, ℕ, zero, suc, ◌+◌, ◌<◌, List, [], ◌∷◌, ◌++◌, length, map, vec_len, vec_capacity}
 use Rattle.std.specs.declared.alloc.Global.{Global}
 use Rattle.std.specs.declared.borrow.CowStr.{CowStr}
@@ -13,7 +13,7 @@ use Rattle.jiter_value.specs.declared.value.JsonValue.TheOpen.{JsonValue-F}
 abbrev pub OpenFrame : Type 0
 OpenFrame = Frame Text Tree
 
--- its value so far, and with the part that it awaits behind the others
+-- its value so far, and with the part that it awaits after the others
 abbrev pub begun : OpenFrame → Tree
 begun (items_frame xs) = array (items_of xs)
 begun (members_frame ms k) = object (members_of ms)
@@ -27,7 +27,7 @@ abbrev pub filled : List OpenFrame → Tree → Tree
 filled [] x = x
 filled (f ∷ fs) x = filled fs (around f x)
 
--- the same one behind the other, the outermost first: each with a null in the place of the one inside it; then x
+-- the same one after the other, the outermost first: each with a null in the place of the one inside it; then x
 abbrev pub parents_of : List OpenFrame → List Tree
 parents_of [] = []
 parents_of (f ∷ fs) = parents_of fs ++ around f null ∷ []
@@ -48,7 +48,7 @@ pub record IsOpen (depth : ℕ) (v : Tree) : Type 0 where
   pub deep : depth ≡ length frames + 1
   pub whole : v ≡ filled frames innermost
 
--- these open containers, one behind the other, are this value
+-- these open containers, one after the other, are this value
 pub record IsSpine (spine : List Tree) (v : Tree) : Type 0 where
   pub frames : List OpenFrame
   pub innermost : Tree
@@ -59,12 +59,12 @@ pub record IsSpine (spine : List Tree) (v : Tree) : Type 0 where
 abbrev pub StandsFor : List JsonValue → JsonValue → Tree → Type 0
 StandsFor spine root v = ((spine ≡ []) × (view root ≡ v)) ⊎ IsSpine (map view spine) v
 
--- Inside these open containers, one behind the other, stands x: as the last part of the innermost, or as the root.
+-- Inside these open containers, one after the other, stands x: as the last part of the innermost, or as the root.
 abbrev pub HasValue : List JsonValue → JsonValue → List OpenFrame → Tree → Type 0
 HasValue spine root [] x = (spine ≡ []) × (view root ≡ x)
 HasValue spine root (f ∷ fs) x = map view spine ≡ spine_of fs (around f x)
 
--- A part is awaited inside these open containers: they stand one behind the other, the innermost as it is so far;
+-- A part is awaited inside these open containers: they stand one after the other, the innermost as it is so far;
 abbrev pub AwaitsPart : List JsonValue → List OpenFrame → Type 0
 AwaitsPart spine [] = spine ≡ []
 AwaitsPart spine (f ∷ fs) = map view spine ≡ spine_of fs (begun f)

@@ -6,20 +6,20 @@ ghost use Rattle.jiter_scan.specs.PartialMode.{allows_trailing_strings};
 ghost use Rattle.jiter_scan.specs.Ascii.{quote};
 ghost use Rattle.jiter_steps.specs.Tree.{Text, Tree, members_of, object, string};
 ghost use Rattle.jiter_incremental.specs.DocumentStrings.{IsKeyAs, IsOfString, IsTextAs};
-ghost use Rattle.jiter_incremental.specs.OpenDocument.{Follows, HasTakenIn, Holding};
-ghost use Rattle.jiter_incremental.specs.OpenDocument.{IsInString};
-ghost use Rattle.jiter_incremental.specs.OpenDocument.{Known, Next, Opened, Stays};
-ghost use Rattle.jiter_incremental.specs.OpenDocument.{StaysSo, Takes, in_key};
-ghost use Rattle.jiter_incremental.specs.OpenValue.{text_of};
+ghost use Rattle.jiter_incremental.specs.PartialDocument.{Follows, HasTakenIn, Holding};
+ghost use Rattle.jiter_incremental.specs.PartialDocument.{IsInString};
+ghost use Rattle.jiter_incremental.specs.PartialDocument.{Known, Next, Opened, Stays};
+ghost use Rattle.jiter_incremental.specs.PartialDocument.{StaysSo, Takes, in_key};
+ghost use Rattle.jiter_incremental.specs.PartialValue.{text_of};
 ghost use Rattle.jiter_incremental.specs.Spine.{OpenFrame, spine_of};
 ghost use Rattle.jiter_value.specs.Value.{view};
-ghost use Rattle.jiter_incremental.specs.declared.open_document.Token.{Token};
-ghost use Rattle.jiter_incremental.specs.declared.open_value.Awaits.{Awaits};
+ghost use Rattle.jiter_incremental.specs.declared.partial_document.Token.{Token};
+ghost use Rattle.jiter_incremental.specs.declared.partial_value.Awaits.{Awaits};
 
-use crate::open_document::{OpenDocument, Token};
+use crate::partial_document::{PartialDocument, Token};
 use jiter_scan::errors::FaultKind;
-use jiter_scan::memory::Refused;
-use jiter_steps::open_string::Went as StringWent;
+use jiter_scan::memory::AllocFailed;
+use jiter_steps::partial_string::Went as StringWent;
 use jiter_value::value::JsonValue;
 use std::borrow::CowStr;
 
@@ -30,7 +30,7 @@ pub(crate) fn text_value(text: String) -> JsonValue<'static>
     JsonValue::Str(CowStr::Owned(text))
 }
 
-impl OpenDocument {
+impl PartialDocument {
     // An unfinished key is never kept.
     fn keeps(&self) -> bool
         ensures text { self.now.token ≡ Token.Text → result ≡ allows_trailing_strings self.now.settings.mode }
@@ -92,7 +92,7 @@ impl OpenDocument {
     }
 
     // A wrong byte counts as taken: the error is final.
-    pub(crate) fn take_string(&mut self, piece: &[u8], at: usize) -> Result<usize, Refused>
+    pub(crate) fn take_string(&mut self, piece: &[u8], at: usize) -> Result<usize, AllocFailed>
         requires within { at < length piece.now }
         requires token { IsInString self.old }
         ensures taken { IfOk result (λ n. Takes self.old self.new (slice_range piece.now at (at + n))) }

@@ -4,12 +4,12 @@ ghost use Rattle.jiter_scan.specs.Kind.{fault_kind};
 ghost use Rattle.jiter_scan.specs.PartialMode.{is_active};
 ghost use Rattle.jiter_incremental.specs.Arrived.{shown};
 ghost use Rattle.jiter_incremental.specs.DocumentEnds.{AnswersSo, IsEndFault, KeepsText, is_broken, is_shown, kind_at_end, so_far};
-ghost use Rattle.jiter_incremental.specs.OpenDocument.{HasArrived, strictly};
+ghost use Rattle.jiter_incremental.specs.PartialDocument.{HasArrived, strictly};
 
-use crate::open_document::{OpenDocument, Token};
+use crate::partial_document::{PartialDocument, Token};
 use jiter_scan::errors::{Fault, FaultKind, fault_at};
 
-impl OpenDocument {
+impl PartialDocument {
     /// Returns whether the unfinished scalar is a value if the input ends here.
     pub fn is_shown(&self) -> bool
         ensures { result ≡ is_shown self.now }

@@ -2,13 +2,13 @@
 //! assembled.
 ghost use Rattle.std.specs.Prelude.{◌≡◌, ◌+◌, ◌^◌, ◌<◌, ◌≤◌, ◌++◌, List, OnErr, OnOk, false, length, take, true, ℕ};
 ghost use Rattle.jiter_scan.specs.Scan.{Pass, is_plain_ascii};
-ghost use Rattle.jiter_incremental.specs.Arriving.{HasReceived, received};
+ghost use Rattle.jiter_incremental.specs.IncrementalParser.{HasReceived, received};
 ghost use Rattle.jiter_incremental.specs.Growing.{IsGrowing, moved_to, with_end};
 
-use crate::arriving::Settled;
-use crate::open_document::{OpenDocument, Token};
+use crate::incremental_parser::Settled;
+use crate::partial_document::{PartialDocument, Token};
 use jiter_scan::errors::Fault;
-use jiter_scan::memory::Refused;
+use jiter_scan::memory::AllocFailed;
 use jiter_scan::simd::scan_string;
 
 // A longer chunk isn't scanned for the fast path. To separate the value costs little compared with reading such a
@@ -39,7 +39,7 @@ pub(crate) fn is_plain(piece: &[u8]) -> bool
     low && stop == piece.len()
 }
 
-impl OpenDocument {
+impl PartialDocument {
     pub(crate) fn is_growing(&self) -> bool
         ensures { result ≡ true → IsGrowing self.now }
     {
@@ -73,7 +73,7 @@ impl Settled {
 
     // After complete characters and escapes, plain bytes are appended without decoding.
     #[inline(always)]
-    pub(crate) fn grow(&mut self, piece: &[u8]) -> Result<(), Refused>
+    pub(crate) fn grow(&mut self, piece: &[u8]) -> Result<(), AllocFailed>
         requires received { (t : List ℕ) × HasReceived (received self.old) t }
         requires growing { self.old.growing ≡ true }
         requires plain { Pass is_plain_ascii piece.now }

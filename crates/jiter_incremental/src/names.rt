@@ -1,12 +1,12 @@
 //! The words that are values: the literals (RFC 8259, 3) and the non-finite numbers.
 ghost use Rattle.std.specs.Prelude.{◌≡◌, IfOk};
 ghost use Rattle.jiter_steps.specs.Tree.{float};
-ghost use Rattle.jiter_incremental.specs.OpenValue.{text_of};
+ghost use Rattle.jiter_incremental.specs.PartialValue.{text_of};
 ghost use Rattle.jiter_incremental.specs.Names.{name_tree, name_word};
 ghost use Rattle.jiter_value.specs.Value.{view};
 
-use jiter_scan::memory::{Refused, copy_text};
-use jiter_scan::open_word::OpenWord;
+use jiter_scan::memory::{AllocFailed, copy_text};
+use jiter_scan::partial_word::PartialWord;
 use jiter_steps::parse::Literal;
 use jiter_value::value::JsonValue;
 use std::alloc::Global;
@@ -25,7 +25,7 @@ pub enum Name {
     MinusInfinity,
 }
 
-fn float(alloc: Global, name: &str) -> Result<JsonValue<'static>, Refused>
+fn float(alloc: Global, name: &str) -> Result<JsonValue<'static>, AllocFailed>
     ensures { IfOk result (λ v. view v ≡ float (text_of name.now)) }
 {
     let text = copy_text(alloc, name)?;
@@ -45,22 +45,22 @@ pub(crate) fn literal_value(literal: Literal) -> JsonValue<'static>
 
 impl Name {
     /// Returns the word with its first byte taken.
-    pub fn begun(self) -> OpenWord
+    pub fn begun(self) -> PartialWord
         ensures word { result.word.now ≡ name_word self }
         ensures seen { result.seen ≡ 1 }
     {
         match self {
-            Name::Literal(Literal::Null) => OpenWord::begun(b"null"),
-            Name::Literal(Literal::True) => OpenWord::begun(b"true"),
-            Name::Literal(Literal::False) => OpenWord::begun(b"false"),
-            Name::NaN => OpenWord::begun(b"NaN"),
-            Name::Infinity => OpenWord::begun(b"Infinity"),
-            Name::MinusInfinity => OpenWord::begun(b"Infinity"),
+            Name::Literal(Literal::Null) => PartialWord::begun(b"null"),
+            Name::Literal(Literal::True) => PartialWord::begun(b"true"),
+            Name::Literal(Literal::False) => PartialWord::begun(b"false"),
+            Name::NaN => PartialWord::begun(b"NaN"),
+            Name::Infinity => PartialWord::begun(b"Infinity"),
+            Name::MinusInfinity => PartialWord::begun(b"Infinity"),
         }
     }
 
     /// Returns the value; a non-finite number owns its source text.
-    pub fn value(self, alloc: Global) -> Result<JsonValue<'static>, Refused>
+    pub fn value(self, alloc: Global) -> Result<JsonValue<'static>, AllocFailed>
         ensures { IfOk result (λ v. view v ≡ name_tree self) }
     {
         match self {

@@ -9,7 +9,7 @@ ghost use Rattle.jiter_steps.specs.Read.{done};
 ghost use Rattle.jiter_steps.specs.StringDecoder.{text_view};
 ghost use Rattle.jiter_steps.specs.Tree.{Text, Tree, string};
 ghost use Rattle.jiter_incremental.specs.Arrived.{Arrived, HasRead, Holds, shown};
-ghost use Rattle.jiter_incremental.specs.OpenValue.{text_of};
+ghost use Rattle.jiter_incremental.specs.PartialValue.{text_of};
 ghost use Rattle.jiter_value.specs.Owned.{owned_tree};
 ghost use Rattle.jiter_value.specs.Parses.{reading_as};
 ghost use Rattle.jiter_incremental.specs.Replaced.{HasReplaced, HoldsTextInside};
@@ -21,12 +21,12 @@ ghost use Rattle.jiter_value.specs.Stacks.{Member, empty_tree};
 ghost use Rattle.jiter_value.specs.Value.{view};
 ghost use Rattle.std.specs.declared.alloc.Global.{Global};
 ghost use Rattle.std.specs.declared.borrow.CowStr.{CowStr as CowStrView};
-ghost use Rattle.jiter_incremental.specs.declared.open_value.Awaits.{Awaits};
+ghost use Rattle.jiter_incremental.specs.declared.partial_value.Awaits.{Awaits};
 ghost use Rattle.jiter_value.specs.declared.settings.Settings.{Settings};
 ghost use Rattle.jiter_value.specs.declared.value.JsonValue.{JsonValue as JsonValueView, out-JsonValue};
 
-use jiter_scan::memory::{Refused, make_room, push_ascii};
-use jiter_steps::parse::Shape;
+use jiter_scan::memory::{AllocFailed, make_room, push_ascii};
+use jiter_steps::parse::ContainerKind;
 use jiter_value::value::{JsonArray, JsonObject, JsonValue};
 use std::alloc::Global;
 use std::borrow::CowStr;
@@ -144,7 +144,7 @@ pub fn put_together<'j>(spine: &mut Vec<JsonValue<'j>>, root: &mut JsonValue<'j>
 }
 
 #[inline(always)]
-fn widen<'j>(container: &mut JsonValue<'j>) -> Result<(), Refused>
+fn widen<'j>(container: &mut JsonValue<'j>) -> Result<(), AllocFailed>
     requires { (f : OpenFrame) × (view container.old ≡ begun f) }
     ensures same { view container.new ≡ view container.old }
     ensures room { OnOk result (IsRoomy (out-JsonValue container.new)) }
@@ -158,7 +158,7 @@ fn widen<'j>(container: &mut JsonValue<'j>) -> Result<(), Refused>
 
 /// Reserves capacity for one more item or member of the innermost container, if one is open.
 #[inline(always)]
-pub fn make_room_inside<'j>(spine: &mut Vec<JsonValue<'j>>) -> Result<(), Refused>
+pub fn make_room_inside<'j>(spine: &mut Vec<JsonValue<'j>>) -> Result<(), AllocFailed>
     requires { (fs : List OpenFrame) × AwaitsPart spine.old.items fs }
     ensures same { map view spine.new.items ≡ map view spine.old.items }
     ensures room { OnOk result (HasRoomInside spine.new.items) }
@@ -215,12 +215,12 @@ pub fn put<'j>(
 
 /// Returns an empty container. Does not allocate.
 #[inline(always)]
-pub fn empty<'j>(alloc: Global, shape: Shape) -> JsonValue<'j>
+pub fn empty<'j>(alloc: Global, shape: ContainerKind) -> JsonValue<'j>
     ensures { view result ≡ empty_tree shape }
 {
     match shape {
-        Shape::Array => JsonValue::Array(Vec::new(alloc)),
-        Shape::Object => JsonValue::Object(Vec::new(alloc)),
+        ContainerKind::Array => JsonValue::Array(Vec::new(alloc)),
+        ContainerKind::Object => JsonValue::Object(Vec::new(alloc)),
     }
 }
 
@@ -231,8 +231,8 @@ pub fn open_container<'j>(
     spine: &mut Vec<JsonValue<'j>>,
     root: &mut JsonValue<'j>,
     key: &mut CowStr<'j>,
-    shape: Shape,
-) -> Result<(), Refused>
+    shape: ContainerKind,
+) -> Result<(), AllocFailed>
     requires { (fs : List OpenFrame) × AwaitsPart spine.old.items fs }
     ensures spine { (fs : List OpenFrame) → AwaitsPart spine.old.items fs → IsOfKey (text_view key.old) fs
         → OnOk result (map view spine.new.items ≡ spine_of fs (empty_tree shape)) }
@@ -291,7 +291,7 @@ pub fn take_back<'j>(
 
 // Bytes below 80 hex need no UTF-8 check.
 #[inline(always)]
-fn append_here(value: &mut JsonValue<'static>, bytes: &[u8]) -> Result<(), Refused>
+fn append_here(value: &mut JsonValue<'static>, bytes: &[u8]) -> Result<(), AllocFailed>
     requires text { (w : List ℕ) × (view value.old ≡ string (text_of w)) }
     requires ascii { IsAscii bytes.now }
     ensures ok { (w : List ℕ) → view value.old ≡ string (text_of w)
@@ -308,7 +308,11 @@ fn append_here(value: &mut JsonValue<'static>, bytes: &[u8]) -> Result<(), Refus
 
 /// Appends bytes below 80 hex to the string that is `depth` containers deep in the root. Each container is the last
 /// item or member of the one outside it. If an allocation fails, the string is unchanged.
-pub fn append_text(root: &mut JsonValue<'static>, depth: usize, bytes: &[u8]) -> Result<(), Refused>
+pub fn append_text(
+    root: &mut JsonValue<'static>,
+    depth: usize,
+    bytes: &[u8],
+) -> Result<(), AllocFailed>
     requires text { (w : List ℕ) × HoldsTextInside depth root.old w }
     requires ascii { IsAscii bytes.now }
     ensures ok { (w : List ℕ) → HoldsTextInside depth root.old w

@@ -1,17 +1,17 @@
 //! Assembles the value so far between two chunks, and separates its open containers again.
 ghost use Rattle.std.specs.Prelude.{◌≡◌, List, None, Some, string_bytes, true, ℕ};
-ghost use Rattle.jiter_scan.specs.OpenNumber.{IsBegun, kept_bytes};
-ghost use Rattle.jiter_steps.specs.OpenText.{with_text};
+ghost use Rattle.jiter_scan.specs.PartialNumber.{IsBegun, kept_bytes};
+ghost use Rattle.jiter_steps.specs.PartialText.{with_text};
 ghost use Rattle.jiter_steps.specs.Tree.{Tree, string};
 ghost use Rattle.jiter_incremental.specs.Arrived.{shown};
 ghost use Rattle.jiter_incremental.specs.DocumentEnds.{is_shown, so_far, token_tree};
-ghost use Rattle.jiter_incremental.specs.OpenDocument.{HasArrived, StaysSo};
-ghost use Rattle.jiter_incremental.specs.OpenValue.{text_of};
+ghost use Rattle.jiter_incremental.specs.PartialDocument.{HasArrived, StaysSo};
+ghost use Rattle.jiter_incremental.specs.PartialValue.{text_of};
 ghost use Rattle.jiter_incremental.specs.Together.{HasMoved, IsTogether, owned_bytes, shown_bytes, with_parts};
 ghost use Rattle.jiter_value.specs.Value.{view};
 
-use crate::open_document::{OpenDocument, Token, number_value};
-use jiter_scan::open_number::OwnNumber;
+use crate::partial_document::{PartialDocument, Token, number_value};
+use jiter_scan::partial_number::OwnNumber;
 use jiter_value::value::JsonValue;
 use std::alloc::Global;
 use std::borrow::CowStr;
@@ -50,7 +50,7 @@ fn own_text(alloc: Global, value: JsonValue<'static>) -> String
     }
 }
 
-impl OpenDocument {
+impl PartialDocument {
     // Moves the source text or the string into the value, so nothing is copied.
     fn take_shown(&mut self) -> JsonValue<'static>
         requires shown { is_shown self.old ≡ true }
@@ -101,7 +101,7 @@ impl OpenDocument {
         (self.value.put_together(), true)
     }
 
-    /// Undoes [`settle`](OpenDocument::settle), given what it returned.
+    /// Undoes [`settle`](PartialDocument::settle), given what it returned.
     pub fn unsettle(&mut self, depth: usize, shown: bool)
         requires together { (t : List ℕ) × IsTogether self.old depth shown t }
         requires unset { self.old.fault ≡ None }

@@ -4,38 +4,38 @@ ghost use Rattle.std.specs.Prelude.{◌≡◌, ◌+◌, ◌-◌, ◌^◌, ◌<�
 ghost use Rattle.std.specs.Prelude.{None, Some, false, slice_get, slice_index, slice_range, string_bytes, true, ℕ};
 ghost use Rattle.std.specs.Str.{IsAscii};
 ghost use Rattle.jiter_scan.specs.NumberDecoder.{number_view};
-ghost use Rattle.jiter_scan.specs.OpenNumber.{BeginsThere, HoldsNumber, begins_decimal};
+ghost use Rattle.jiter_scan.specs.PartialNumber.{BeginsThere, HoldsNumber, begins_decimal};
 ghost use Rattle.jiter_steps.specs.Literal.{start_of};
 ghost use Rattle.jiter_steps.specs.Node.{number_tree};
 ghost use Rattle.jiter_steps.specs.Step.{closer_of, opening};
 ghost use Rattle.jiter_steps.specs.Tree.{float, int};
-ghost use Rattle.jiter_steps.specs.OpenString.{IsTextWithin};
+ghost use Rattle.jiter_steps.specs.PartialString.{IsTextWithin};
 ghost use Rattle.jiter_steps.specs.declared.parse.Start.{Start};
-ghost use Rattle.jiter_incremental.specs.OpenDocument.{BeginsHere, EndsBefore, HasArrived, HasTakenIn, IsIn};
-ghost use Rattle.jiter_incremental.specs.OpenDocument.{IsNumberWithin, IsScalarWithin};
-ghost use Rattle.jiter_incremental.specs.OpenDocument.{Meets, MeetsBehind, Stays, StaysSo, Takes, anything};
-ghost use Rattle.jiter_incremental.specs.OpenValue.{AwaitsValue, BeginsItem, IsEnding};
+ghost use Rattle.jiter_incremental.specs.PartialDocument.{BeginsHere, EndsBefore, HasArrived, HasTakenIn, IsIn};
+ghost use Rattle.jiter_incremental.specs.PartialDocument.{IsNumberWithin, IsScalarWithin};
+ghost use Rattle.jiter_incremental.specs.PartialDocument.{Meets, MeetsAfter, Stays, StaysSo, Takes, anything};
+ghost use Rattle.jiter_incremental.specs.PartialValue.{AwaitsValue, BeginsItem, IsEnding};
 ghost use Rattle.jiter_value.specs.Owned.{owned_text, tree_as};
 ghost use Rattle.jiter_incremental.specs.Spine.{HasRoomInside, OpenFrame};
 ghost use Rattle.jiter_value.specs.Value.{view};
-ghost use Rattle.jiter_incremental.specs.declared.open_document.Token.{Token};
-ghost use Rattle.jiter_incremental.specs.declared.open_value.Awaits.{Awaits};
-ghost use Rattle.jiter_incremental.specs.declared.open_value.Went.{Went};
+ghost use Rattle.jiter_incremental.specs.declared.partial_document.Token.{Token};
+ghost use Rattle.jiter_incremental.specs.declared.partial_value.Awaits.{Awaits};
+ghost use Rattle.jiter_incremental.specs.declared.partial_value.Went.{Went};
 
 use crate::document_strings::text_value;
 use crate::names::literal_value;
-use crate::open_document::{OpenDocument, Token, begins_decimal};
-use crate::open_value::Went;
+use crate::partial_document::{PartialDocument, Token, begins_decimal};
+use crate::partial_value::Went;
 use crate::spine::empty;
-use jiter_scan::memory::{Refused, copy_text};
+use jiter_scan::memory::{AllocFailed, copy_text};
 use jiter_scan::number_within::{ShortWithin, number_within, short_within};
-use jiter_scan::open_number::{Stage, begun_at};
+use jiter_scan::partial_number::{Stage, begun_at};
 use jiter_scan::text::ascii_text;
 use jiter_scan::{NumberAny, NumberInt};
 use jiter_steps::blank::past_blanks;
-use jiter_steps::open_string::text_within;
-use jiter_steps::parse::{Literal, Shape, Start, start_of};
-use jiter_steps::plain::plain_literal_end;
+use jiter_steps::parse::{ContainerKind, Literal, Start, start_of};
+use jiter_steps::partial_string::text_within;
+use jiter_steps::plain::fast_literal_end;
 use jiter_value::value::JsonValue;
 use std::alloc::Global;
 use std::borrow::CowStr;
@@ -44,7 +44,7 @@ use std::borrow::CowStr;
 const SHORT_REACH: usize = 17;
 
 // The source text is copied: the value outlives the chunk.
-fn number_value(alloc: Global, number: NumberAny<'_>) -> Result<JsonValue<'static>, Refused>
+fn number_value(alloc: Global, number: NumberAny<'_>) -> Result<JsonValue<'static>, AllocFailed>
     ensures { IfOk result (λ v.
         view v ≡ tree_as owned_text (number_tree (number_view number.entry))) }
 {
@@ -68,7 +68,7 @@ fn int_value(number: i64) -> JsonValue<'static>
     JsonValue::Int(number)
 }
 
-fn float_value(alloc: Global, bytes: &[u8]) -> Result<JsonValue<'static>, Refused>
+fn float_value(alloc: Global, bytes: &[u8]) -> Result<JsonValue<'static>, AllocFailed>
     requires { IsAscii bytes.now }
     ensures { IfOk result (λ v. view v ≡ float (owned_text (record { owned = false; bytes = bytes.now }))) }
 {
@@ -77,16 +77,16 @@ fn float_value(alloc: Global, bytes: &[u8]) -> Result<JsonValue<'static>, Refuse
 }
 
 #[inline(always)]
-fn closes_at(piece: &[u8], at: usize, shape: Shape) -> bool
+fn closes_at(piece: &[u8], at: usize, shape: ContainerKind) -> bool
     ensures { result ≡ true → slice_get piece.now at ≡ Some (closer_of shape) }
 {
     at < piece.len() && piece[at] == shape.closer()
 }
 
-impl OpenDocument {
+impl PartialDocument {
     // Lets the value take the byte, if the byte begins no token. `follow` does the rest.
     #[inline(always)]
-    fn look(&mut self, byte: u8) -> Result<Went, Refused>
+    fn look(&mut self, byte: u8) -> Result<Went, AllocFailed>
         requires token { IsIn self.old Token.Nothing }
         ensures met { (t : List ℕ) → HasArrived self.old t → IfOk result (Meets byte self.new t) }
         ensures refused { OnErr result (Stays self.old self.new) }
@@ -116,7 +116,7 @@ impl OpenDocument {
     }
 
     // The slow path: takes one byte. After a bracket, comma or colon it also takes the whitespace that follows.
-    fn step_byte(&mut self, piece: &[u8], at: usize) -> Result<usize, Refused>
+    fn step_byte(&mut self, piece: &[u8], at: usize) -> Result<usize, AllocFailed>
         requires within { at < length piece.now }
         requires named { begins_decimal (slice_index piece.now at) ≡ false }
         requires token { IsIn self.old Token.Nothing }
@@ -137,7 +137,7 @@ impl OpenDocument {
 
     // The number isn't part of the document yet, so a failed allocation changes nothing.
     #[inline(always)]
-    fn hold(&mut self, piece: &[u8], at: usize, stage: Stage, end: usize) -> Result<(), Refused>
+    fn hold(&mut self, piece: &[u8], at: usize, stage: Stage, end: usize) -> Result<(), AllocFailed>
         requires begun { BeginsThere piece.now at stage end }
         requires token { IsIn self.old Token.Nothing }
         ensures held { OnOk result (HoldsNumber self.new.number (slice_range piece.now at end)) }
@@ -152,7 +152,7 @@ impl OpenDocument {
     // The slow path, for a number that may be truncated or invalid, or where no value is expected. The bytes are stored
     // first: that can fail.
     #[inline(never)]
-    fn begin_number(&mut self, piece: &[u8], at: usize) -> Result<usize, Refused>
+    fn begin_number(&mut self, piece: &[u8], at: usize) -> Result<usize, AllocFailed>
         requires within { at < length piece.now }
         requires begins { begins_decimal (slice_index piece.now at) ≡ true }
         requires token { IsIn self.old Token.Nothing }
@@ -179,10 +179,10 @@ impl OpenDocument {
     // The caller counts the scalar's bytes. They are counted here only so that an error has the index of this byte.
     #[inline(never)]
     fn end_before(&mut self, went: Went, bytes: usize, byte: u8)
-        requires met { (t : List ℕ) × MeetsBehind bytes byte self.old t went }
+        requires met { (t : List ℕ) × MeetsAfter bytes byte self.old t went }
         requires which { IsEnding went }
         requires room { self.old.position + bytes < 2 ^ 64 }
-        ensures taken { (t : List ℕ) → MeetsBehind bytes byte self.old t went
+        ensures taken { (t : List ℕ) → MeetsAfter bytes byte self.old t went
             → HasTakenIn anything self.new (t ++ byte ∷ []) }
         ensures same { StaysSo self.old self.new }
     {
@@ -205,7 +205,7 @@ impl OpenDocument {
         ensures same { StaysSo self.old self.new }
     {
         self.put(value);
-        match self.value.behind(piece[end]) {
+        match self.value.after(piece[end]) {
             Went::Taken => past_blanks(piece, end + 1) - at,
             went => {
                 self.end_before(went, end - at, piece[end]);
@@ -234,7 +234,7 @@ impl OpenDocument {
 
     // Takes the colon after a key and the whitespace after it. Returns the number of bytes: 0 if `at` has no colon.
     #[inline(always)]
-    fn colon_behind(&mut self, piece: &[u8], at: usize) -> usize
+    fn colon_after(&mut self, piece: &[u8], at: usize) -> usize
         requires within { at ≤ length piece.now }
         requires read { (t : List ℕ) × HasTakenIn anything self.old t }
         requires token { self.old.token ≡ Token.Nothing }
@@ -253,7 +253,7 @@ impl OpenDocument {
     }
 
     #[inline(always)]
-    fn make_room(&mut self) -> Result<(), Refused>
+    fn make_room(&mut self) -> Result<(), AllocFailed>
         requires token { IsIn self.old Token.Nothing }
         requires awaited { AwaitsValue self.old.value }
         ensures stays { Stays self.old self.new }
@@ -301,7 +301,7 @@ impl OpenDocument {
 
     // The number may be long, or truncated by the chunk.
     #[inline(never)]
-    fn step_long_number(&mut self, piece: &[u8], at: usize) -> Result<usize, Refused>
+    fn step_long_number(&mut self, piece: &[u8], at: usize) -> Result<usize, AllocFailed>
         requires within { at < length piece.now }
         requires begins { begins_decimal (slice_index piece.now at) ≡ true }
         requires token { IsIn self.old Token.Nothing }
@@ -322,7 +322,7 @@ impl OpenDocument {
 
     // Capacity for the value is reserved first, so storing it does not allocate.
     #[inline(always)]
-    pub(crate) fn step_number(&mut self, piece: &[u8], at: usize) -> Result<usize, Refused>
+    pub(crate) fn step_number(&mut self, piece: &[u8], at: usize) -> Result<usize, AllocFailed>
         requires within { at < length piece.now }
         requires begins { begins_decimal (slice_index piece.now at) ≡ true }
         requires token { IsIn self.old Token.Nothing }
@@ -354,7 +354,11 @@ impl OpenDocument {
     // Returns the decoded string or key at `at` and the index after its closing quote, if it is valid and complete in
     // the chunk.
     #[inline(always)]
-    fn text_there(&mut self, piece: &[u8], at: usize) -> Result<Option<(String, usize)>, Refused>
+    fn text_there(
+        &mut self,
+        piece: &[u8],
+        at: usize,
+    ) -> Result<Option<(String, usize)>, AllocFailed>
         requires within { at < length piece.now }
         requires token { IsIn self.old Token.Nothing }
         ensures text { IfOk result (λ found. IfSome found (λ x. IsTextWithin piece.now at (string_bytes x.0) x.1)) }
@@ -367,7 +371,7 @@ impl OpenDocument {
 
     // A truncated string or key, and an invalid one, takes the slow path.
     #[inline(always)]
-    fn step_text(&mut self, piece: &[u8], at: usize) -> Result<usize, Refused>
+    fn step_text(&mut self, piece: &[u8], at: usize) -> Result<usize, AllocFailed>
         requires within { at < length piece.now }
         requires named { begins_decimal (slice_index piece.now at) ≡ false }
         requires token { IsIn self.old Token.Nothing }
@@ -390,7 +394,7 @@ impl OpenDocument {
         at: usize,
         text: String,
         end: usize,
-    ) -> Result<usize, Refused>
+    ) -> Result<usize, AllocFailed>
         requires token { IsIn self.old Token.Nothing }
         requires text { IsTextWithin piece.now at (string_bytes text) end }
         requires room { self.old.position + (length piece.now - at) < 2 ^ 64 }
@@ -404,7 +408,7 @@ impl OpenDocument {
             Went::Scalar => Ok(self.put_whole(piece, at, text_value(text), end)),
             Went::Key => {
                 self.end_key(text);
-                Ok(end - at + self.colon_behind(piece, end))
+                Ok(end - at + self.colon_after(piece, end))
             }
             went => {
                 self.follow(went, byte);
@@ -421,7 +425,7 @@ impl OpenDocument {
         at: usize,
         value: JsonValue<'static>,
         end: usize,
-    ) -> Result<usize, Refused>
+    ) -> Result<usize, AllocFailed>
         requires token { IsIn self.old Token.Nothing }
         requires awaited { AwaitsValue self.old.value }
         requires begins { BeginsItem (slice_index piece.now at) }
@@ -439,7 +443,12 @@ impl OpenDocument {
 
     // A truncated literal, and an invalid one, takes the slow path.
     #[inline(always)]
-    fn step_literal(&mut self, piece: &[u8], at: usize, literal: Literal) -> Result<usize, Refused>
+    fn step_literal(
+        &mut self,
+        piece: &[u8],
+        at: usize,
+        literal: Literal,
+    ) -> Result<usize, AllocFailed>
         requires within { at < length piece.now }
         requires begins { start_of (slice_index piece.now at) ≡ Start.Literal literal }
         requires named { begins_decimal (slice_index piece.now at) ≡ false }
@@ -453,7 +462,7 @@ impl OpenDocument {
         if !self.value.awaits_value() {
             return self.step_byte(piece, at);
         }
-        match plain_literal_end(piece, at, literal) {
+        match fast_literal_end(piece, at, literal) {
             Some(end) => self.whole_value(piece, at, literal_value(literal), end),
             None => self.step_byte(piece, at),
         }
@@ -461,7 +470,12 @@ impl OpenDocument {
 
     // An empty container is stored at once: it never becomes part of the spine.
     #[inline(always)]
-    fn step_opening(&mut self, piece: &[u8], at: usize, shape: Shape) -> Result<usize, Refused>
+    fn step_opening(
+        &mut self,
+        piece: &[u8],
+        at: usize,
+        shape: ContainerKind,
+    ) -> Result<usize, AllocFailed>
         requires within { at < length piece.now }
         requires begins { start_of (slice_index piece.now at) ≡ opening shape }
         requires named { begins_decimal (slice_index piece.now at) ≡ false }
@@ -485,7 +499,7 @@ impl OpenDocument {
 
     // Decimal numbers have a path of their own: `step_number`.
     #[inline(always)]
-    pub(crate) fn step(&mut self, piece: &[u8], at: usize) -> Result<usize, Refused>
+    pub(crate) fn step(&mut self, piece: &[u8], at: usize) -> Result<usize, AllocFailed>
         requires within { at < length piece.now }
         requires named { begins_decimal (slice_index piece.now at) ≡ false }
         requires token { IsIn self.old Token.Nothing }
@@ -498,8 +512,8 @@ impl OpenDocument {
         match start_of(piece[at]) {
             Start::String => self.step_text(piece, at),
             Start::Literal(literal) => self.step_literal(piece, at, literal),
-            Start::Array => self.step_opening(piece, at, Shape::Array),
-            Start::Object => self.step_opening(piece, at, Shape::Object),
+            Start::Array => self.step_opening(piece, at, ContainerKind::Array),
+            Start::Object => self.step_opening(piece, at, ContainerKind::Object),
             _ => self.step_byte(piece, at),
         }
     }

@@ -1,17 +1,17 @@
 -- What holds of each value that a reading may give.
 use Rattle.std.proofs.Common.{ℕ, zero, suc, ◌+◌, ◌++◌, List, [], ◌∷◌, length}
 use Rattle.std.specs.Prelude.{slice_get, slice_index, Option, Some, None}
-use Rattle.jiter_steps.proofs.Reading.Values.{part_behind}
+use Rattle.jiter_steps.proofs.Reading.Values.{part_after}
 use Rattle.jiter_scan.specs.Kind.{Kind}
 use Rattle.jiter_scan.specs.Scanned.{Scanned, taken, failed}
 use Rattle.jiter_scan.specs.Word.{Extent}
 use Rattle.jiter_steps.specs.Blank.{past_blanks}
 use Rattle.jiter_steps.specs.Literal.{start_of}
 use Rattle.jiter_steps.specs.Node.{nesting_limit}
-use Rattle.jiter_steps.specs.Read.{Reading, done, fault, Rules, Container, scalar_at, with_key, behind_colon}
-use Rattle.jiter_steps.specs.Read.{behind_key, if_forgiven, follow, behind_part, parts_at, container_at, array_of}
+use Rattle.jiter_steps.specs.Read.{Reading, done, fault, Rules, Container, scalar_at, with_key, after_colon}
+use Rattle.jiter_steps.specs.Read.{after_key, if_forgiven, follow, after_part, parts_at, container_at, array_of}
 use Rattle.jiter_steps.specs.Read.{object_of, value_with, inside_at, value_at, if_last, to_end, if_begun}
-use Rattle.jiter_steps.specs.Read.{front_answer, unless_refused, whole_answer}
+use Rattle.jiter_steps.specs.Read.{prefix_answer, unless_refused, whole_answer}
 use Rattle.jiter_steps.specs.Step.{Step, more, closed, stuck, step, object_colon}
 use Rattle.jiter_steps.specs.declared.parse.Literal.{Literal}
 use Rattle.jiter_steps.specs.declared.parse.Start.{Start}
@@ -72,20 +72,20 @@ module _ {K A : Type 0} (r : Rules K A) (t : List ℕ) where
     follow-gives next each ps all (closed e) = build e ps all
     follow-gives next each ps all (stuck k j) = if_forgiven-gives ps all k j j
 
-    behind_part-gives : (next : List P → ℕ → Reading A)
+    after_part-gives : (next : List P → ℕ → Reading A)
         → ((ps : List P) → Each IsPart ps → (j : ℕ) → Gives Is (next ps j))
-        → (ps : List P) → Each IsPart ps → (x : Reading P) → Gives IsPart x → Gives Is (behind_part r c t next ps x)
-    behind_part-gives next each ps all (done p e) h =
+        → (ps : List P) → Each IsPart ps → (x : Reading P) → Gives IsPart x → Gives Is (after_part r c t next ps x)
+    after_part-gives next each ps all (done p e) h =
         let longer = each-push IsPart ps p all h in
         follow-gives (next (ps ++ p ∷ [])) (each (ps ++ p ∷ []) longer) (ps ++ p ∷ []) longer (step t c.next e)
-    behind_part-gives next each ps all (fault k i stop) h = if_forgiven-gives ps all k i stop
+    after_part-gives next each ps all (fault k i stop) h = if_forgiven-gives ps all k i stop
 
     parts_at-gives : (n : ℕ) (ps : List P) → Each IsPart ps → (i : ℕ) → Gives Is (parts_at r c t n ps i)
     unfolding parts_at
     parts_at-gives zero ps all i = tt
     parts_at-gives (suc n) ps all i =
-        behind_part-gives (λ more_parts j. parts_at r c t n more_parts j) (parts_at-gives n) ps all
-        (part_behind c ps i) (by (c.refuses ps i)) where
+        after_part-gives (λ more_parts j. parts_at r c t n more_parts j) (parts_at-gives n) ps all
+        (part_after c ps i) (by (c.refuses ps i)) where
           by : (o : Option (Kind × ℕ)) → Gives IsPart (unless_refused o (c.part i))
           by None = part i
           by (Some f) = tt
@@ -100,13 +100,13 @@ module _ {K A : Type 0} (r : Rules K A) (t : List ℕ) where
     with_key-gives k is (done a e) h = (is, h)
     with_key-gives k is (fault kind i stop) h = tt
 
-    behind_colon-gives : (k : K) → IsKey k → (x : Extent) → Gives (Both IsKey Is) (behind_colon k inner x)
-    behind_colon-gives k is (taken u j) = with_key-gives k is (inner j) (each j)
-    behind_colon-gives k is (failed kind j) = tt
+    after_colon-gives : (k : K) → IsKey k → (x : Extent) → Gives (Both IsKey Is) (after_colon k inner x)
+    after_colon-gives k is (taken u j) = with_key-gives k is (inner j) (each j)
+    after_colon-gives k is (failed kind j) = tt
 
-    behind_key-gives : (i : ℕ) (x : Scanned K) → Takes IsKey x → Gives (Both IsKey Is) (behind_key inner t i x)
-    behind_key-gives i (taken k e) is = behind_colon-gives k is (object_colon t e)
-    behind_key-gives i (failed kind j) is = tt
+    after_key-gives : (i : ℕ) (x : Scanned K) → Takes IsKey x → Gives (Both IsKey Is) (after_key inner t i x)
+    after_key-gives i (taken k e) is = after_colon-gives k is (object_colon t e)
+    after_key-gives i (failed kind j) is = tt
 
   scalar_at-gives : (Is : A → Type 0) (i : ℕ) (x : Scanned A) → Takes Is x → Gives Is (scalar_at i x)
   scalar_at-gives Is i (taken a e) is = is
@@ -119,7 +119,7 @@ module _ {K A : Type 0} (r : Rules K A) (t : List ℕ) where
         container_at-gives (array_of r inner t i) (IsInside levels) (Is levels) each (builds.array levels i) i
     value_with-gives levels inner each i start.Object =
         container_at-gives (object_of r inner t i) (Both IsKey (IsInside levels)) (Is levels)
-        (λ j. behind_key-gives IsKey (IsInside levels) inner each j (r.key t j) (builds.key j))
+        (λ j. after_key-gives IsKey (IsInside levels) inner each j (r.key t j) (builds.key j))
         (builds.object levels i) i
     value_with-gives levels inner each i start.String = scalar_at-gives (Is levels) i (r.text t i)
         (builds.text levels i)
@@ -150,9 +150,9 @@ module _ {K A : Type 0} (r : Rules K A) (t : List ℕ) where
     if_begun-gives i (Some c) = value_at-gives nesting_limit i
 
     -- What a text is read as is so, whatever follows it.
-    pub front_answer-gives : Gives (Is nesting_limit) (front_answer r t)
-    unfolding front_answer
-    front_answer-gives = if_begun-gives (past_blanks t 0) (slice_get t (past_blanks t 0))
+    pub prefix_answer-gives : Gives (Is nesting_limit) (prefix_answer r t)
+    unfolding prefix_answer
+    prefix_answer-gives = if_begun-gives (past_blanks t 0) (slice_get t (past_blanks t 0))
 
     to_end-gives : (x : Reading A) → Gives (Is nesting_limit) x → Gives (Is nesting_limit) (to_end t x)
     to_end-gives (done a e) h = by (slice_get t (past_blanks t e)) where
@@ -164,4 +164,4 @@ module _ {K A : Type 0} (r : Rules K A) (t : List ℕ) where
     -- And so where nothing follows.
     pub whole_answer-gives : Gives (Is nesting_limit) (whole_answer r t)
     unfolding whole_answer
-    whole_answer-gives = to_end-gives (front_answer r t) front_answer-gives
+    whole_answer-gives = to_end-gives (prefix_answer r t) prefix_answer-gives

@@ -127,7 +127,7 @@ module _ (names : Bool) (u : List ℕ) where
           key = record {
             string = r.1;
             colon = parts.0 + 1;
-            behind = stands_here u parts.0 58 (parts.0 + 1) parts.2.0 refl;
+            after = stands_here u parts.0 58 (parts.0 + 1) parts.2.0 refl;
             blanks = subst (IsBlank u (parts.0 + 1)) begins blanks;
           };
           value = subst (λ b. IsNodeAt names u b a.again j) begins a.spelled.0;
@@ -195,7 +195,7 @@ print-stands w =
     subst (Stands (with_line_feed w) 0 (length w)) (take_at w (10 ∷ []) (length w - 0) (omega arith))
     (stands-slice (with_line_feed w) 0 (length w) (omega arith) (omega arith))
 
--- nothing but the line feed stands behind it
+-- nothing but the line feed stands after it
 feed-blank : (w : List ℕ) (e : ℕ) → e ≡ length w → IsBlank (with_line_feed w) e (length (with_line_feed w))
 feed-blank w e is =
     let n = length-append w (10 ∷ []) in
@@ -218,7 +218,7 @@ printed-again layout names v fits =
       record {
         before = subst (IsBlank u 0) (sym is.begins) (no_blank u 0 (omega arith));
         spelled = is.spelled;
-        after = feed-blank w (end a.again) is.ends;
+        later = feed-blank w (end a.again) is.ends;
         limit = a.spelled.1;
       },
       a.like,

@@ -38,9 +38,9 @@ writes-more n (c ∷ cs) l h =
     let last : AreDigits ((48 + n % 10) ∷ []) = (glyph-digit (n % 10) (omega arith), tt) in
     let more : decimal_of ((c ∷ cs) ++ (48 + n % 10) ∷ []) ≡ decimal_of (c ∷ cs) * 10 + (48 + n % 10 - 48) =
     decimal_of-append (c ∷ cs) ((48 + n % 10) ∷ []) ∙ omega arith in
-    let front : decimal_of (c ∷ cs) ≡ n / 10 = h.value in
+    let prefix : decimal_of (c ∷ cs) ≡ n / 10 = h.value in
     let digits = are_digits-append cs ((48 + n % 10) ∷ []) h.int_part.0.1 last in
-    record { int_part = ((h.int_part.0.0, digits), inr (λ e. first e h.int_part.1)); value = more ∙ value front } where
+    record { int_part = ((h.int_part.0.0, digits), inr (λ e. first e h.int_part.1)); value = more ∙ value prefix } where
       value : decimal_of (c ∷ cs) ≡ n / 10 → decimal_of (c ∷ cs) * 10 + (48 + n % 10 - 48) ≡ n
       value e = omega (arith, e)
 

@@ -7,7 +7,7 @@ use Rattle.std.proofs.lemmas.Bool.{cases_lt}
 use Rattle.jiter_scan.specs.Stands.{Stands}
 use Rattle.jiter_scan.proofs.Standing.{stands-within, stands-split}
 use Rattle.jiter_steps.specs.Blank.{IsBlank, IsBlankByte}
-use Rattle.jiter_steps.specs.Node.{StandsBehind}
+use Rattle.jiter_steps.specs.Node.{StandsAfter}
 use Rattle.jiter_steps.proofs.Reading.Parts.{Grammar}
 use Rattle.jiter_print.proofs.GivenValues.{Each}
 
@@ -15,7 +15,7 @@ pub no_blank : (u : List ℕ) (i : ℕ) → i ≤ length u → IsBlank u i i
 no_blank u i h = record { ordered = omega arith; within = h; each = λ k l m. absurd (omega arith) }
 
 -- the byte stands right here
-pub stands_here : (u : List ℕ) (i c j : ℕ) → slice_get u i ≡ Some c → j ≡ i + 1 → StandsBehind u i c j
+pub stands_here : (u : List ℕ) (i c j : ℕ) → slice_get u i ≡ Some c → j ≡ i + 1 → StandsAfter u i c j
 stands_here u i c j h e =
     let lt = slice_get_within u i c h in record { at = i; blanks = no_blank u i (omega arith); here = h; ends = e }
 
@@ -29,7 +29,7 @@ blank-more : (u : List ℕ) (i c j : ℕ) → slice_get u i ≡ Some c → IsBla
 blank-more u i c j h is rest =
     record { ordered = omega (arith, rest.ordered); within = rest.within; each = λ k l m. by k l m (cases_lt i k) } where
       by : (k : ℕ) → i ≤ k → k < j → (i < k) ⊎ (k ≤ i) → IsBlankByte (slice_index u k)
-      by k l m (inl after) = rest.each k (omega arith) m
+      by k l m (inl later) = rest.each k (omega arith) m
       by k l m (inr here) =
           let same : i ≡ k = omega arith in
           subst (λ x. IsBlankByte (slice_index u x)) same
@@ -42,9 +42,9 @@ stands-blank u (c ∷ w) i j l blank h =
     let lt = slice_get_within u i c h.0 in
     blank-more u i c j h.0 blank.0 (stands-blank u w (i + 1) j (omega arith) blank.1 h.1)
 
--- the byte stands behind whitespace
+-- the byte stands after whitespace
 pub stands-closer : (u w : List ℕ) (i c j : ℕ) → i ≤ length u → AreBlank w → Stands u i j (w ++ c ∷ [])
-    → StandsBehind u i c j
+    → StandsAfter u i c j
 stands-closer u w i c j l blank h =
     let parts = stands-split u i j w (c ∷ []) h in
     record {
@@ -55,19 +55,19 @@ stands-closer u w i c j l blank h =
     }
 
 -- ---- what stands wherever something is printed
--- wherever w stands, this is so of its place and of the place behind it
+-- wherever w stands, this is so of its place and of the place after it
 abbrev pub Wherever : List ℕ → List ℕ → (ℕ → ℕ → Type 0) → Type 0
 Wherever u w So = (i j : ℕ) → i ≤ length u → Stands u i j w → So i j
 
--- the parts behind a part, with a comma before each
-abbrev pub behind : List (List ℕ) → List ℕ
-behind [] = []
-behind (p ∷ ps) = 44 ∷ join_with_byte 44 (p ∷ ps)
+-- the parts after a part, with a comma before each
+abbrev pub after : List (List ℕ) → List ℕ
+after [] = []
+after (p ∷ ps) = 44 ∷ join_with_byte 44 (p ∷ ps)
 
-joined-behind : (p : List ℕ) (ps : List (List ℕ)) (w : List ℕ)
-    → join_with_byte 44 (p ∷ ps) ++ w ≡ p ++ (behind ps ++ w)
-joined-behind p [] w = refl
-joined-behind p (q ∷ ps) w = append_assoc p (behind (q ∷ ps)) w
+joined-after : (p : List ℕ) (ps : List (List ℕ)) (w : List ℕ)
+    → join_with_byte 44 (p ∷ ps) ++ w ≡ p ++ (after ps ++ w)
+joined-after p [] w = refl
+joined-after p (q ∷ ps) w = append_assoc p (after (q ∷ ps)) w
 
 -- what the text spells from i to before j, and that it is like p
 pub record Again {P N : Type 0} (Spelled : ℕ → N → ℕ → Type 0) (Like : P → N → Type 0) (p : P) (i j : ℕ) : Type 0 where
@@ -91,14 +91,14 @@ module _ {P N : Type 0} {u : List ℕ} {closer : ℕ} {IsPart : ℕ → N → �
   abbrev spaced : P → List ℕ
   spaced p = gap ++ print p
 
-  -- a part and those behind it
+  -- a part and those after it
   first-again : (p : P) (ps : List P) → Is p
-      → Wherever u (behind (map spaced ps) ++ (last ++ closer ∷ [])) (Again (λ i ns j. MoreAre ns i j) Like ps)
+      → Wherever u (after (map spaced ps) ++ (last ++ closer ∷ [])) (Again (λ i ns j. MoreAre ns i j) Like ps)
       → Wherever u (join_with_byte 44 (map spaced (p ∷ ps)) ++ (last ++ closer ∷ []))
       (λ i j. (n : N) × (ns : List N) × Are (n ∷ ns) i j × Like (p ∷ ps) (n ∷ ns))
   first-again p ps is rest i j l h =
-      let inside = subst (Stands u i j) (joined-behind (spaced p) (map spaced ps) (last ++ closer ∷ [])) h in
-      let parts = stands-split u i j (spaced p) (behind (map spaced ps) ++ (last ++ closer ∷ [])) inside in
+      let inside = subst (Stands u i j) (joined-after (spaced p) (map spaced ps) (last ++ closer ∷ [])) h in
+      let parts = stands-split u i j (spaced p) (after (map spaced ps) ++ (last ++ closer ∷ [])) inside in
       let gaps = stands-split u i parts.0 gap (print p) parts.1 in
       let a = part p is gaps.0 parts.0 (stands-within u i gaps.0 gap l gaps.1) gaps.2 in
       let r = rest parts.0 j (stands-within u i parts.0 (spaced p) l parts.1) parts.2 in
@@ -107,7 +107,7 @@ module _ {P N : Type 0} {u : List ℕ} {closer : ℕ} {IsPart : ℕ → N → �
       (a.again, r.again, spelled, add p a.again ps r.again a.like r.like)
 
   more-again : (ps : List P) → Each Is ps
-      → Wherever u (behind (map spaced ps) ++ (last ++ closer ∷ [])) (Again (λ i ns j. MoreAre ns i j) Like ps)
+      → Wherever u (after (map spaced ps) ++ (last ++ closer ∷ [])) (Again (λ i ns j. MoreAre ns i j) Like ps)
   more-again [] s i j l h =
       record { again = []; spelled = grammar.no_more i j (stands-closer u last i closer j l last-blank h); like = none }
   more-again (p ∷ ps) s i j l h =

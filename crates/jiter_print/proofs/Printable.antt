@@ -16,7 +16,7 @@ use Rattle.jiter_steps.specs.Answer.{seen_as, trees, nothing_forgiven, answer_in
 use Rattle.jiter_steps.specs.Literal.{literal_at, literal_tree}
 use Rattle.jiter_steps.specs.Node.{number_tree, nesting_limit}
 use Rattle.jiter_steps.specs.StringReading.{Stop, closed, unclosed, cut, wrong, body_at, Form, whole, kept, raw}
-use Rattle.jiter_steps.specs.StringReading.{raw_kept, if_utf8, valid_front_by, valid_front, text_in_form, content_at}
+use Rattle.jiter_steps.specs.StringReading.{raw_kept, if_utf8, valid_prefix_by, valid_prefix, text_in_form, content_at}
 use Rattle.jiter_steps.specs.StringReading.{string_at}
 use Rattle.jiter_steps.specs.Tree as tree
 use Rattle.jiter_steps.specs.Tree.{Text, Tree, null, boolean, int, string, array, object, Items, no_items, item}
@@ -24,7 +24,7 @@ use Rattle.jiter_steps.specs.Tree.{items_of, Members, no_members, member, member
 use Rattle.jiter_steps.specs.declared.parse.Literal.{Literal}
 use Rattle.jiter_steps.specs.declared.parse.Literal.TheVariants as name
 use Rattle.jiter_steps.proofs.Grammar.StringSound.{IsUtf8-valid, valid-IsUtf8}
-use Rattle.jiter_print.proofs.GivenValues.{Takes, Gives, Both, Each, Builds, front_answer-gives, whole_answer-gives}
+use Rattle.jiter_print.proofs.GivenValues.{Takes, Gives, Both, Each, Builds, prefix_answer-gives, whole_answer-gives}
 
 -- ---- the values
 -- a number's text stands for it
@@ -92,9 +92,9 @@ if_utf8-text i o bs e =
     if_case (Takes IsText) (utf8_valid_len bs == length bs) (taken (record { owned = o; bytes = bs }) e)
     (failed invalid_code_point (i + utf8_valid_len bs)) (λ q. valid-IsUtf8 bs (eqb-true _ _ q)) (λ q. tt)
 
-valid_front-text : (i : ℕ) (o : Bool) (bs : List ℕ) (e : ℕ) → Takes IsText (valid_front i o bs e)
-valid_front-text i o bs e = by (utf8_error_len (drop (utf8_valid_len bs) bs)) where
-  by : (x : Option ℕ) → Takes IsText (valid_front_by i o bs e x)
+valid_prefix-text : (i : ℕ) (o : Bool) (bs : List ℕ) (e : ℕ) → Takes IsText (valid_prefix i o bs e)
+valid_prefix-text i o bs e = by (utf8_error_len (drop (utf8_valid_len bs) bs)) where
+  by : (x : Option ℕ) → Takes IsText (valid_prefix_by i o bs e x)
   by None = IsUtf8-valid bs
   by (Some n) = tt
 
@@ -104,9 +104,9 @@ text_in_form-text whole d t i bs o (closed e) = if_utf8-text i o bs e
 text_in_form-text whole d t i bs o unclosed = tt
 text_in_form-text whole d t i bs o cut = tt
 text_in_form-text whole d t i bs o (wrong k j) = tt
-text_in_form-text kept d t i bs o (closed e) = valid_front-text i o bs e
-text_in_form-text kept d t i bs o unclosed = valid_front-text i o bs (length t)
-text_in_form-text kept d t i bs o cut = valid_front-text i o bs (length t)
+text_in_form-text kept d t i bs o (closed e) = valid_prefix-text i o bs e
+text_in_form-text kept d t i bs o unclosed = valid_prefix-text i o bs (length t)
+text_in_form-text kept d t i bs o cut = valid_prefix-text i o bs (length t)
 text_in_form-text kept d t i bs o (wrong k j) = tt
 text_in_form-text raw d t i bs o s = absurd d
 text_in_form-text raw_kept d t i bs o s = absurd d
@@ -141,6 +141,6 @@ pub answer_in-printable : (names : Bool) (mode : PartialMode) (t : List ℕ)
 answer_in-printable names Off t =
     whole_answer-gives _ t IsText (Fits names) (FitsInside names) (trees-build nothing_forgiven whole tt names t)
 answer_in-printable names On t =
-    front_answer-gives _ t IsText (Fits names) (FitsInside names) (trees-build is_forgiven whole tt names t)
+    prefix_answer-gives _ t IsText (Fits names) (FitsInside names) (trees-build is_forgiven whole tt names t)
 answer_in-printable names TrailingStrings t =
-    front_answer-gives _ t IsText (Fits names) (FitsInside names) (trees-build is_forgiven kept tt names t)
+    prefix_answer-gives _ t IsText (Fits names) (FitsInside names) (trees-build is_forgiven kept tt names t)

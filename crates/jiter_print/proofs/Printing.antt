@@ -74,7 +74,7 @@ stopped-needs bs begin stop is lt =
     stop-escapes (slice_index bs stop) (run_end-stops is_plain bs begin (slice_index bs stop)
     (ap (slice_get bs) (sym is) ∙ slice_get-get_or bs stop 0 lt))
 
--- a byte that needs an escape ends the run, and the next begins behind it
+-- a byte that needs an escape ends the run, and the next begins after it
 pub run-ended : (bs line before : List ℕ) (i : ℕ) → i < length bs → needs_escape (slice_index bs i) ≡ true
     → line ≡ before ++ flat_map print_byte (take i bs)
     → line ++ escape_of (slice_index bs i) ≡ before ++ flat_map print_byte (take (i + 1) bs)
@@ -86,7 +86,7 @@ run-ended bs line before i l needs same =
     (sym (if-true (needs_escape b) (escape_of b) (b ∷ []) needs))
     ∙ ap (λ w. before ++ w) (sym (printed-more bs i l))
 
--- the text behind its quote, and the quote that closes it
+-- the text after its quote, and the quote that closes it
 pub text-closed : (bs before line : List ℕ) (j : ℕ) → j ≡ length bs → line ≡ before ++ flat_map print_byte (take j bs)
     → line ++ 34 ∷ [] ≡ before ++ (flat_map print_byte bs ++ 34 ∷ [])
 text-closed bs before line j is same =
@@ -100,20 +100,20 @@ plain-prints (b ∷ bs) h =
     ap (λ w. w ++ flat_map print_byte bs) (if-false (needs_escape b) (escape_of b) (b ∷ []) (plain-stays b h.0))
     ∙ ap (λ w. b ∷ w) (plain-prints bs h.1)
 
--- what stands behind the first bytes of a tape
-stands-behind : (line before text : List ℕ) (at : ℕ) → length before ≡ at
+-- what stands after the first bytes of a tape
+stands-after : (line before text : List ℕ) (at : ℕ) → length before ≡ at
     → take (at + length text) line ≡ before ++ text
     → take (length text) (drop at line) ≡ text
-stands-behind line before text at long placed =
+stands-after line before text at long placed =
     sym (drop-take at (length text) line) ∙ ap (drop at) placed ∙ drop_at before text at long
 
--- a text behind the first bytes of a tape, no stop in it, is printed as it is
+-- a text after the first bytes of a tape, no stop in it, is printed as it is
 pub plain-text : (line before text : List ℕ) (at : ℕ) → length before ≡ at
     → take (at + length text) line ≡ before ++ text → nat_le (at + length text) (scan_stop line at) ≡ true
     → flat_map print_byte text ≡ text
 plain-text line before text at long placed plain =
     let reaches : at + length text ≤ scan_stop line at = grind (arith, nat_tests, plain) in
-    plain-prints text (subst (Pass is_plain) (stands-behind line before text at long placed)
+    plain-prints text (subst (Pass is_plain) (stands-after line before text at long placed)
     (prefix_len-pass is_plain (length text) (drop at line) (omega arith)))
 
 -- so it is after an error too
@@ -130,7 +130,7 @@ kept-through old held new text count end within is same =
     omega (arith, ap length is, length-append (take count old) text, long, length-take end held) in
     sym (take-take count end new reaches) ∙ ap (take count) (same ∙ is) ∙ take_at (take count old) text count long
 
--- a text laid down behind a quote
+-- a text laid down after a quote
 module _ (old roomy laid text : List ℕ) (at : ℕ) (within : at ≤ length old) (room : at < length roomy)
     (kept : take at roomy ≡ take at old)
     (placed : take (at + 1 + length text) laid ≡ take (at + 1) (slice_set roomy at 34) ++ text) where
@@ -138,24 +138,24 @@ module _ (old roomy laid text : List ℕ) (at : ℕ) (within : at ≤ length old
   opened = placed
       ∙ ap (λ w. w ++ text) (take-set_at roomy at (at + 1) 34 refl room ∙ ap (λ w. w ++ 34 ∷ []) kept)
 
-  front-long : length (take at old ++ 34 ∷ []) ≡ at + 1
-  front-long = omega (arith, length-append (take at old) (34 ∷ []), length-take-le at old within)
+  prefix-long : length (take at old ++ 34 ∷ []) ≡ at + 1
+  prefix-long = omega (arith, length-append (take at old) (34 ∷ []), length-take-le at old within)
 
   -- what follows the quote, where the text does not stay
-  pub text-behind : (printed : List ℕ) → take (at + 1) laid ++ printed ≡ take at old ++ 34 ∷ printed
-  text-behind printed =
+  pub text-after : (printed : List ℕ) → take (at + 1) laid ++ printed ≡ take at old ++ 34 ∷ printed
+  text-after printed =
       ap (λ w. w ++ printed)
       (sym (take-take (at + 1) (at + 1 + length text) laid (omega arith)) ∙ ap (take (at + 1)) opened
-      ∙ take_at (take at old ++ 34 ∷ []) text (at + 1) front-long)
+      ∙ take_at (take at old ++ 34 ∷ []) text (at + 1) prefix-long)
       ∙ append_assoc (take at old) (34 ∷ []) printed
 
-  -- the text and a quote behind it, where it is plain
+  -- the text and a quote after it, where it is plain
   pub text-whole : at + 1 + length text < length laid
       → nat_le (at + 1 + length text) (scan_stop laid (at + 1)) ≡ true
       → take (at + 1 + length text + 1) (slice_set laid (at + 1 + length text) 34) ≡ take at old ++ print_text text
   text-whole more plain =
       let end = at + 1 + length text in
-      let same = plain-text laid (take at old ++ 34 ∷ []) text (at + 1) front-long opened plain in
+      let same = plain-text laid (take at old ++ 34 ∷ []) text (at + 1) prefix-long opened plain in
       take-set_at laid end (end + 1) 34 refl more ∙ ap (λ w. w ++ 34 ∷ []) opened
       ∙ ap (λ w. ((take at old ++ 34 ∷ []) ++ w) ++ 34 ∷ []) (sym same)
       ∙ append_assoc (take at old ++ 34 ∷ []) (flat_map print_byte text) (34 ∷ [])

@@ -11,13 +11,13 @@ rest-is : (line : List ℕ) (written : ℕ) → take (length line - written) (dr
 rest-is line written = take_all (length line - written) (drop written line) (omega (arith, length-drop written line))
 
 -- no more of it is taken than there is
-pub front-within : (line : List ℕ) (written n : ℕ) → written ≤ length line
+pub prefix-within : (line : List ℕ) (written n : ℕ) → written ≤ length line
     → n ≤ length (take (length line - written) (drop written line)) → written + n ≤ length line
-front-within line written n h bound = omega (arith, ap length (rest-is line written), length-drop written line)
+prefix-within line written n h bound = omega (arith, ap length (rest-is line written), length-drop written line)
 
--- the front of a line grows by a front of its rest
-pub front-more : (a b c : Option (List ℕ)) (line : List ℕ) (written n : ℕ) → Appends a b (take written line)
+-- the prefix of a line grows by a prefix of its rest
+pub prefix-more : (a b c : Option (List ℕ)) (line : List ℕ) (written n : ℕ) → Appends a b (take written line)
     → Appends b c (take n (take (length line - written) (drop written line))) → Appends a c (take (written + n) line)
-front-more a b c line written n h more =
+prefix-more a b c line written n h more =
     let taken = ap (take n) (rest-is line written) in
     subst (Appends a c) (sym (take-add written n line)) (Appends-trans a b c _ _ h (subst (Appends b c) taken more))

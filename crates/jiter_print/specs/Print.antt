@@ -11,7 +11,7 @@ use Rattle.jiter_steps.specs.Tree.{Members, no_members, member}
 abbrev pub needs_escape : ℕ → Bool
 needs_escape b = nat_eq b 34 || nat_eq b 92 || nat_lt b 32
 
--- a quote or a backslash behind a backslash, a control character as `\u00` and two digits
+-- a quote or a backslash after a backslash, a control character as `\u00` and two digits
 abbrev pub escape_of : ℕ → List ℕ
 escape_of b =
     if nat_eq b 34 then codes "\\\""
@@ -55,7 +55,7 @@ abbrev mutual
   member_prints no_members = []
   member_prints (member k j ms) = (print_text k.bytes ++ 58 ∷ print_of j) ∷ member_prints ms
 
--- with a line feed behind
+-- with a line feed after
 abbrev pub with_line_feed : List ℕ → List ℕ
 with_line_feed bs = bs ++ 10 ∷ []
 

@@ -38,7 +38,7 @@ abbrev mutual
 abbrev pub IsLineOf : Bool → Tree → List ℕ → Type 0
 IsLineOf names v line = (n : Node) × IsDocument names line n × (borrow_tree (value_of line n) ≡ borrow_tree v)
 
--- what is printed of what was read, a line feed behind it, is a document of the same value under the same setting
+-- what is printed of what was read, a line feed after it, is a document of the same value under the same setting
 abbrev pub PrintsAgain : Bool → Reading Tree → Type 0
 PrintsAgain names (done v e) = IsLineOf names v (with_line_feed (print_of v))
 PrintsAgain names (fault kind i stop) = Unit {0}

@@ -2,6 +2,6 @@
 use Rattle.std.specs.Prelude.{ℕ, List, Option, take}
 use Rattle.std.specs.Io.KnownBytes.{Appends}
 
--- known bytes grow by a front of bs
-abbrev pub AppendsFront : Option (List ℕ) → Option (List ℕ) → List ℕ → Type 0
-AppendsFront old new bs = (n : ℕ) × Appends old new (take n bs)
+-- known bytes grow by a prefix of bs
+abbrev pub AppendsPrefix : Option (List ℕ) → Option (List ℕ) → List ℕ → Type 0
+AppendsPrefix old new bs = (n : ℕ) × Appends old new (take n bs)

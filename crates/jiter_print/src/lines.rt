@@ -1,7 +1,7 @@
 //! Writing a complete line.
 ghost use Rattle.std.specs.Prelude.{OnErr, OnOk};
 ghost use Rattle.std.specs.Io.KnownBytes.{Appends};
-ghost use Rattle.jiter_print.specs.Written.{AppendsFront};
+ghost use Rattle.jiter_print.specs.Written.{AppendsPrefix};
 
 use std::io;
 use std::io::{ErrorKind, Write};
@@ -17,8 +17,8 @@ use std::io::{ErrorKind, Write};
 /// A prefix of the line has then been written. After an error neither `write` nor `flush` is called again.
 pub fn write_line<W: Write>(writer: &mut W, line: &[u8]) -> io::Result<()>
     ensures whole { OnOk result (Appends (W.contents writer.old) (W.contents writer.new) line.now) }
-    ensures front { OnErr result
-        (AppendsFront (W.contents writer.old) (W.contents writer.new) line.now) }
+    ensures prefix { OnErr result
+        (AppendsPrefix (W.contents writer.old) (W.contents writer.new) line.now) }
 {
     let mut written = 0;
     for _ in 0..u64::MAX {

@@ -5,8 +5,8 @@ ghost use Rattle.jiter_print.specs.Print.{print_of, print_text, print_byte, esca
 ghost use Rattle.jiter_print.specs.Print.{with_line_feed, Appends};
 ghost use Rattle.jiter_print.specs.Printed.{IsLineOf, string_from};
 
-use jiter_scan::memory::Refused;
-use jiter_scan::placing::{is_plain_to, make_room_for, place_text};
+use jiter_scan::memory::AllocFailed;
+use jiter_scan::print_buffer::{is_plain_to, make_room_for, place_text};
 use jiter_scan::simd::string_stop;
 use std::alloc::AllocError;
 
@@ -56,7 +56,11 @@ fn put(line: &mut Vec<u8>, count: usize, bytes: &[u8])
 }
 
 #[inline(always)]
-pub(crate) fn append_bytes(bytes: &[u8], line: &mut Vec<u8>, count: usize) -> Result<usize, Refused>
+pub(crate) fn append_bytes(
+    bytes: &[u8],
+    line: &mut Vec<u8>,
+    count: usize,
+) -> Result<usize, AllocFailed>
     requires { count ≤ vec_len line.old }
     ensures text { IfOk result (λ end. Appends line.old.items line.new.items count bytes.now end) }
     ensures kept { OnErr result (take count line.new.items ≡ take count line.old.items) }
@@ -68,7 +72,11 @@ pub(crate) fn append_bytes(bytes: &[u8], line: &mut Vec<u8>, count: usize) -> Re
 
 // The string is copied first and then searched for bytes that need an escape. If there is one, it is written again.
 #[inline(always)]
-pub(crate) fn append_text(text: &str, line: &mut Vec<u8>, count: usize) -> Result<usize, Refused>
+pub(crate) fn append_text(
+    text: &str,
+    line: &mut Vec<u8>,
+    count: usize,
+) -> Result<usize, AllocFailed>
     requires { count ≤ vec_len line.old }
     ensures text { IfOk result (λ end. Appends line.old.items line.new.items count (print_text text.now) end) }
     ensures kept { OnErr result (take count line.new.items ≡ take count line.old.items) }
@@ -87,7 +95,7 @@ pub(crate) fn append_text(text: &str, line: &mut Vec<u8>, count: usize) -> Resul
 
 // Runs of bytes that stay as they are, with escapes between them (RFC 8259, 7).
 #[inline(never)]
-fn append_escaped(bytes: &[u8], line: &mut Vec<u8>, count: usize) -> Result<usize, Refused>
+fn append_escaped(bytes: &[u8], line: &mut Vec<u8>, count: usize) -> Result<usize, AllocFailed>
     requires { count ≤ vec_len line.old }
     ensures text { IfOk result (λ end. Appends line.old.items line.new.items count
         (flat_map print_byte bytes.now ++ 34 ∷ []) end) }
@@ -106,7 +114,7 @@ fn append_escaped(bytes: &[u8], line: &mut Vec<u8>, count: usize) -> Result<usiz
     }
 }
 
-fn append_escape(byte: u8, line: &mut Vec<u8>, count: usize) -> Result<usize, Refused>
+fn append_escape(byte: u8, line: &mut Vec<u8>, count: usize) -> Result<usize, AllocFailed>
     requires needs { needs_escape byte ≡ true }
     requires place { count ≤ vec_len line.old }
     ensures text { IfOk result (λ end. Appends line.old.items line.new.items count (escape_of byte) end) }

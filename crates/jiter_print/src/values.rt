@@ -12,7 +12,7 @@ ghost use Rattle.jiter_print.specs.Printed.{IsLineOf};
 
 use crate::strings::{append_bytes, append_text};
 use itoa::Buffer;
-use jiter_scan::memory::{Refused, lengthen};
+use jiter_scan::memory::{AllocFailed, lengthen};
 use jiter_value::{JsonArray, JsonObject, JsonValue};
 use std::alloc::{AllocError, Global};
 
@@ -90,7 +90,7 @@ fn append<const PRETTY: bool>(
     margin: usize,
     line: &mut Vec<u8>,
     count: usize,
-) -> Result<usize, Refused>
+) -> Result<usize, AllocFailed>
     requires { count ≤ vec_len line.old }
     ensures { IfOk result (λ end. Appends line.old.items line.new.items count
         (laid_out (layout_of PRETTY indent margin) (view value.now)) end) }
@@ -118,7 +118,7 @@ fn append_items<const PRETTY: bool>(
     margin: usize,
     line: &mut Vec<u8>,
     count: usize,
-) -> Result<usize, Refused>
+) -> Result<usize, AllocFailed>
     requires { count ≤ vec_len line.old }
     ensures { IfOk result (λ end. Appends line.old.items line.new.items count
         (laid_out (layout_of PRETTY indent margin) (array (views items.now.items))) end) }
@@ -142,7 +142,7 @@ fn append_members<const PRETTY: bool>(
     margin: usize,
     line: &mut Vec<u8>,
     count: usize,
-) -> Result<usize, Refused>
+) -> Result<usize, AllocFailed>
     requires { count ≤ vec_len line.old }
     ensures { IfOk result (λ end. Appends line.old.items line.new.items count
         (laid_out (layout_of PRETTY indent margin) (object (member_views members.now.items))) end) }
@@ -173,7 +173,7 @@ fn append_comma(before: usize, line: &mut Vec<u8>, count: usize) -> usize
 }
 
 #[inline(always)]
-fn append_colon<const PRETTY: bool>(line: &mut Vec<u8>, count: usize) -> Result<usize, Refused>
+fn append_colon<const PRETTY: bool>(line: &mut Vec<u8>, count: usize) -> Result<usize, AllocFailed>
     requires { count < vec_len line.old }
     ensures text { (indent : ℕ) → (margin : ℕ) → IfOk result (λ end. take end line.new.items
         ≡ take count line.old.items ++ 58 ∷ space (layout_of PRETTY indent margin)) }
@@ -192,7 +192,7 @@ fn append_break<const PRETTY: bool>(
     margin: usize,
     line: &mut Vec<u8>,
     count: usize,
-) -> Result<usize, Refused>
+) -> Result<usize, AllocFailed>
     requires { count ≤ vec_len line.old }
     ensures text { (indent : ℕ) → IfOk result (λ end. take end line.new.items
         ≡ take count line.old.items ++ line_break (layout_of PRETTY indent margin)) }
@@ -213,7 +213,7 @@ fn append_last_break<const PRETTY: bool>(
     margin: usize,
     line: &mut Vec<u8>,
     count: usize,
-) -> Result<usize, Refused>
+) -> Result<usize, AllocFailed>
     requires { count ≤ vec_len line.old }
     ensures text { (indent : ℕ) → IfOk result (λ end. take end line.new.items
         ≡ take count line.old.items ++ last_break (layout_of PRETTY indent margin) parts) }
@@ -227,7 +227,7 @@ fn append_last_break<const PRETTY: bool>(
 
 // A vector has at most `isize::MAX` bytes, so an allocation fails for as many spaces or more.
 #[inline(never)]
-fn append_spaces(spaces: usize, line: &mut Vec<u8>, count: usize) -> Result<usize, Refused>
+fn append_spaces(spaces: usize, line: &mut Vec<u8>, count: usize) -> Result<usize, AllocFailed>
     requires { count < vec_len line.old }
     ensures text { IfOk result (λ end. Appends line.old.items line.new.items count (replicate spaces 32) end) }
     ensures fits { OnOk result (spaces < 2 ^ 63) }
@@ -240,7 +240,7 @@ fn append_spaces(spaces: usize, line: &mut Vec<u8>, count: usize) -> Result<usiz
 }
 
 #[inline(always)]
-fn append_integer(number: i64, line: &mut Vec<u8>, count: usize) -> Result<usize, Refused>
+fn append_integer(number: i64, line: &mut Vec<u8>, count: usize) -> Result<usize, AllocFailed>
     requires { count ≤ vec_len line.old }
     ensures { IfOk result (λ end. Appends line.old.items line.new.items count (signed_decimal number) end) }
 {

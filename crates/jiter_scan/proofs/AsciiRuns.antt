@@ -39,9 +39,9 @@ module _ (p q : ℕ → Bool) (weaker : (c : ℕ) → p c ≡ true → q c ≡ t
       ∙ all-pass w (and-right (p c) (list_all p w) h)
 
   -- the bytes before the first that fails the stronger test pass the weaker
-  pub front-passes : (w : List ℕ) → list_all q (take (prefix_len p w) w) ≡ true
-  front-passes [] = refl
-  front-passes (c ∷ w) = by (p c) refl (front-passes w) where
+  pub prefix-passes : (w : List ℕ) → list_all q (take (prefix_len p w) w) ≡ true
+  prefix-passes [] = refl
+  prefix-passes (c ∷ w) = by (p c) refl (prefix-passes w) where
     by : (b : Bool) → p c ≡ b → list_all q (take (prefix_len p w) w) ≡ true
         → list_all q (take (cond b (1 + prefix_len p w) 0) (c ∷ w)) ≡ true
     by true e rest =
@@ -83,7 +83,7 @@ module _ (t : List ℕ) (i : ℕ) where
   quote-ascii to h quote =
       let all : ascii_from t i ≡ true =
       ap (λ n. list_all is_ascii (take n (drop i t))) (quote-same to h quote)
-      ∙ front-passes is_plain_ascii is_ascii ascii-of (drop i t) in
+      ∙ prefix-passes is_plain_ascii is_ascii ascii-of (drop i t) in
       (IsAsciiTo-iff t i to true (quote-stops to h quote) (sym all)).0 refl
 
   -- past a chunk of such bytes

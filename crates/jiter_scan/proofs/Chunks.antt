@@ -32,7 +32,7 @@ module _ (test : ℕ → Bool) where
   pub list_all-failing-zero : (w : List ℕ) → failing test w ≡ 0 → list_all test w ≡ true
   list_all-failing-zero w e = list_all-failing w ∙ eq-eqb _ _ e
 
-  -- the bits of the bytes behind the first k
+  -- the bits of the bytes after the first k
   pub failing-drop : (k : ℕ) (w : List ℕ) → failing test w / 2 ^ k ≡ failing test (drop k w)
   failing-drop zero w = omega arith
   failing-drop (suc k) [] = omega (arith, shr_le 0 (suc k))
@@ -41,9 +41,9 @@ module _ (test : ℕ → Bool) where
       ap (λ j. failing test (c ∷ w) / 2 ^ j) more ∙ sym (shr-shr (failing test (c ∷ w)) 1 k) ∙ ap (λ m. m / 2 ^ k) (one-less (test c) (failing test w))
       ∙ failing-drop k w
 
-  pub failing-behind : (t : List ℕ) (i k n : ℕ) → failing test (chunk i (k + n) t) / 2 ^ k
+  pub failing-after : (t : List ℕ) (i k n : ℕ) → failing test (chunk i (k + n) t) / 2 ^ k
       ≡ failing test (chunk (i + k) n t)
-  failing-behind t i k n =
+  failing-after t i k n =
       failing-drop k (chunk i (k + n) t)
       ∙ ap (failing test) (drop-take k n (drop i t) ∙ ap (take n) (drop-drop k i t))
 
@@ -155,7 +155,7 @@ module _ (test : ℕ → Bool) where
   pass-all [] h = refl
   pass-all (c ∷ w) h = ap (λ b. b && list_all test w) h.0 ∙ pass-all w h.1
 
-  -- the first n pass where no more than the first to fail stand behind them
+  -- the first n pass where no more than the first to fail stand after them
   pub prefix_len-pass : (n : ℕ) (w : List ℕ) → n ≤ prefix_len test w → Pass test (take n w)
   prefix_len-pass zero w h = tt
   prefix_len-pass (suc n) [] h = tt
@@ -166,15 +166,15 @@ module _ (test : ℕ → Bool) where
     by true e k go = (e, go (omega arith))
     by false e k go = absurd (omega arith)
 
-  -- bytes with the same front
-  pub prefix_len-front : (n : ℕ) (u v : List ℕ) → take n u ≡ take n v → n ≤ prefix_len test u → n ≤ prefix_len test v
-  prefix_len-front zero u v e h = omega arith
-  prefix_len-front (suc n) [] v e h = absurd (omega arith)
-  prefix_len-front (suc n) (c ∷ u) [] e h = absurd (cc)
-  prefix_len-front (suc n) (c ∷ u) (d ∷ v) e h =
+  -- bytes with the same prefix
+  pub prefix_len-prefix : (n : ℕ) (u v : List ℕ) → take n u ≡ take n v → n ≤ prefix_len test u → n ≤ prefix_len test v
+  prefix_len-prefix zero u v e h = omega arith
+  prefix_len-prefix (suc n) [] v e h = absurd (omega arith)
+  prefix_len-prefix (suc n) (c ∷ u) [] e h = absurd (cc)
+  prefix_len-prefix (suc n) (c ∷ u) (d ∷ v) e h =
       let same : c ≡ d = cc in
       let rest : take n u ≡ take n v = cc in
-      by (test c) (test d) (ap test same) h (prefix_len-front n u v rest) where
+      by (test c) (test d) (ap test same) h (prefix_len-prefix n u v rest) where
         by : (a b : Bool) → a ≡ b → suc n ≤ cond a (1 + prefix_len test u) 0
             → (n ≤ prefix_len test u → n ≤ prefix_len test v)
             → suc n ≤ cond b (1 + prefix_len test v) 0

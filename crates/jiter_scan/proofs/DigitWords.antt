@@ -120,13 +120,13 @@ padded (suc k) ds h = let r =
     padded k ds h in ((omega arith, r.0), omega (arith, ap (λ x. number_l 256 ds * x) (pow-suc 256 k)), r.2)
 
 -- the low bytes of a word
-pub number_l-front : (xs : List ℕ) (n : ℕ) → AllBelowBase 256 xs → number_l 256 xs % 256 ^ n ≡ number_l 256 (take n xs)
-number_l-front xs zero h = omega arith
-number_l-front [] (suc n) h = zero-mod _
-number_l-front (x ∷ xs) (suc n) h =
+pub number_l-prefix : (xs : List ℕ) (n : ℕ) → AllBelowBase 256 xs → number_l 256 xs % 256 ^ n ≡ number_l 256 (take n xs)
+number_l-prefix xs zero h = omega arith
+number_l-prefix [] (suc n) h = zero-mod _
+number_l-prefix (x ∷ xs) (suc n) h =
     let e : x + 256 * number_l 256 xs ≡ number_l 256 xs * 256 + x = omega arith in
     let byte : 0 < 256 = omega arith in
-    rw (pow-suc, e, mod-mul _ (power-positive n) byte, digits_div _ h.0, digits_mod _ h.0, number_l-front xs n h.1)
+    rw (pow-suc, e, mod-mul _ (power-positive n) byte, digits_div _ h.0, digits_mod _ h.0, number_l-prefix xs n h.1)
     (omega arith)
 
 mod-scaled : (a m c : ℕ) → 0 < m → 0 < c → a * c % (m * c) ≡ a % m * c
@@ -148,7 +148,7 @@ number_l-shifted xs n word eight digits some few e =
     let all : 256 ^ n * 256 ^ (8 - n) ≡ 2 ^ 64 =
     sym (pow-add 256 n (8 - n)) ∙ ap (λ k. 256 ^ k) {x = n + (8 - n)} {y = 8} (omega arith) in
     let same : word * 2 ^ (64 - 8 * n) % 2 ^ 64 ≡ number_l 256 ds =
-    rw (e, shift, ← all, mod-scaled _ _ _ (power-positive n) (power-positive (8 - n)), number_l-front _ n eight.1)
+    rw (e, shift, ← all, mod-scaled _ _ _ (power-positive n) (power-positive (8 - n)), number_l-prefix _ n eight.1)
     (sym p.1) in
     (ds, long, p.0, same, p.2)
 
@@ -176,7 +176,7 @@ AllBelowBase-drop b (suc n) (x ∷ xs) h = AllBelowBase-drop b n xs h.1
 pub number_l-high : (zs : List ℕ) → length zs ≡ 16 → AllBelowBase 256 zs → number_l 256 zs / 2 ^ 64 % 2 ^ 64
     ≡ number_l 256 (drop 8 zs)
 number_l-high zs long h =
-    ap (λ x. x % 2 ^ 64) (number_l-drop 8 zs h) ∙ number_l-front (drop 8 zs) 8 (AllBelowBase-drop 256 8 zs h)
+    ap (λ x. x % 2 ^ 64) (number_l-drop 8 zs h) ∙ number_l-prefix (drop 8 zs) 8 (AllBelowBase-drop 256 8 zs h)
     ∙ ap (number_l 256) (take_all 8 (drop 8 zs) (omega (arith, length-drop 8 zs)))
 
 pub IsEightBytes-low : (xs : List ℕ) → length xs ≡ 16 → IsEightBytes (take 8 (map less_zero xs))
@@ -242,9 +242,9 @@ pub AllBelowBase-in_two : (zs : List ℕ) (n : ℕ) → 8 ≤ n → AllBelowBase
 AllBelowBase-in_two zs n some h =
     let a = AllBelowBase-take 10 8 (take n zs) h in
     let b = AllBelowBase-drop 10 8 (take n zs) h in
-    let behind : drop 8 (take n zs) ≡ take (n - 8) (drop 8 zs) =
+    let after : drop 8 (take n zs) ≡ take (n - 8) (drop 8 zs) =
     ap (λ k. drop 8 (take k zs)) {x = n} {y = 8 + (n - 8)} (omega arith) ∙ drop-take 8 (n - 8) zs in
-    (rw (take-take 8 n zs some) at a, rw behind at b)
+    (rw (take-take 8 n zs some) at a, rw after at b)
 
 pub number-eight_below : (ds : List ℕ) → length ds ≡ 8 → AllBelowBase 10 ds → number_from_digits 10 ds < 100000000
 number-eight_below ds long h = omega (arith, rw long at (number_lt 10 ds h))

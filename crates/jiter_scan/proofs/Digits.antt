@@ -12,7 +12,7 @@ use Rattle.jiter_scan.specs.Number.{AreDigits}
 pub digit-bounds : (c : ℕ) → is_digit c ≡ true → (48 ≤ c) × (c ≤ 57)
 digit-bounds c h = let p = and_parts (leb 48 c) (leb c 57) h in (leb-true 48 c p.0, leb-true c 57 p.1)
 
--- digits behind others
+-- digits after others
 pub decimal_of-append : (u v : List ℕ) → decimal_of (u ++ v) ≡ decimal_of u * 10 ^ length v + decimal_of v
 decimal_of-append [] v = omega arith
 decimal_of-append (c ∷ u) v =
@@ -29,7 +29,7 @@ decimal_of-below (c ∷ w) h =
     let digit : c - 48 ≤ 9 = omega (arith, (digit-bounds c h.0).1) in
     omega (arith, mul-le-mul_right (10 ^ length w) digit, pow-suc 10 (length w), decimal_of-below w h.1)
 
--- and no less than one and a zero for each behind the first, which is none itself
+-- and no less than one and a zero for each after the first, which is none itself
 pub decimal_of-above : (c : ℕ) (w : List ℕ) → 48 < c → 10 ^ length w ≤ decimal_of (c ∷ w)
 decimal_of-above c w h =
     let some : 1 ≤ c - 48 = omega arith in

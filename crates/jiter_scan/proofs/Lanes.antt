@@ -51,7 +51,7 @@ list_all-chosen f test v z long fits e all =
     each (x ∷ w) h = ap₂ (λ a b. a && b)
         (agree_below_at (λ y. is_ascii (cond (top 7 (f y)) 255 0)) test 256 x all h.0.fits) (each w h.1)
 
--- two tests of two bytes, and of those behind them
+-- two tests of two bytes, and of those after them
 pub and-swap : (a b c d : Bool) → ((a && b) && (c && d)) ≡ ((a && c) && (b && d))
 and-swap true true c d = refl
 and-swap true false true d = refl

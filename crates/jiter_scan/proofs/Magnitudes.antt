@@ -10,7 +10,7 @@ use Rattle.jiter_scan.specs.Number.{AreDigits}
 use Rattle.jiter_scan.specs.NumberDecoder.{magnitude_of}
 use Rattle.jiter_scan.specs.Simd.{digits_end}
 use Rattle.jiter_scan.proofs.Choices.{if_gives}
-use Rattle.jiter_scan.proofs.Chunks.{prefix_len-front, prefix_len-pass}
+use Rattle.jiter_scan.proofs.Chunks.{prefix_len-prefix, prefix_len-pass}
 use Rattle.jiter_scan.proofs.Standing.{slice_range-split}
 use Rattle.jiter_scan.proofs.Digits.{decimal_of-append, decimal_of-below, decimal_of-above}
 
@@ -26,11 +26,11 @@ digits_end-some t i limit e h =
 
 module _ (t : List ℕ) where
   -- digits of a run are digits of any chunk that begins as it
-  pub digits-front : (chunk : List ℕ) (i n : ℕ) → take n chunk ≡ slice_range t i (i + n) → i + n ≤ digit_run_end t i
+  pub digits-prefix : (chunk : List ℕ) (i n : ℕ) → take n chunk ≡ slice_range t i (i + n) → i + n ≤ digit_run_end t i
       → n ≤ digit_run_end chunk 0
-  digits-front chunk i n front run =
+  digits-prefix chunk i n prefix run =
       let counted : n ≤ prefix_len is_digit (drop i t) = omega arith in
-      let found = prefix_len-front is_digit n (drop i t) chunk (sym (front ∙ slice_range-count t i n)) counted in
+      let found = prefix_len-prefix is_digit n (drop i t) chunk (sym (prefix ∙ slice_range-count t i n)) counted in
       omega arith
 
   module _ (i e : ℕ) (some : i ≤ e) (run : e ≤ digit_run_end t i) (within : e ≤ length t) where
@@ -80,14 +80,14 @@ module _ (t : List ℕ) where
       slice_range-split t i e le (e + 1) (omega arith) ∙ ap (λ v. w ++ v) one in
       ap decimal_of is ∙ omega (arith, decimal_of-append w (c ∷ []))
 
-  -- the value of sixteen digits, and that of those behind them
+  -- the value of sixteen digits, and that of those after them
   pub decimal_of-joined : (i e a b : ℕ) → i + 16 ≤ e → e ≤ length t → a ≡ decimal_of (slice_range t i (i + 16))
       → b ≡ decimal_of (slice_range t (i + 16) e) → a * 10 ^ (e - i - 16) + b ≡ decimal_of (slice_range t i e)
-  decimal_of-joined i e a b many within front behind =
+  decimal_of-joined i e a b many within prefix after =
       let first = slice_range t i (i + 16) in
       let rest = slice_range t (i + 16) e in
       let count : length rest ≡ e - i - 16 =
       omega (arith, length-take (e - (i + 16)) (drop (i + 16) t), length-drop (i + 16) t) in
-      ap₂ (λ x y. x * 10 ^ (e - i - 16) + y) front behind
+      ap₂ (λ x y. x * 10 ^ (e - i - 16) + y) prefix after
       ∙ sym (ap decimal_of (slice_range-split t i (i + 16) (omega arith) e many)
       ∙ decimal_of-append first rest ∙ ap (λ n. decimal_of first * 10 ^ n + decimal_of rest) count)

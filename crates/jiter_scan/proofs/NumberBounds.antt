@@ -7,7 +7,7 @@ use Rattle.jiter_scan.specs.Kind.{eof_value, invalid_number}
 use Rattle.jiter_scan.specs.Number.{Number, IsNumberText}
 use Rattle.jiter_scan.specs.NumberReading.{int_part_at, number_extent, with_value}
 use Rattle.jiter_scan.specs.NumberReading.{number_at, Integer, int_seen, float_seen, is_float_sign, integer_or_float}
-use Rattle.jiter_scan.specs.NumberReading.{integer_behind, integer_behind_minus, integer_from, int_at, alone}
+use Rattle.jiter_scan.specs.NumberReading.{integer_after, integer_after_minus, integer_from, int_at, alone}
 use Rattle.jiter_scan.specs.NumberReading.{integer_alone, if_number, begins_number, number_alone, int_alone}
 use Rattle.jiter_scan.specs.Scanned.{Scanned, taken, failed}
 use Rattle.jiter_scan.specs.Stands.{Stands}
@@ -39,24 +39,24 @@ module _ (t : List ℕ) where
   integer_or_float-within i e (Some c) h =
       if_case (Within t) (is_float_sign c) _ _ (λ _. h) (λ _. h)
 
-  integer_behind-within : (i : ℕ) (x : Extent) → Within t x → Within t (integer_behind t i x)
-  integer_behind-within i (taken u e) h = integer_or_float-within i e (slice_get t e) h
-  integer_behind-within i (failed k e) h = h
+  integer_after-within : (i : ℕ) (x : Extent) → Within t x → Within t (integer_after t i x)
+  integer_after-within i (taken u e) h = integer_or_float-within i e (slice_get t e) h
+  integer_after-within i (failed k e) h = h
 
-  integer_behind_minus-within : (i : ℕ) (o : Option ℕ) → slice_get t (i + 1) ≡ o → i + 1 ≤ length t
-      → Within t (integer_behind_minus t i o)
-  integer_behind_minus-within i None s le = over (i + 1) le s
-  integer_behind_minus-within i (Some c) s le =
+  integer_after_minus-within : (i : ℕ) (o : Option ℕ) → slice_get t (i + 1) ≡ o → i + 1 ≤ length t
+      → Within t (integer_after_minus t i o)
+  integer_after_minus-within i None s le = over (i + 1) le s
+  integer_after_minus-within i (Some c) s le =
       if_case (Within t) (c == 73) _ _
-      (λ _. le) (λ _. integer_behind-within i (int_part_at t (i + 1)) (int_part-within (i + 1) le))
+      (λ _. le) (λ _. integer_after-within i (int_part_at t (i + 1)) (int_part-within (i + 1) le))
 
   integer_from-within : (i : ℕ) (o : Option ℕ) → slice_get t i ≡ o → i ≤ length t → Within t (integer_from t i o)
   integer_from-within i None s le = over i le s
   integer_from-within i (Some c) s le =
       let lt = slice_get_within t i c s in
-      if_case (Within t) (c == 45) _ _ (λ _. integer_behind_minus-within i (slice_get t (i + 1)) refl (omega arith))
+      if_case (Within t) (c == 45) _ _ (λ _. integer_after_minus-within i (slice_get t (i + 1)) refl (omega arith))
       (λ _. if_case (Within t) ((c == 78) || (c == 73)) _ _
-      (λ _. le) (λ _. integer_behind-within i (int_part_at t i) (int_part-within i le)))
+      (λ _. le) (λ _. integer_after-within i (int_part_at t i) (int_part-within i le)))
 
   alone-within : (x : Scanned Number) → Within t x → Within t (alone t x)
   alone-within (taken n e) h =

@@ -122,9 +122,9 @@ module _ (t : List ℕ) where
   pub IsMinusTo-le : (i j : ℕ) → IsMinusTo t i j → i ≤ j
   IsMinusTo-le i j h = let m = minus_to i j h in let long = stands-length t i j m.0 m.2 in omega arith
 
-  behind_minus-ascii : (w : List ℕ) (i j e : ℕ) → IsMinusTo t i j → Stands t j e w → IsAscii w
+  after_minus-ascii : (w : List ℕ) (i j e : ℕ) → IsMinusTo t i j → Stands t j e w → IsAscii w
       → IsAscii (slice_range t i e)
-  behind_minus-ascii w i j e minus stands ascii =
+  after_minus-ascii w i j e minus stands ascii =
       let m = minus_to i j minus in
       subst IsAscii (slice-stands t i e (m.0 ++ w) (stands-append t i j e m.0 w m.2 stands))
       (IsAscii-append m.0 w (minus-ascii m.0 m.1) ascii)
@@ -133,13 +133,13 @@ module _ (t : List ℕ) where
   pub IsAscii-decimal : (i j e : ℕ) → IsMinusTo t i j → decimal_at t j ≡ taken tt e → IsAscii (slice_range t i e)
   IsAscii-decimal i j e minus h =
       let d = decimal_at-sound t j e h in
-      behind_minus-ascii d.0 i j e minus d.1 (number-ascii false d.0 (inl (decimal-is [] (inl refl) d.0 d.2)))
+      after_minus-ascii d.0 i j e minus d.1 (number-ascii false d.0 (inl (decimal-is [] (inl refl) d.0 d.2)))
 
   pub IsAscii-integer : (i j e : ℕ) → IsMinusTo t i j → int_part_at t j ≡ taken tt e → IsAscii (slice_range t i e)
   IsAscii-integer i j e minus h =
-      let w = int_part_at-sound t j e h in behind_minus-ascii w.0 i j e minus w.1 (int_part-ascii w.0 w.2.0)
+      let w = int_part_at-sound t j e h in after_minus-ascii w.0 i j e minus w.1 (int_part-ascii w.0 w.2.0)
 
   -- a name
   pub IsAscii-name : (w : List ℕ) (i j e : ℕ) → IsMinusTo t i j → word_at t w j ≡ taken tt e → IsAscii w
       → IsAscii (slice_range t i e)
-  IsAscii-name w i j e minus h ascii = behind_minus-ascii w i j e minus (word_at-sound t w j e tt h) ascii
+  IsAscii-name w i j e minus h ascii = after_minus-ascii w i j e minus (word_at-sound t w j e tt h) ascii

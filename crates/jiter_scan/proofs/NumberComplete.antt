@@ -1,4 +1,4 @@
--- A number's text is read as a number, where the byte behind it does not go on it.
+-- A number's text is read as a number, where the byte after it does not go on it.
 use Rattle.std.proofs.Common.{◌≡◌, ◌≢◌, ◌⊎◌, inl, inr, ℕ, ◌+◌, ◌≤◌, Bool, true, false, ◌||◌, List, [], ◌∷◌, ◌++◌}
 use Rattle.std.proofs.Common.{length, refl, sym, ap, ◌∙◌, subst, arith}
 use Rattle.std.specs.Prelude.{slice_get, slice_range, Option, Some, None, IfSome, ◌==◌, nat_le, codes}
@@ -9,9 +9,9 @@ use Rattle.jiter_scan.specs.Digits.{is_digit, digit_run_end}
 use Rattle.jiter_scan.specs.Number.{number_value, IsDigits, IsMinus, IsIntPart, IsFraction, IsSign, IsExponent}
 use Rattle.jiter_scan.specs.Number.{IsDecimal}
 use Rattle.jiter_scan.specs.Number.{IsName, IsNumberText, digit_limit}
-use Rattle.jiter_scan.specs.NumberReading.{digits_from, behind_zero, int_part_from, int_part_at, fraction_from}
+use Rattle.jiter_scan.specs.NumberReading.{digits_from, after_zero, int_part_from, int_part_at, fraction_from}
 use Rattle.jiter_scan.specs.NumberReading.{fraction_at}
-use Rattle.jiter_scan.specs.NumberReading.{power_from, exponent_from, exponent_at, decimal_at, behind_minus}
+use Rattle.jiter_scan.specs.NumberReading.{power_from, exponent_from, exponent_at, decimal_at, after_minus}
 use Rattle.jiter_scan.specs.NumberReading.{extent_from, number_extent, with_value, number_at}
 use Rattle.jiter_scan.specs.NumberWithin.{continues_number}
 use Rattle.jiter_scan.specs.Scanned.{taken}
@@ -49,9 +49,9 @@ fraction-first : (w : List ℕ) → IsFraction w → First w (λ c. is_digit c �
 fraction-first [] h = tt
 fraction-first (c ∷ w) h = ap is_digit h.0
 
-behind_zero-complete : (j : ℕ) (o : Option ℕ) → NoDigit o → behind_zero j o ≡ taken tt j
-behind_zero-complete j None n = refl
-behind_zero-complete j (Some c) n = if-false (is_digit c) _ _ n
+after_zero-complete : (j : ℕ) (o : Option ℕ) → NoDigit o → after_zero j o ≡ taken tt j
+after_zero-complete j None n = refl
+after_zero-complete j (Some c) n = if-false (is_digit c) _ _ n
 
 module _ (t : List ℕ) where
   -- one digit or more
@@ -67,7 +67,7 @@ module _ (t : List ℕ) where
   int_part-zero i j c w h z none n =
       let at : i + 1 ≡ j = subst (Stands t (i + 1) j) none h.1 in
       ap (int_part_from t i) (h.0 ∙ ap Some z)
-      ∙ behind_zero-complete (i + 1) (slice_get t (i + 1)) (subst (λ k. NoDigit (slice_get t k)) (sym at) n)
+      ∙ after_zero-complete (i + 1) (slice_get t (i + 1)) (subst (λ k. NoDigit (slice_get t k)) (sym at) n)
       ∙ ap (taken tt) at
 
   int_part-digits : (i j c : ℕ) (w : List ℕ) → Stands t i j (c ∷ w) → c ≢ 48 → IsDigits (c ∷ w)
@@ -155,7 +155,7 @@ module _ (t : List ℕ) where
       ∙ power_from-complete (i + 1) j p.sign p.digits p.is_sign p.are_digits s.1
       (IfSome_then (slice_get t j) n (λ c q. q.0))
 
-  -- the parts behind a minus
+  -- the parts after a minus
   pub decimal_at-complete : (i e : ℕ) (int_part fraction exponent : List ℕ) → IsIntPart int_part
       → length int_part ≤ digit_limit
       → IsFraction fraction → IsExponent exponent
@@ -163,16 +163,16 @@ module _ (t : List ℕ) where
   decimal_at-complete i e int_part fraction exponent w l f x h n =
       let a = stands-split t i e int_part (fraction ++ exponent) h in
       let b = stands-split t a.0 e fraction exponent a.2 in
-      let behind : IfSome (slice_get t e) NoPart = IfSome_then (slice_get t e) n no_part in
+      let after : IfSome (slice_get t e) NoPart = IfSome_then (slice_get t e) n no_part in
       let k : IfSome (slice_get t b.0) NoPoint =
       stands-next t NoPoint b.0 e exponent b.2 (exponent-first exponent x)
-      (IfSome_then (slice_get t e) behind (λ c p. (p.0, p.1))) in
+      (IfSome_then (slice_get t e) after (λ c p. (p.0, p.1))) in
       let j : NoDigit (slice_get t a.0) =
       stands-next t (λ c. is_digit c ≡ false) a.0 b.0 fraction b.1 (fraction-first fraction f)
       (IfSome_then (slice_get t b.0) k (λ c p. p.0)) in
       decimal_at-tail t i a.0 e (int_part_at-complete i a.0 int_part a.1 w l j)
       (tail-parts t a.0 b.0 e (fraction_at-complete a.0 b.0 fraction b.1 f k)
-      (exponent_at-complete b.0 e exponent b.2 x behind))
+      (exponent_at-complete b.0 e exponent b.2 x after))
 
   number_extent-decimal : (names : Bool) (i e : ℕ) (w : List ℕ) → Stands t i e w → IsDecimal w
       → EndsNumber (slice_get t e) → number_extent names t i ≡ taken tt e
@@ -203,7 +203,7 @@ module _ (t : List ℕ) where
       ap (extent_from true t i) s.0 ∙ word_at-complete t (codes "Infinity") i e s
   extent-name i e w h (inr (inr is)) =
       let s : Stands t i e (codes "-Infinity") = subst (Stands t i e) is h in
-      ap (extent_from true t i) s.0 ∙ ap (behind_minus true t (i + 1)) s.1.0
+      ap (extent_from true t i) s.0 ∙ ap (after_minus true t (i + 1)) s.1.0
       ∙ word_at-complete t (codes "Infinity") (i + 1) e s.1
 
   -- all of a number
@@ -212,7 +212,7 @@ module _ (t : List ℕ) where
   number_extent-complete names i e w h (inl d) n = number_extent-decimal names i e w h d n
   number_extent-complete names i e w h (inr x) n = ap (λ b. number_extent b t i) x.0 ∙ extent-name i e w h x.1
 
--- a number's text is read whole, where the byte behind it does not go on it
+-- a number's text is read whole, where the byte after it does not go on it
 pub number_at-complete : (names : Bool) (t : List ℕ) (i e : ℕ) → i ≤ e → e ≤ length t
     → IsNumberText names (slice_range t i e) → IfSome (slice_get t e) (λ c. continues_number c ≡ false)
     → number_at names t i ≡ taken (number_value (slice_range t i e)) e

@@ -17,7 +17,7 @@ any_names : (names : Bool) (w : List ℕ) → IsNumberText false w → IsNumberT
 any_names names w (inl d) = inl d
 any_names names w (inr x) = absurd (no_names x.0)
 
--- a number that is read in a piece, and a byte behind it with which none goes on
+-- a number that is read in a piece, and a byte after it with which none goes on
 pub ends-within : (piece : List ℕ) (at : ℕ) (n : Number) (e : ℕ) → number_at false piece at ≡ taken n e → at < e
     → EndsNumber piece e → EndsWithin piece at n e
 ends-within piece at n e read ahead ends =

@@ -11,14 +11,14 @@ use Rattle.jiter_scan.specs.NumberDecoder.{magnitude_of, IsMinusTo}
 use Rattle.jiter_scan.specs.NumberExtent.{minus_end}
 use Rattle.jiter_scan.specs.NumberReading.{int_part_from, int_part_at, fraction_at, exponent_at, extent_then}
 use Rattle.jiter_scan.specs.NumberReading.{decimal_at}
-use Rattle.jiter_scan.specs.NumberReading.{behind_minus, name_at, extent_from, number_extent}
+use Rattle.jiter_scan.specs.NumberReading.{after_minus, name_at, extent_from, number_extent}
 use Rattle.jiter_scan.specs.Scanned.{taken, failed}
 use Rattle.jiter_scan.specs.Stands.{Stands}
 use Rattle.jiter_scan.specs.Word.{word_at}
 use Rattle.jiter_scan.proofs.Choices.{if_gives, if-true, if-false, extent_then-taken}
 use Rattle.jiter_scan.proofs.Digits.{digit-bounds}
 use Rattle.jiter_scan.proofs.NumberRows.{IntPart}
-use Rattle.jiter_scan.proofs.NumberSound.{behind_zero-sound, int_part_at-sound}
+use Rattle.jiter_scan.proofs.NumberSound.{after_zero-sound, int_part_at-sound}
 use Rattle.jiter_scan.proofs.Standing.{slice-one}
 
 module _ (t : List ℕ) where
@@ -26,7 +26,7 @@ module _ (t : List ℕ) where
   pub byte-got : (i b : ℕ) → i < length t → get_or t i 0 ≡ b → slice_get t i ≡ Some b
   byte-got i b h e = slice_get-get_or t i 0 h ∙ ap (λ x. Some x) e
 
-  -- the integer part, and a fraction and an exponent behind it or not
+  -- the integer part, and a fraction and an exponent after it or not
   pub decimal_at-tail : (i k e : ℕ) → int_part_at t i ≡ taken tt k
       → extent_then (fraction_at t k) (exponent_at t) ≡ taken tt e → decimal_at t i ≡ taken tt e
   decimal_at-tail i k e int_part tail =
@@ -72,7 +72,7 @@ module _ (t : List ℕ) where
       let d = decimal-digit (i + 1) e h in
       let c = d.0 in
       let name = if names then word_at t (codes "Infinity") (i + 1) else failed invalid_number (i + 1) in
-      ap (extent_from names t i) q ∙ ap (behind_minus names t (i + 1)) d.1
+      ap (extent_from names t i) q ∙ ap (after_minus names t (i + 1)) d.1
       ∙ if-false (c == 73) _ _ (ne_eqb c 73 (λ r. omega (arith, r, (digit-bounds c d.2).1)))
       ∙ h
 
@@ -83,7 +83,7 @@ module _ (t : List ℕ) where
   extent-signed names i j e (inr (next, minus)) h =
       extent-minus names i e minus (subst (λ k. decimal_at t k ≡ taken tt e) next h)
 
-  after-minus : (j e : ℕ) (o : Option ℕ) → behind_minus false t j o ≡ taken tt e → decimal_at t j ≡ taken tt e
+  after-minus : (j e : ℕ) (o : Option ℕ) → after_minus false t j o ≡ taken tt e → decimal_at t j ≡ taken tt e
   after-minus j e None h = absurd (cc)
   after-minus j e (Some d) h = if_gives (d == 73) _ _ _ h (λ q r. absurd (cc)) (λ q r. r)
 
@@ -110,5 +110,5 @@ module _ (t : List ℕ) where
   pub magnitude_of-zero : (i e : ℕ) → slice_get t i ≡ Some 48 → int_part_at t i ≡ taken tt e
       → 0 ≡ magnitude_of (slice_range t i e)
   magnitude_of-zero i e q h =
-      let end = behind_zero-sound t (i + 1) e (sym (ap (int_part_from t i) q) ∙ h) in
+      let end = after_zero-sound t (i + 1) e (sym (ap (int_part_from t i) q) ∙ h) in
       ap magnitude_of (sym (slice-one t i 48 q)) ∙ ap (λ k. magnitude_of (slice_range t i k)) end

@@ -10,13 +10,13 @@ use Rattle.std.proofs.lemmas.Str.{IsAscii-append}
 use Rattle.std.proofs.lemmas.Str.Ascii.{IsAscii-cons, IsAscii-nil}
 use Rattle.jiter_scan.specs.Number.{is_float_byte, is_integral}
 use Rattle.jiter_scan.specs.NumberReading.{number_extent}
-use Rattle.jiter_scan.specs.OpenNumber.{BeginsThere, BeginsTo, Fits, GoesTo, HoldsNumber, IsBegun, is_int_stage, Leads}
-use Rattle.jiter_scan.specs.OpenNumber.{LeadsOver, number_from}
-use Rattle.jiter_scan.specs.declared.open_number.OpenNumber.{OpenNumber}
+use Rattle.jiter_scan.specs.PartialNumber.{BeginsThere, BeginsTo, Fits, GoesTo, HoldsNumber, IsBegun, is_int_stage, Leads}
+use Rattle.jiter_scan.specs.PartialNumber.{LeadsOver, number_from}
+use Rattle.jiter_scan.specs.declared.partial_number.PartialNumber.{PartialNumber}
 use Rattle.jiter_scan.specs.Stands.{Stands}
 use Rattle.jiter_scan.specs.Word.{Extent}
-use Rattle.jiter_scan.specs.declared.open_number.Stage.{Stage}
-use Rattle.jiter_scan.specs.declared.open_number.Went.TheVariants as went
+use Rattle.jiter_scan.specs.declared.partial_number.Stage.{Stage}
+use Rattle.jiter_scan.specs.declared.partial_number.Went.TheVariants as went
 use Rattle.jiter_scan.proofs.OpenValues.{stands-last}
 use Rattle.jiter_scan.proofs.Standing.{slice-one, slice_range-split, stands-length, stands-split}
 
@@ -42,9 +42,9 @@ three : (x y z : Bool) → ((x && y) && z) ≡ (x && (y && z))
 three true y z = refl
 three false y z = refl
 
--- ---- one part behind the other
+-- ---- one part after the other
 
--- what is read where some bytes stand, and others behind them
+-- what is read where some bytes stand, and others after them
 joined : (read : Bool → List ℕ → ℕ → Extent) (m new : Stage) (w v : List ℕ)
     → ((names : Bool) (t : List ℕ) (j : ℕ) → Stands t j (j + length w) w
     → read names t j ≡ number_from names m t (j + length w))
@@ -112,7 +112,7 @@ goes-byte s new t i b here leads fits =
 
 -- ---- a number that has begun
 
--- bytes stand between those before them and those behind
+-- bytes stand between those before them and those after
 stands-between : (w v u : List ℕ) → Stands (w ++ (v ++ u)) (length w) (length w + length v) v
 stands-between w v u =
     let t = w ++ (v ++ u) in
@@ -135,7 +135,7 @@ begun-goes w s new t i e begun go =
     }
 
 -- It goes on,
-pub held-on : (n m : OpenNumber) (w t : List ℕ) (i e : ℕ) → HoldsNumber n w → GoesTo n.stage t i m.stage e
+pub held-on : (n m : PartialNumber) (w t : List ℕ) (i e : ℕ) → HoldsNumber n w → GoesTo n.stage t i m.stage e
     → string_bytes m.text ≡ string_bytes n.text ++ slice_range t i e → HoldsNumber m (w ++ slice_range t i e)
 held-on n m w t i e h go text =
     let v = slice_range t i e in
@@ -145,7 +145,7 @@ held-on n m w t i e h go text =
       goes = begins-over n.stage m.stage w v h.goes go.leads;
     }
 
--- and so it does behind its first byte.
+-- and so it does after its first byte.
 pub begins-there : (s new : Stage) (t : List ℕ) (i b e : ℕ) → slice_get t i ≡ Some b
     → ((names : Bool) (u : List ℕ) (j : ℕ) → slice_get u j ≡ Some b
     → number_extent names u j ≡ number_from names s u (j + 1))
@@ -169,7 +169,7 @@ begins-there s new t i b e here leads int small float go =
     }
 
 -- Its bytes are kept.
-pub held-first : (m : OpenNumber) (s : Stage) (t : List ℕ) (i e : ℕ) → BeginsThere t i s e → m.stage ≡ s
+pub held-first : (m : PartialNumber) (s : Stage) (t : List ℕ) (i e : ℕ) → BeginsThere t i s e → m.stage ≡ s
     → string_bytes m.text ≡ slice_range t i e → HoldsNumber m (slice_range t i e)
 held-first m s t i e there is text =
     let w = slice_range t i e in

@@ -2,7 +2,7 @@
 --
 -- A relation says of a part what its bytes are, where it begins, and how it is read: in one text, or in two. It holds
 -- of whole numbers where it is kept by what the rows do: choose by a byte, take nothing or a run of digits, fail at a
--- byte, go on behind one, and read one part behind another. Its instances: what is read is spelled, and what is
+-- byte, go on after one, and read one part after another. Its instances: what is read is spelled, and what is
 -- refused can be ended (NumberSound); and two texts with the same bytes before a place are read the same
 -- (jiter_steps, SameNumbers).
 use Rattle.std.proofs.Common.{◌≡◌, ◌≢◌, ◌⊎◌, inl, inr, ℕ, ◌+◌, ◌≤◌, Bool, true, ◌||◌, List, [], ◌∷◌, ◌++◌, length}
@@ -14,10 +14,10 @@ use Rattle.jiter_scan.specs.Digits.{is_digit, digit_run_end}
 use Rattle.jiter_scan.specs.Kind.{Kind, eof_value, expected_ident, expected_value, invalid_number}
 use Rattle.jiter_scan.specs.Number.{IsDigits, IsMinus, IsIntPart, IsFraction, IsSign, IsExponent, IsDecimal}
 use Rattle.jiter_scan.specs.Number.{IsNumberText, digit_limit}
-use Rattle.jiter_scan.specs.NumberReading.{extent_then, digits_from, behind_zero, within_limit, int_part_from}
+use Rattle.jiter_scan.specs.NumberReading.{extent_then, digits_from, after_zero, within_limit, int_part_from}
 use Rattle.jiter_scan.specs.NumberReading.{int_part_at}
 use Rattle.jiter_scan.specs.NumberReading.{fraction_from, fraction_at, power_from, exponent_from, exponent_at}
-use Rattle.jiter_scan.specs.NumberReading.{decimal_at, behind_minus, extent_from, number_extent}
+use Rattle.jiter_scan.specs.NumberReading.{decimal_at, after_minus, extent_from, number_extent}
 use Rattle.jiter_scan.specs.Scanned.{taken, failed}
 use Rattle.jiter_scan.specs.Word.{Extent, byte_then, word_at}
 use Rattle.jiter_scan.proofs.Choices.{if_both}
@@ -26,7 +26,7 @@ use Rattle.jiter_scan.proofs.Choices.{if_both}
 abbrev pub Part : Type 1
 Part = List ℕ → Type 0
 
--- the one part, and the other behind it
+-- the one part, and the other after it
 abbrev pub Joined : Part → Part → Part
 Joined A B v = (w : List ℕ) × (x : List ℕ) × (v ≡ w ++ x) × A w × B x
 
@@ -38,7 +38,7 @@ IsWord w v = v ≡ w
 abbrev pub IntPart : Part
 IntPart w = IsIntPart w × (length w ≤ digit_limit)
 
--- what follows the letter of an exponent; what follows an integer part; and a decimal number behind its minus
+-- what follows the letter of an exponent; what follows an integer part; and a decimal number after its minus
 abbrev pub Power : Part
 Power = Joined IsSign IsDigits
 
@@ -49,8 +49,8 @@ abbrev pub Magnitude : Part
 Magnitude = Joined IntPart Tail
 
 -- what follows a minus
-abbrev pub BehindMinus : Bool → Part
-BehindMinus names v = Magnitude v ⊎ ((names ≡ true) × (v ≡ codes "Infinity"))
+abbrev pub AfterMinus : Bool → Part
+AfterMinus names v = Magnitude v ⊎ ((names ≡ true) × (v ≡ codes "Infinity"))
 
 no_tail : Tail []
 no_tail = ([], [], refl, tt, inl refl)
@@ -92,7 +92,7 @@ decimal-is minus is v m = record {
   is_exponent = m.4.4;
 }
 
-minus-is : (names : Bool) (v : List ℕ) → BehindMinus names v → IsNumberText names (45 ∷ v)
+minus-is : (names : Bool) (v : List ℕ) → AfterMinus names v → IsNumberText names (45 ∷ v)
 minus-is names v (inl m) = inl (decimal-is (45 ∷ []) (inr refl) v m)
 minus-is names v (inr n) = inr (n.0, inr (inr (ap (λ w. 45 ∷ w) n.1)))
 
@@ -107,11 +107,11 @@ abbrev pub Ended : Part → Type 0
 Ended Is = Is [] ⊎ Is (codes "0")
 
 -- what a fault at a byte says of the part that is read
-abbrev pub Refused : Part → Kind → Type 0
-Refused Is expected_ident = Unit {0}
-Refused Is expected_value = Ended Is
-Refused Is invalid_number = Ended Is
-Refused Is k = ⊥
+abbrev pub AllocFailed : Part → Kind → Type 0
+AllocFailed Is expected_ident = Unit {0}
+AllocFailed Is expected_value = Ended Is
+AllocFailed Is invalid_number = Ended Is
+AllocFailed Is k = ⊥
 
 -- R is kept by what the rows do, in t and in u, where Here says of a byte that it stands at a place.
 pub record Rows (t u : List ℕ) (Here : ℕ → ℕ → Type 0) (R : Part → ℕ → Extent → Extent → Type 0) : Type 1 where
@@ -120,13 +120,13 @@ pub record Rows (t u : List ℕ) (Here : ℕ → ℕ → Type 0) (R : Part → �
       → ((c : ℕ) → Here i c → R Is i (F (Some c)) (G (Some c))) → R Is i (F (slice_get t i)) (G (slice_get u i))
   -- nothing is taken; a byte is refused; digits are taken, and those of an integer part if they are few
   pub none : (Is : Part) (i : ℕ) → Is [] → R Is i (taken tt i) (taken tt i)
-  pub fault : (Is : Part) (k : Kind) (i c : ℕ) → Here i c → Refused Is k → R Is i (failed k i) (failed k i)
+  pub fault : (Is : Part) (k : Kind) (i c : ℕ) → Here i c → AllocFailed Is k → R Is i (failed k i) (failed k i)
   pub run : (i c : ℕ) → Here i c → is_digit c ≡ true
       → R IsDigits i (taken tt (digit_run_end t i)) (taken tt (digit_run_end u i))
   pub limit : (i c : ℕ) → Here i c → is_digit c ≡ true → c ≢ 48
       → R IntPart i (within_limit i (digit_run_end t i)) (within_limit i (digit_run_end u i))
-  -- a part behind a byte; a part of one kind as one of another; a part behind a part, where the second may be nothing
-  pub behind : (Is Then : Part) (i c : ℕ) (x y : Extent) → Here i c → ((v : List ℕ) → Is v → Then (c ∷ v))
+  -- a part after a byte; a part of one kind as one of another; a part after a part, where the second may be nothing
+  pub after : (Is Then : Part) (i c : ℕ) (x y : Extent) → Here i c → ((v : List ℕ) → Is v → Then (c ∷ v))
       → R Is (i + 1) x y → R Then i x y
   pub weaker : (Is Then : Part) (i : ℕ) (x y : Extent) → ((v : List ℕ) → Is v → Then v) → R Is i x y → R Then i x y
   pub joined : (A B : Part) (i : ℕ) (x y : Extent) (f g : ℕ → Extent) → B [] → R A i x y
@@ -142,10 +142,10 @@ module _ (t u : List ℕ) (Here : ℕ → ℕ → Type 0) (R : Part → ℕ → 
   pub digits : (i : ℕ) → R IsDigits i (digits_from t i (slice_get t i)) (digits_from u i (slice_get u i))
   digits i = rows.byte IsDigits (digits_from t i) (digits_from u i) i (refl, refl) (refl, refl) (digit i)
 
-  -- behind a leading zero, and the integer part
-  pub zero : (i : ℕ) → R (IsWord []) i (behind_zero i (slice_get t i)) (behind_zero i (slice_get u i))
+  -- after a leading zero, and the integer part
+  pub zero : (i : ℕ) → R (IsWord []) i (after_zero i (slice_get t i)) (after_zero i (slice_get u i))
   zero i =
-      rows.byte (IsWord []) (behind_zero i) (behind_zero i) i (refl, refl) (refl, refl)
+      rows.byte (IsWord []) (after_zero i) (after_zero i) i (refl, refl) (refl, refl)
       (λ c h. if_both (R (IsWord []) i) (is_digit c) _ _ _ _
       (λ d. rows.fault (IsWord []) invalid_number i c h (inl refl)) (λ d. rows.none (IsWord []) i refl))
 
@@ -153,7 +153,7 @@ module _ (t u : List ℕ) (Here : ℕ → ℕ → Type 0) (R : Part → ℕ → 
   int_part i =
       rows.byte IntPart (int_part_from t i) (int_part_from u i) i (refl, refl) (refl, refl)
       (λ c h. if_both (R IntPart i) (c == 48) _ _ _ _
-      (λ z. rows.behind (IsWord []) IntPart i c _ _ h
+      (λ z. rows.after (IsWord []) IntPart i c _ _ h
       (λ v e. subst (λ w. IntPart (c ∷ w)) (sym e) (zero-int_part c (eqb-true c 48 z))) (zero (i + 1)))
       (λ z. if_both (R IntPart i) (is_digit c) _ _ _ _ (λ d. rows.limit i c h d (eqb-false c 48 z))
       (λ d. rows.fault IntPart invalid_number i c h (inr (zero-int_part 48 refl)))))
@@ -163,7 +163,7 @@ module _ (t u : List ℕ) (Here : ℕ → ℕ → Type 0) (R : Part → ℕ → 
   fraction i =
       rows.byte IsFraction (fraction_from t i) (fraction_from u i) i (refl, tt) (refl, tt)
       (λ c h. if_both (R IsFraction i) (c == 46) _ _ _ _
-      (λ p. rows.behind IsDigits IsFraction i c _ _ h (λ v d. (eqb-true c 46 p, d)) (digits (i + 1)))
+      (λ p. rows.after IsDigits IsFraction i c _ _ h (λ v d. (eqb-true c 46 p, d)) (digits (i + 1)))
       (λ p. rows.none IsFraction i tt))
 
   -- an exponent, or none
@@ -171,17 +171,17 @@ module _ (t u : List ℕ) (Here : ℕ → ℕ → Type 0) (R : Part → ℕ → 
   power i =
       rows.byte Power (power_from t i) (power_from u i) i (refl, refl) (refl, refl)
       (λ c h. if_both (R Power i) ((c == 43) || (c == 45)) _ _ _ _
-      (λ s. rows.behind IsDigits Power i c _ _ h (λ v d. (c ∷ [], v, refl, sign-is c s, d)) (digits (i + 1)))
+      (λ s. rows.after IsDigits Power i c _ _ h (λ v d. (c ∷ [], v, refl, sign-is c s, d)) (digits (i + 1)))
       (λ s. rows.weaker IsDigits Power i _ _ (λ v d. ([], v, refl, inl refl, d)) (digit i c h)))
 
   pub exponent : (i : ℕ) → R IsExponent i (exponent_at t i) (exponent_at u i)
   exponent i =
       rows.byte IsExponent (exponent_from t i) (exponent_from u i) i (refl, inl refl) (refl, inl refl)
       (λ c h. if_both (R IsExponent i) ((c == 101) || (c == 69)) _ _ _ _
-      (λ l. rows.behind Power IsExponent i c _ _ h (power-is c l) (power (i + 1)))
+      (λ l. rows.after Power IsExponent i c _ _ h (power-is c l) (power (i + 1)))
       (λ l. rows.none IsExponent i (inl refl)))
 
-  -- the parts of a decimal number, one behind another
+  -- the parts of a decimal number, one after another
   pub tail : (i : ℕ) → R Tail i (extent_then (fraction_at t i) (exponent_at t))
       (extent_then (fraction_at u i) (exponent_at u))
   tail i = rows.joined IsFraction IsExponent i _ _ (exponent_at t) (exponent_at u) (inl refl) (fraction i) exponent
@@ -202,11 +202,11 @@ module _ (t u : List ℕ) (Here : ℕ → ℕ → Type 0) (R : Part → ℕ → 
         rows.byte (IsWord (c ∷ w)) (byte_then (word_at t w (i + 1)) c i) (byte_then (word_at u w (i + 1)) c i) i
         (refl, refl) (refl, refl)
         (λ b h. if_both (R (IsWord (c ∷ w)) i) (b == c) _ _ _ _
-        (λ e. rows.behind (IsWord w) (IsWord (c ∷ w)) i b _ _ h
+        (λ e. rows.after (IsWord w) (IsWord (c ∷ w)) i b _ _ h
         (λ v s. ap (λ x. x ∷ v) (eqb-true b c e) ∙ ap (λ x. c ∷ x) s) rest)
         (λ e. rows.fault (IsWord (c ∷ w)) expected_ident i b h tt))
 
-  name : (Is : Part) (names : Bool) (w : List ℕ) (k : Kind) (i c : ℕ) → Here i c → Refused Is k
+  name : (Is : Part) (names : Bool) (w : List ℕ) (k : Kind) (i c : ℕ) → Here i c → AllocFailed Is k
       → (names ≡ true → Is w)
       → R Is i (if names then word_at t w i else failed k i) (if names then word_at u w i else failed k i)
   name Is names w k i c h refused is =
@@ -215,10 +215,10 @@ module _ (t u : List ℕ) (Here : ℕ → ℕ → Type 0) (R : Part → ℕ → 
       (λ n. rows.fault Is k i c h refused)
 
   signed : (names : Bool) (i : ℕ)
-      → R (BehindMinus names) i (behind_minus names t i (slice_get t i)) (behind_minus names u i (slice_get u i))
+      → R (AfterMinus names) i (after_minus names t i (slice_get t i)) (after_minus names u i (slice_get u i))
   signed names i =
-      let Is = BehindMinus names in
-      rows.byte Is (behind_minus names t i) (behind_minus names u i) i (refl, refl) (refl, refl)
+      let Is = AfterMinus names in
+      rows.byte Is (after_minus names t i) (after_minus names u i) i (refl, refl) (refl, refl)
       (λ c h. if_both (R Is i) (c == 73) _ _ _ _
       (λ n. name Is names (codes "Infinity") invalid_number i c h (inr (inl zero-magnitude)) (λ all. inr (all, refl)))
       (λ n. rows.weaker Magnitude Is i _ _ (λ v m. inl m) (decimal i)))
@@ -230,7 +230,7 @@ module _ (t u : List ℕ) (Here : ℕ → ℕ → Type 0) (R : Part → ℕ → 
       let zero = inr (inl (decimal-is [] (inl refl) (codes "0") zero-magnitude)) in
       rows.byte Is (extent_from names t i) (extent_from names u i) i (refl, refl) (refl, refl)
       (λ c h. if_both (R Is i) (c == 45) _ _ _ _
-      (λ m. rows.behind (BehindMinus names) Is i c _ _ h
+      (λ m. rows.after (AfterMinus names) Is i c _ _ h
       (λ v s. subst (λ b. Is (b ∷ v)) (sym (eqb-true c 45 m)) (minus-is names v s)) (signed names (i + 1)))
       (λ m. if_both (R Is i) (c == 78) _ _ _ _
       (λ n. name Is names (codes "NaN") expected_value i c h zero (λ all. inr (all, inl refl)))

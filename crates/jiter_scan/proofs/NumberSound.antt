@@ -11,7 +11,7 @@ use Rattle.jiter_scan.specs.Kind.{Kind, is_end_kind, out_of_memory, eof_value, e
 use Rattle.jiter_scan.specs.Kind.{invalid_number, number_out_of_range}
 use Rattle.jiter_scan.specs.Number.{Number, number_value, AreDigits, IsDigits, IsFraction, IsExponent, IsNumberText}
 use Rattle.jiter_scan.specs.Number.{digit_limit}
-use Rattle.jiter_scan.specs.NumberReading.{extent_then, digits_from, behind_zero, within_limit, int_part_at}
+use Rattle.jiter_scan.specs.NumberReading.{extent_then, digits_from, after_zero, within_limit, int_part_at}
 use Rattle.jiter_scan.specs.NumberReading.{fraction_at}
 use Rattle.jiter_scan.specs.NumberReading.{power_from}
 use Rattle.jiter_scan.specs.NumberReading.{exponent_at, decimal_at, number_extent, with_value, number_at}
@@ -19,7 +19,7 @@ use Rattle.jiter_scan.specs.Scanned.{taken, failed, FaultAt}
 use Rattle.jiter_scan.specs.Stands.{Stands}
 use Rattle.jiter_scan.specs.Word.{Extent, word_at}
 use Rattle.jiter_scan.proofs.Choices.{if_case, failed-taken, same_taken}
-use Rattle.jiter_scan.proofs.NumberRows.{Part, Joined, IsWord, IntPart, Power, Magnitude, Over, Ended, Refused, Rows}
+use Rattle.jiter_scan.proofs.NumberRows.{Part, Joined, IsWord, IntPart, Power, Magnitude, Over, Ended, AllocFailed, Rows}
 use Rattle.jiter_scan.proofs.NumberRows.{digits, zero, word, int_part, fraction, power, exponent, decimal, number}
 use Rattle.jiter_scan.proofs.Runs.{run_end-more, run_end-sound, run_end-within}
 use Rattle.jiter_scan.proofs.Standing.{get-none, stands-length, stands-within, stands-append, slice-stands}
@@ -31,13 +31,13 @@ can_end expected_ident = false
 can_end number_out_of_range = false
 can_end k = true
 
--- the bytes from p to j are such a part, or are with a zero behind them
+-- the bytes from p to j are such a part, or are with a zero after them
 pub record Unfinished (t : List ℕ) (Is : Part) (p j : ℕ) : Type 0 where
-  pub front : List ℕ
+  pub prefix : List ℕ
   pub last : List ℕ
-  pub stands : Stands t p j front
+  pub stands : Stands t p j prefix
   pub zero : (last ≡ []) ⊎ (last ≡ codes "0")
-  pub is : Is (front ++ last)
+  pub is : Is (prefix ++ last)
 
 -- the bytes of a part from i, or a fault
 abbrev pub Spelled : List ℕ → Part → ℕ → Extent → Type 0
@@ -72,15 +72,15 @@ module _ (t : List ℕ) where
     by (Some c) e = some c e
 
   ended : (Is : Part) (i : ℕ) → Ended Is → Unfinished t Is i i
-  ended Is i (inl is) = record { front = []; last = []; stands = refl; zero = inl refl; is = is }
-  ended Is i (inr is) = record { front = []; last = codes "0"; stands = refl; zero = inr refl; is = is }
+  ended Is i (inl is) = record { prefix = []; last = []; stands = refl; zero = inl refl; is = is }
+  ended Is i (inr is) = record { prefix = []; last = codes "0"; stands = refl; zero = inr refl; is = is }
 
   fault-at : (Is : Part) (k : Kind) (i j : ℕ) → is_end_kind k ≡ false → k ≢ out_of_memory → i ≤ j
       → (i ≤ length t → j ≤ length t) → (can_end k ≡ true → Unfinished t Is i j) → Spelled t Is i (failed k j)
   fault-at Is k i j late m on within live =
       (λ le. (on, record { within = within le; ends = λ h. absurd (false≢true (sym late ∙ h)); bytes = m }), live)
 
-  fault : (Is : Part) (k : Kind) (i c : ℕ) → Here i c → Refused Is k → Spelled t Is i (failed k i)
+  fault : (Is : Part) (k : Kind) (i c : ℕ) → Here i c → AllocFailed Is k → Spelled t Is i (failed k i)
   fault Is expected_ident i c h r =
       fault-at Is expected_ident i i refl (λ e. cc) (omega arith) (λ le. le) (λ live. absurd (false≢true live))
   fault Is expected_value i c h r =
@@ -110,19 +110,19 @@ module _ (t : List ℕ) where
       fault-at IntPart number_out_of_range i (i + (digit_limit + 1)) refl (λ e. cc) (omega arith)
       (λ le. omega (arith, run_end-within is_digit t i le)) (λ live. absurd (false≢true live)))
 
-  behind : (Is Then : Part) (i c : ℕ) (x : Extent) → Here i c → ((v : List ℕ) → Is v → Then (c ∷ v))
+  after : (Is Then : Part) (i c : ℕ) (x : Extent) → Here i c → ((v : List ℕ) → Is v → Then (c ∷ v))
       → Spelled t Is (i + 1) x → Spelled t Then i x
-  behind Is Then i c (taken u e) h all s = (c ∷ s.0, (h, s.1), all s.0 s.2)
-  behind Is Then i c (failed k j) h all s = (
+  after Is Then i c (taken u e) h all s = (c ∷ s.0, (h, s.1), all s.0 s.2)
+  after Is Then i c (failed k j) h all s = (
     λ le. let r = s.0 (omega (arith, slice_get_within t i c h)) in (omega (arith, r.0), r.1),
     λ live.
         let f = s.1 live in
         record {
-          front = c ∷ f.front;
+          prefix = c ∷ f.prefix;
           last = f.last;
           stands = (h, f.stands);
           zero = f.zero;
-          is = all (f.front ++ f.last) f.is;
+          is = all (f.prefix ++ f.last) f.is;
         },
   )
 
@@ -132,11 +132,11 @@ module _ (t : List ℕ) where
   weaker Is Then i (failed k j) all s = (
     s.0,
     λ live. let f = s.1 live in record {
-      front = f.front;
+      prefix = f.prefix;
       last = f.last;
       stands = f.stands;
       zero = f.zero;
-      is = all (f.front ++ f.last) f.is;
+      is = all (f.prefix ++ f.last) f.is;
     },
   )
 
@@ -156,11 +156,11 @@ module _ (t : List ℕ) where
       λ live.
           let g = s.1 live in
           record {
-            front = a.0 ++ g.front;
+            prefix = a.0 ++ g.prefix;
             last = g.last;
-            stands = stands-append t i m j a.0 g.front a.1 g.stands;
+            stands = stands-append t i m j a.0 g.prefix a.1 g.stands;
             zero = g.zero;
-            is = (a.0, g.front ++ g.last, append_assoc a.0 g.front g.last, a.2, g.is);
+            is = (a.0, g.prefix ++ g.last, append_assoc a.0 g.prefix g.last, a.2, g.is);
           },
     )
 
@@ -171,7 +171,7 @@ module _ (t : List ℕ) where
     fault = fault;
     run = λ i c h d. let r = run i c h d in (c ∷ r.0, r.1, r.2);
     limit = limit;
-    behind = λ Is Then i c x y. behind Is Then i c x;
+    after = λ Is Then i c x y. after Is Then i c x;
     weaker = λ Is Then i x y. weaker Is Then i x;
     joined = λ A B i x y f g. joined A B i x f;
   }
@@ -191,8 +191,8 @@ module _ (t : List ℕ) where
       → (w : List ℕ) × Stands t i e w × IsDigits w
   digits-sound i e h = subst (Spelled t IsDigits i) h (digits t t Here Reads reads i)
 
-  pub behind_zero-sound : (i e : ℕ) → behind_zero i (slice_get t i) ≡ taken tt e → i ≡ e
-  behind_zero-sound i e h =
+  pub after_zero-sound : (i e : ℕ) → after_zero i (slice_get t i) ≡ taken tt e → i ≡ e
+  after_zero-sound i e h =
       let r = subst (Spelled t (IsWord []) i) h (zero t t Here Reads reads i) in subst (Stands t i e) r.2 r.1
 
   pub int_part_at-sound : (i e : ℕ) → int_part_at t i ≡ taken tt e → (w : List ℕ) × Stands t i e w × IntPart w

@@ -8,9 +8,9 @@ use Rattle.jiter_scan.specs.Number.{is_float_byte}
 use Rattle.jiter_scan.specs.NumberDecoder.{IsMinusTo}
 use Rattle.jiter_scan.specs.NumberExtent.{IsNameFrom, IsDecimalFrom, IsDecimalExtent, IsExtent, IsFloatText}
 use Rattle.jiter_scan.specs.NumberExtent.{minus_end, name_extent, extent_end}
-use Rattle.jiter_scan.specs.NumberReading.{behind_minus, extent_from, extent_then, fraction_at, exponent_at}
+use Rattle.jiter_scan.specs.NumberReading.{after_minus, extent_from, extent_then, fraction_at, exponent_at}
 use Rattle.jiter_scan.specs.NumberReading.{decimal_at, int_part_at}
-use Rattle.jiter_scan.specs.NumberReading.{int_at, int_part_from, integer_behind, integer_behind_minus, integer_from}
+use Rattle.jiter_scan.specs.NumberReading.{int_at, int_part_from, integer_after, integer_after_minus, integer_from}
 use Rattle.jiter_scan.specs.Scanned.{Scans, taken}
 use Rattle.jiter_scan.specs.Word.{word_at}
 use Rattle.jiter_scan.specs.declared.errors.Fault.{Fault}
@@ -29,9 +29,9 @@ module _ (t : List ℕ) (i : ℕ) where
         let other = if-false ((i + 1) == i) _ _ (ne_eqb (i + 1) i (λ r. omega (arith, r))) in
         record {
           extent = λ names.
-              ap (extent_from names t i) minus ∙ ap (behind_minus names t (i + 1)) q
+              ap (extent_from names t i) minus ∙ ap (after_minus names t (i + 1)) q
               ∙ ap (λ x. if names then word_at t (codes "Infinity") (i + 1) else x) (sym other);
-          integer = ap (integer_from t i) minus ∙ ap (integer_behind_minus t i) q;
+          integer = ap (integer_from t i) minus ∙ ap (integer_after_minus t i) q;
           minus = inr (refl, minus);
           within = slice_get_within t (i + 1) 73 q;
           first = ap is_float_byte (get_or_from_slice_get t (i + 1) 73 0 q);
@@ -45,20 +45,20 @@ module _ (t : List ℕ) (i : ℕ) where
     minus-decimal None q other =
         record {
           extent = λ names.
-              ap (extent_from names t i) minus ∙ ap (behind_minus names t (i + 1)) q
+              ap (extent_from names t i) minus ∙ ap (after_minus names t (i + 1)) q
               ∙ sym
               (ap
               (λ x.
               extent_then (int_part_from t (i + 1) x) (λ j. extent_then (fraction_at t j) (λ k. exponent_at t k))) q);
-          integer = ap (integer_from t i) minus ∙ ap (integer_behind_minus t i) q
-              ∙ sym (ap (λ x. integer_behind t i (int_part_from t (i + 1) x)) q);
+          integer = ap (integer_from t i) minus ∙ ap (integer_after_minus t i) q
+              ∙ sym (ap (λ x. integer_after t i (int_part_from t (i + 1) x)) q);
         }
     minus-decimal (Some c) q other =
         let no = ne_eqb c 73 (other c refl) in
         record {
           extent = λ names.
-              ap (extent_from names t i) minus ∙ ap (behind_minus names t (i + 1)) q ∙ if-false (c == 73) _ _ no;
-          integer = ap (integer_from t i) minus ∙ ap (integer_behind_minus t i) q ∙ if-false (c == 73) _ _ no;
+              ap (extent_from names t i) minus ∙ ap (after_minus names t (i + 1)) q ∙ if-false (c == 73) _ _ no;
+          integer = ap (integer_from t i) minus ∙ ap (integer_after_minus t i) q ∙ if-false (c == 73) _ _ no;
         }
 
   -- no minus

@@ -27,37 +27,37 @@ use Rattle.jiter_scan.proofs.Standing.{stands-slice}
 
 -- somewhere the bytes part into two of which these facts hold
 record IsParted (P Q : List ℕ → Type 0) (w : List ℕ) : Type 0 where
-  front : List ℕ
+  prefix : List ℕ
   back : List ℕ
-  is : w ≡ front ++ back
-  is_front : P front
+  is : w ≡ prefix ++ back
+  is_prefix : P prefix
   is_back : Q back
 
 parted-decides : (w : List ℕ) (p q : List ℕ → Bool) (P Q : List ℕ → Type 0)
     → ((u : List ℕ) → Decides (p u) (P u)) → ((u : List ℕ) → Decides (q u) (Q u))
     → Decides (is_parted w p q) (IsParted P Q w)
 parted-decides [] p q P Q hp hq =
-    Decides-like (p [] && q []) (λ h. record { front = []; back = []; is = refl; is_front = h.0; is_back = h.1 })
-    (λ h. parts h.front h.back h.is h.is_front h.is_back) (Decides-and (p []) (q []) (hp []) (hq []))
+    Decides-like (p [] && q []) (λ h. record { prefix = []; back = []; is = refl; is_prefix = h.0; is_back = h.1 })
+    (λ h. parts h.prefix h.back h.is h.is_prefix h.is_back) (Decides-and (p []) (q []) (hp []) (hq []))
   where
     parts : (u v : List ℕ) → [] ≡ u ++ v → P u → Q v → P [] × Q []
     parts [] v e a b = (a, subst Q (sym e) b)
     parts (c ∷ u) v e a b = cc
 parted-decides (c ∷ cs) p q P Q hp hq =
     Decides-like ((p [] && q (c ∷ cs)) || is_parted cs (λ u. p (c ∷ u)) q) to
-    (λ h. from h.front h.back h.is h.is_front h.is_back)
+    (λ h. from h.prefix h.back h.is h.is_prefix h.is_back)
     (Decides-or (p [] && q (c ∷ cs)) (is_parted cs (λ u. p (c ∷ u)) q)
     (Decides-and (p []) (q (c ∷ cs)) (hp []) (hq (c ∷ cs)))
     (parted-decides cs (λ u. p (c ∷ u)) q (λ u. P (c ∷ u)) Q (λ u. hp (c ∷ u)) hq))
   where
     to : (P [] × Q (c ∷ cs)) ⊎ IsParted (λ u. P (c ∷ u)) Q cs → IsParted P Q (c ∷ cs)
-    to (inl h) = record { front = []; back = c ∷ cs; is = refl; is_front = h.0; is_back = h.1 }
+    to (inl h) = record { prefix = []; back = c ∷ cs; is = refl; is_prefix = h.0; is_back = h.1 }
     to (inr h) =
         record {
-          front = c ∷ h.front;
+          prefix = c ∷ h.prefix;
           back = h.back;
           is = ap (λ x. c ∷ x) h.is;
-          is_front = h.is_front;
+          is_prefix = h.is_prefix;
           is_back = h.is_back;
         }
 
@@ -66,7 +66,7 @@ parted-decides (c ∷ cs) p q P Q hp hq =
     from (d ∷ u) v e a b =
         let first : d ≡ c = cc in
         let rest : cs ≡ u ++ v = cc in
-        inr (record { front = u; back = v; is = rest; is_front = subst (λ x. P (x ∷ u)) first a; is_back = b })
+        inr (record { prefix = u; back = v; is = rest; is_prefix = subst (λ x. P (x ∷ u)) first a; is_back = b })
 
 digits-decide : (w : List ℕ) → Decides (list_all is_digit w) (AreDigits w)
 digits-decide [] = (λ h. tt, λ h. refl)
@@ -110,11 +110,11 @@ exponent-decides (c ∷ cs) =
     to : PowerParts c cs → IsExponent (c ∷ cs)
     to h = inr (record {
       letter = c;
-      sign = h.1.front;
+      sign = h.1.prefix;
       digits = h.1.back;
       is = ap (λ x. c ∷ x) h.1.is;
       is_letter = h.0;
-      is_sign = h.1.is_front;
+      is_sign = h.1.is_prefix;
       are_digits = h.1.is_back;
     })
 
@@ -124,7 +124,7 @@ exponent-decides (c ∷ cs) =
         let first : h.letter ≡ c = cc (h.is) in
         let rest : cs ≡ h.sign ++ h.digits = cc (h.is) in (
           subst (λ x. (x ≡ ascii.small_e) ⊎ (x ≡ ascii.capital_e)) first h.is_letter,
-          record { front = h.sign; back = h.digits; is = rest; is_front = h.is_sign; is_back = h.are_digits },
+          record { prefix = h.sign; back = h.digits; is = rest; is_prefix = h.is_sign; is_back = h.are_digits },
         )
 
 limit-decides : (n : ℕ) → Decides (nat_le n digit_limit) (n ≤ digit_limit)
@@ -151,34 +151,34 @@ decimal-decides w =
     to h =
         let m = h.is_back in
         record {
-          minus = h.front;
-          int_part = m.front;
-          fraction = m.is_back.front;
+          minus = h.prefix;
+          int_part = m.prefix;
+          fraction = m.is_back.prefix;
           exponent = m.is_back.back;
-          is = h.is ∙ ap (λ x. h.front ++ x) (m.is ∙ ap (λ x. m.front ++ x) m.is_back.is);
-          is_minus = h.is_front;
-          is_int_part = m.is_front.0;
-          limit = m.is_front.1;
-          is_fraction = m.is_back.is_front;
+          is = h.is ∙ ap (λ x. h.prefix ++ x) (m.is ∙ ap (λ x. m.prefix ++ x) m.is_back.is);
+          is_minus = h.is_prefix;
+          is_int_part = m.is_prefix.0;
+          limit = m.is_prefix.1;
+          is_fraction = m.is_back.is_prefix;
           is_exponent = m.is_back.is_back;
         }
 
     from : IsDecimal w → IsParted IsMinus IsMagnitude w
     from h = record {
-      front = h.minus;
+      prefix = h.minus;
       back = h.int_part ++ (h.fraction ++ h.exponent);
       is = h.is;
-      is_front = h.is_minus;
+      is_prefix = h.is_minus;
       is_back = record {
-        front = h.int_part;
+        prefix = h.int_part;
         back = h.fraction ++ h.exponent;
         is = refl;
-        is_front = (h.is_int_part, h.limit);
+        is_prefix = (h.is_int_part, h.limit);
         is_back = record {
-          front = h.fraction;
+          prefix = h.fraction;
           back = h.exponent;
           is = refl;
-          is_front = h.is_fraction;
+          is_prefix = h.is_fraction;
           is_back = h.is_exponent;
         };
       };

@@ -7,7 +7,7 @@ use Rattle.jiter_scan.specs.Digits.{is_digit, digit_run_end}
 use Rattle.jiter_scan.specs.Kind.{number_out_of_range}
 use Rattle.jiter_scan.specs.NumberReading.{extent_then, digits_from, int_part_from, int_part_at, decimal_at}
 use Rattle.jiter_scan.specs.NumberReading.{extent_from, number_extent, fraction_from, exponent_from, exponent_at}
-use Rattle.jiter_scan.specs.OpenNumber.{within_room, tail_at, begins_decimal}
+use Rattle.jiter_scan.specs.PartialNumber.{within_room, tail_at, begins_decimal}
 use Rattle.jiter_scan.specs.Scanned.{taken, failed}
 use Rattle.jiter_scan.proofs.Choices.{if-true, if-false}
 use Rattle.jiter_scan.proofs.Runs.{run_end-more, run_end-here}
@@ -47,13 +47,13 @@ module _ (t : List ℕ) (j : ℕ) where
   pub fraction-ended : slice_get t j ≡ None → exponent_at t (digit_run_end t j) ≡ taken tt j
   fraction-ended h = ap (exponent_at t) (run-ended h) ∙ ap (exponent_from t j) h
 
-  -- room for one digit, and for those behind it
+  -- room for one digit, and for those after it
   pub room-on : (room e : ℕ) → 0 < room → within_room room j e ≡ within_room (room - 1) (j + 1) e
   room-on room e some =
       let place : j + room ≡ j + 1 + (room - 1) = omega arith in
-      let behind : j + (room + 1) ≡ j + 1 + (room - 1 + 1) = omega arith in
+      let after : j + (room + 1) ≡ j + 1 + (room - 1 + 1) = omega arith in
       ap (λ n. if nat_le e n then taken tt e else failed number_out_of_range (j + (room + 1))) place
-      ∙ ap (λ n. if nat_le e (j + 1 + (room - 1)) then taken tt e else failed number_out_of_range n) behind
+      ∙ ap (λ n. if nat_le e (j + 1 + (room - 1)) then taken tt e else failed number_out_of_range n) after
 
   -- an integer part whose first digit is no zero
   pub decimal-begins : (b : ℕ) → slice_get t j ≡ Some b → (b == 48) ≡ false → is_digit b ≡ true
@@ -83,7 +83,7 @@ left-of false y h g = sym g ∙ h
 pub begins-digit : (b : ℕ) → begins_decimal b ≡ true → (b == 45) ≡ false → is_digit b ≡ true
 begins-digit b h g = left-of (is_digit b) (b == 45) h g
 
--- the byte behind others
-pub get-behind : (w u : List ℕ) (b : ℕ) → slice_get (w ++ b ∷ u) (length w) ≡ Some b
-get-behind [] u b = refl
-get-behind (c ∷ w) u b = get-behind w u b
+-- the byte after others
+pub get-after : (w u : List ℕ) (b : ℕ) → slice_get (w ++ b ∷ u) (length w) ≡ Some b
+get-after [] u b = refl
+get-after (c ∷ w) u b = get-after w u b

@@ -10,15 +10,15 @@ use Rattle.jiter_scan.specs.Number.{Number, integer, big, float, is_integral, in
 use Rattle.jiter_scan.specs.Number.{number_value}
 use Rattle.jiter_scan.specs.Number.{IsName, IsNumberText}
 use Rattle.jiter_scan.specs.Kind.{invalid_number}
-use Rattle.jiter_scan.specs.NumberReading.{extent_then, behind_minus, behind_zero, fraction_from, exponent_from, exponent_at}
+use Rattle.jiter_scan.specs.NumberReading.{extent_then, after_minus, after_zero, fraction_from, exponent_from, exponent_at}
 use Rattle.jiter_scan.specs.NumberExtent.{minus_end}
 use Rattle.jiter_scan.specs.NumberReading.{int_part_at, number_extent, number_at, with_value}
-use Rattle.jiter_scan.specs.OpenNumber.{number_from, tail_at, is_whole, is_int_stage, IsBegun, int_of}
+use Rattle.jiter_scan.specs.PartialNumber.{number_from, tail_at, is_whole, is_int_stage, IsBegun, int_of}
 use Rattle.jiter_scan.specs.Scanned.{taken, failed}
 use Rattle.jiter_scan.specs.Stands.{Stands}
 use Rattle.jiter_scan.specs.Word.{word_at}
-use Rattle.jiter_scan.specs.declared.open_number.Stage.{Stage}
-use Rattle.jiter_scan.specs.declared.open_number.Stage.TheVariants as stage
+use Rattle.jiter_scan.specs.declared.partial_number.Stage.{Stage}
+use Rattle.jiter_scan.specs.declared.partial_number.Stage.TheVariants as stage
 use Rattle.jiter_scan.proofs.Choices.{if-true, if-false, if_case, if_gives, failed-taken, extent_then-taken}
 use Rattle.jiter_scan.proofs.NumberBytes.{number-not_empty}
 use Rattle.jiter_scan.specs.NumberWithin.{continues_number}
@@ -28,13 +28,13 @@ use Rattle.jiter_scan.proofs.NumberSound.{number_extent-sound, fraction_at-sound
 use Rattle.jiter_scan.proofs.NumberValues.{number_value-tail}
 use Rattle.jiter_scan.proofs.Standing.{stands-length, stands-slice, stands-split}
 use Rattle.jiter_scan.proofs.WordLaws.{word_at-complete}
-use Rattle.jiter_scan.proofs.OpenNumbers.{get-behind, run-ended, digits-ended, fraction-ended}
+use Rattle.jiter_scan.proofs.OpenNumbers.{get-after, run-ended, digits-ended, fraction-ended}
 
 -- ---- a number that is whole
 module _ (t : List ℕ) (j : ℕ) (h : slice_get t j ≡ None) (names : Bool) where
   whole-ended : (s : Stage) → is_whole s ≡ true → number_from names s t j ≡ taken tt j
   whole-ended stage.Zero whole =
-      ap (λ o. extent_then (behind_zero j o) (tail_at t)) h
+      ap (λ o. extent_then (after_zero j o) (tail_at t)) h
       ∙ ap (λ o. extent_then (fraction_from t j o) (exponent_at t)) h
       ∙ ap (exponent_from t j) h
   whole-ended (stage.Digits room) whole = digits-ended t j h room
@@ -45,9 +45,9 @@ module _ (t : List ℕ) (j : ℕ) (h : slice_get t j ≡ None) (names : Bool) wh
   whole-ended stage.Letter whole = absurd (false≢true whole)
   whole-ended stage.Sign whole = absurd (false≢true whole)
 
-nothing-behind : (w : List ℕ) → slice_get w (length w) ≡ None
-nothing-behind [] = refl
-nothing-behind (c ∷ w) = nothing-behind w
+nothing-after : (w : List ℕ) → slice_get w (length w) ≡ None
+nothing-after [] = refl
+nothing-after (c ∷ w) = nothing-after w
 
 pub whole-range : (w : List ℕ) → slice_range w 0 (length w) ≡ w
 whole-range w = take_all (length w - 0) w (omega arith)
@@ -90,7 +90,7 @@ module _ (w : List ℕ) (s : Stage) (begun : IsBegun w s) (whole : is_whole s �
   extent-whole : number_extent false w 0 ≡ taken tt (length w)
   extent-whole =
       subst (λ v. number_extent false v 0 ≡ number_from false s v (length w)) (append-nil w) (begun.goes false [])
-      ∙ whole-ended w (length w) (nothing-behind w) false s whole
+      ∙ whole-ended w (length w) (nothing-after w) false s whole
 
   is-text : IsNumberText false w
   is-text = subst (IsNumberText false) (whole-range w) (number_extent-sound w false 0 (length w) extent-whole)
@@ -147,8 +147,8 @@ module _ (w : List ℕ) (s : Stage) (begun : IsBegun w s) (whole : is_whole s �
     begun-answer None h = tt
     begun-answer (Some n) h = begun-int n (sym h)
 
--- ---- behind its minus
--- the last bytes stand behind the others
+-- ---- after its minus
+-- the last bytes stand after the others
 pub stands-last : (w u : List ℕ) → Stands (w ++ u) (length w) (length (w ++ u)) u
 stands-last w u =
     let t = w ++ u in
@@ -175,21 +175,21 @@ module _ (w : List ℕ) (begun : IsBegun w stage.Minus) where
       ≡ (if names then word_at named (codes "Infinity") (length w) else failed invalid_number (length w))
   named-extent names =
       begun.goes names (codes "Infinity")
-      ∙ ap (behind_minus names named (length w)) (get-behind w (codes "nfinity") 73)
+      ∙ ap (after_minus names named (length w)) (get-after w (codes "nfinity") 73)
 
   named-read : number_extent true named 0 ≡ taken tt (length named)
   named-read =
       named-extent true
       ∙ word_at-complete named (codes "Infinity") (length w) (length named) (stands-last w (codes "Infinity"))
 
-  -- `Infinity` behind it is no decimal number
+  -- `Infinity` after it is no decimal number
   no-decimal : IsNumberText false named → ⊥
   no-decimal text =
       let all : Stands named 0 (length named) named =
       subst (Stands named 0 (length named)) (whole-range named)
       (stands-slice named 0 (length named) (omega arith) (omega arith)) in
       let end : IfSome (slice_get named (length named)) (λ c. continues_number c ≡ false) =
-      subst (λ o. IfSome o (λ c. continues_number c ≡ false)) (sym (nothing-behind named)) tt in
+      subst (λ o. IfSome o (λ c. continues_number c ≡ false)) (sym (nothing-after named)) tt in
       failed-taken invalid_number (length w) tt (length named)
       (sym (named-extent false) ∙ number_extent-complete named false 0 (length named) named all text end)
 
@@ -197,7 +197,7 @@ module _ (w : List ℕ) (begun : IsBegun w stage.Minus) where
   minus-by some (inl d) = absurd (no-decimal (inl d))
   minus-by some (inr h) = minus-alone w some h.1
 
-  -- a number that has come no further than behind its minus has that one byte
+  -- a number that has come no further than after its minus has that one byte
   pub begun-minus : 0 < length w → w ≡ 45 ∷ []
   begun-minus some =
       minus-by some

@@ -14,14 +14,14 @@ ends-placed a b c text at half within fits covers first second =
     let last = length text - half in
     let long : length (take at a) ≡ at = length-take-le at a within in
     let place : at + last + half ≡ at + length text = omega arith in
-    let front : take (at + last) b ≡ take at a ++ take last text =
+    let prefix : take (at + last) b ≡ take at a ++ take last text =
     sym (take-take (at + last) (at + half) b (omega arith)) ∙ ap (take (at + last)) first
     ∙ ap (λ m. take (m + last) (take at a ++ take half text)) (sym long)
     ∙ take-append-add (take at a) (take half text) last
     ∙ ap (λ l. take at a ++ l) (take-take last half text (omega arith)) in
     let rest : take half (drop last text) ≡ drop last text =
     take_all half (drop last text) (omega (arith, length-drop last text)) in
-    ap (λ n. take n c) (sym place) ∙ second ∙ ap (λ l. l ++ take half (drop last text)) front
+    ap (λ n. take n c) (sym place) ∙ second ∙ ap (λ l. l ++ take half (drop last text)) prefix
     ∙ append_assoc (take at a) (take last text) (take half (drop last text))
     ∙ ap (λ l. take at a ++ (take last text ++ l)) rest
     ∙ ap (λ l. take at a ++ l) (take-append-drop last text)

@@ -7,7 +7,7 @@ use Rattle.jiter_scan.specs.Number.{integer, float, number_value, minus_of}
 use Rattle.jiter_scan.specs.NumberDecoder.{IsMinusTo}
 use Rattle.jiter_scan.specs.NumberReading.{number_extent, with_value, number_at}
 use Rattle.jiter_scan.specs.Scanned.{taken}
-use Rattle.jiter_scan.specs.PlainNumber.{IsPlainInteger, IsPlainFloat}
+use Rattle.jiter_scan.specs.FastNumber.{IsPlainInteger, IsPlainFloat}
 use Rattle.jiter_scan.proofs.Choices.{if-true}
 use Rattle.jiter_scan.proofs.NumberExtents.{extent-decimal, extent-minus}
 use Rattle.jiter_scan.proofs.NumberValues.{integer_value-positive, integer_value-negative}

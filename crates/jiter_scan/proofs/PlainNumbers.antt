@@ -15,7 +15,7 @@ use Rattle.jiter_scan.specs.NumberReading.{exponent_from, digits_from, power_fro
 use Rattle.jiter_scan.specs.Scanned.{taken}
 use Rattle.jiter_scan.specs.Stands.{Stands}
 use Rattle.jiter_scan.proofs.Choices.{if-false, if-true, extent_then-taken}
-use Rattle.jiter_scan.proofs.Chunks.{prefix_len-front, prefix_len-pass, run_end-on}
+use Rattle.jiter_scan.proofs.Chunks.{prefix_len-prefix, prefix_len-pass, run_end-on}
 use Rattle.jiter_scan.proofs.Magnitudes.{slice_range-count}
 use Rattle.jiter_scan.proofs.NumberComplete.{int_part_at-complete}
 use Rattle.jiter_scan.proofs.NumberExtents.{decimal_at-tail, tail-parts}
@@ -27,11 +27,11 @@ module _ (t : List ℕ) where
   -- digits that end within a chunk end in the text as in the chunk
   pub run_end-counted : (chunk : List ℕ) (i n : ℕ) → n ≡ digit_run_end chunk 0 → take n chunk ≡ slice_range t i (i + n)
       → take (n + 1) chunk ≡ slice_range t i (i + (n + 1)) → digit_run_end t i ≡ i + n
-  run_end-counted chunk i n counted front more =
+  run_end-counted chunk i n counted prefix more =
       let here : n ≤ prefix_len is_digit (drop i t) =
-      prefix_len-front is_digit n chunk (drop i t) (front ∙ slice_range-count t i n) (omega arith) in
+      prefix_len-prefix is_digit n chunk (drop i t) (prefix ∙ slice_range-count t i n) (omega arith) in
       let over : n + 1 ≤ prefix_len is_digit (drop i t) → n + 1 ≤ prefix_len is_digit (drop 0 chunk) =
-      λ h. prefix_len-front is_digit (n + 1) (drop i t) chunk (sym (more ∙ slice_range-count t i (n + 1))) h in
+      λ h. prefix_len-prefix is_digit (n + 1) (drop i t) chunk (sym (more ∙ slice_range-count t i (n + 1))) h in
       elim (cases_lt (prefix_len is_digit (drop i t)) (n + 1)) [
         | inl no_more ↦ omega arith
         | inr longer ↦ let found = over longer in absurd (omega arith)
@@ -40,9 +40,9 @@ module _ (t : List ℕ) where
   -- digits of a chunk are digits of the text
   pub digits-of_chunk : (chunk : List ℕ) (i n : ℕ) → n ≤ digit_run_end chunk 0 → take n chunk ≡ slice_range t i (i + n)
       → i + n ≤ digit_run_end t i
-  digits-of_chunk chunk i n counted front =
+  digits-of_chunk chunk i n counted prefix =
       let here : n ≤ prefix_len is_digit (drop i t) =
-      prefix_len-front is_digit n chunk (drop i t) (front ∙ slice_range-count t i n) (omega arith) in
+      prefix_len-prefix is_digit n chunk (drop i t) (prefix ∙ slice_range-count t i n) (omega arith) in
       omega arith
 
   no_digit : (i e : ℕ) → digit_run_end t i ≡ e → NoDigit (slice_get t e)
@@ -72,11 +72,11 @@ module _ (t : List ℕ) where
 
   -- the integer part that is counted in a chunk
   module _ (chunk : List ℕ) (i n : ℕ) (counted : n ≡ digit_run_end chunk 0) (few : n ≤ 15) (reach : i + 16 ≤ length t)
-      (front : (m : ℕ) → m ≤ 16 → i + m ≤ length t → take m chunk ≡ slice_range t i (i + m)) where
+      (prefix : (m : ℕ) → m ≤ 16 → i + m ≤ length t → take m chunk ≡ slice_range t i (i + m)) where
     pub digits-counted : digit_run_end t i ≡ i + n
     digits-counted =
-        run_end-counted chunk i n counted (front n (omega arith) (omega arith))
-        (front (n + 1) (omega arith) (omega arith))
+        run_end-counted chunk i n counted (prefix n (omega arith) (omega arith))
+        (prefix (n + 1) (omega arith) (omega arith))
 
     pub int_part_at-counted : 0 < n → ((get_or t i 0 ≡ 48) × (n ≡ 1)) ⊎ (get_or t i 0 ≢ 48)
         → int_part_at t i ≡ taken tt (i + n)
@@ -90,9 +90,9 @@ module _ (t : List ℕ) where
   pub digits-in_two : (back : List ℕ) (i n : ℕ) → n ≡ digit_run_end back 0 → n ≤ 15 → i + 32 ≤ length t
       → ((m : ℕ) → m ≤ 16 → i + 16 + m ≤ length t → take m back ≡ slice_range t (i + 16) (i + 16 + m))
       → i + 16 ≤ digit_run_end t i → digit_run_end t i ≡ i + 16 + n
-  digits-in_two back i n counted few reach front run =
+  digits-in_two back i n counted few reach prefix run =
       sym (run_end-on is_digit t i 16 run (omega arith))
-      ∙ digits-counted back (i + 16) n counted few (omega arith) front
+      ∙ digits-counted back (i + 16) n counted few (omega arith) prefix
 
   -- the integer part that is fewer digits than are looked at
   pub int_part_at-near : (i e : ℕ) → digit_run_end t i ≡ e → e ≤ length t → length t ≤ i + 16 → i < e
@@ -140,7 +140,7 @@ module _ (t : List ℕ) where
       ap (exponent_from t i) here
       ∙ if-false ((c == 101) || (c == 69)) _ _ no_letter
 
-  -- no point and no exponent behind it
+  -- no point and no exponent after it
   pub decimal_at-int_part : (i e c : ℕ) → int_part_at t i ≡ taken tt e → slice_get t e ≡ Some c
       → is_float_sign c ≡ false
       → decimal_at t i ≡ taken tt e
@@ -150,7 +150,7 @@ module _ (t : List ℕ) where
       decimal_at-tail t i e e int_part
       (tail-parts t e e e (fraction_at-none e c here point) (exponent_at-none e c here letter))
 
-  -- the text ends behind it
+  -- the text ends after it
   pub decimal_at-over : (i e : ℕ) → int_part_at t i ≡ taken tt e → slice_get t e ≡ None → decimal_at t i ≡ taken tt e
   decimal_at-over i e int_part none =
       decimal_at-tail t i e e int_part

@@ -17,21 +17,21 @@ use Rattle.jiter_scan.specs.Simd.{failing, ascii_from}
 use Rattle.jiter_scan.proofs.Chunks.{list_all-failing, prefix_len-all, prefix_len-failing, prefix_len-through}
 use Rattle.jiter_scan.proofs.Chunks.{prefix_len-inside, none_fails, one_fails}
 
-front-step : (b : Bool) (r n : ℕ) (all : Bool) → all ≡ leb r n → (b && all) ≡ leb (suc r) (cond b (1 + n) 0)
-front-step false r n all e = sym (lt-leb (suc r) 0 (omega arith))
-front-step true r n all e = e ∙ grind (arith, nat_tests)
+prefix-step : (b : Bool) (r n : ℕ) (all : Bool) → all ≡ leb r n → (b && all) ≡ leb (suc r) (cond b (1 + n) 0)
+prefix-step false r n all e = sym (lt-leb (suc r) 0 (omega arith))
+prefix-step true r n all e = e ∙ grind (arith, nat_tests)
 
 -- the first r are ASCII where the first byte that is not lies no earlier than at r
-ascii-front : (r : ℕ) (w : List ℕ) → r ≤ length w → list_all is_ascii (take r w) ≡ leb r (prefix_len is_ascii w)
-ascii-front zero w h = sym (le-leb 0 _ (omega arith))
-ascii-front (suc r) [] h = absurd (omega arith)
-ascii-front (suc r) (c ∷ w) h = front-step (is_ascii c) r _ _ (ascii-front r w (omega arith))
+ascii-prefix : (r : ℕ) (w : List ℕ) → r ≤ length w → list_all is_ascii (take r w) ≡ leb r (prefix_len is_ascii w)
+ascii-prefix zero w h = sym (le-leb 0 _ (omega arith))
+ascii-prefix (suc r) [] h = absurd (omega arith)
+ascii-prefix (suc r) (c ∷ w) h = prefix-step (is_ascii c) r _ _ (ascii-prefix r w (omega arith))
 
 -- where no bit of the mask is set, 64 stands for the length
-front-mask : (w : List ℕ) (r : ℕ) → length w ≤ 64 → r ≤ length w → leb r (prefix_len is_ascii w)
+prefix-mask : (w : List ℕ) (r : ℕ) → length w ≤ 64 → r ≤ length w → leb r (prefix_len is_ascii w)
     ≡ leb r (count_trailing_zeros 64 (failing is_ascii w))
 unfolding count_trailing_zeros
-front-mask w r short le =
+prefix-mask w r short le =
     elim (cases_eq (failing is_ascii w) 0) [
       | inl none ↦
           let all : count_trailing_zeros 64 0 ≡ 64 = refl in
@@ -72,8 +72,8 @@ module _ (t : List ℕ) (i n : ℕ) where
         ap (λ k. list_all is_ascii (take k (drop i t)))
         (prefix_len-inside is_plain t i n (one_fails is_plain t i n fails))
         ∙ ap (list_all is_ascii) (sym (take-take r n (drop i t) (omega arith)))
-        ∙ ascii-front r c within
-        ∙ front-mask c r (omega arith) within
+        ∙ ascii-prefix r c within
+        ∙ prefix-mask c r (omega arith) within
         ∙ ap₂ (λ k m. leb k (count_trailing_zeros 64 m))
         (prefix_len-failing is_plain c (omega arith) fails ∙ ap (count_trailing_zeros 64) (sym stops)) (sym highs)
 

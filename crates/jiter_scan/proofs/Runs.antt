@@ -27,7 +27,7 @@ module _ (test : ℕ → Bool) (t : List ℕ) where
   pub run_end-past : (i : ℕ) → length t ≤ i → run_end test t i ≡ i
   run_end-past i h = omega (arith, prefix_len-drop_all test t i h)
 
-  -- a run goes on behind a byte that passes
+  -- a run goes on after a byte that passes
   pub run_end-more : (i c : ℕ) → slice_get t i ≡ Some c → test c ≡ true → run_end test t i ≡ run_end test t (i + 1)
   run_end-more i c h e = run_end-passing i (slice_get_within t i c h) (ap test (get_or_from_slice_get t i c 0 h) ∙ e)
 
@@ -51,7 +51,7 @@ module _ (test : ℕ → Bool) (t : List ℕ) where
       ap test (sym (get_or-drop i t (k - i) 0 ∙ ap (λ j. get_or t j 0) place))
       ∙ prefix_len_passes test (drop i t) (k - i) 0 (omega arith)
 
-  -- the byte behind it does not
+  -- the byte after it does not
   pub run_end-stops : (i c : ℕ) → slice_get t (run_end test t i) ≡ Some c → test c ≡ false
   run_end-stops i c h =
       let inside = slice_get_within t (run_end test t i) c h in

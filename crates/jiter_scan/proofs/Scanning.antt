@@ -7,7 +7,7 @@ use Rattle.jiter_scan.specs.declared.errors.Fault.{Fault}
 use Rattle.jiter_scan.specs.declared.errors.JsonError.{JsonError}
 pub use Rattle.jiter_scan.specs.Scanned.{FaultAt}
 
--- behind i and within the text; a fault at or behind i
+-- after i and within the text; a fault at or after i
 abbrev pub ScalarWithin : {A : Type 0} → List ℕ → ℕ → Scanned A → Type 0
 ScalarWithin t i (taken a e) = (i < e) × (e ≤ length t)
 ScalarWithin t i (failed k j) = (i ≤ j) × FaultAt t k j

@@ -13,7 +13,7 @@ First [] P = Unit {0}
 First (c ∷ w) P = P c
 
 module _ (t : List ℕ) where
-  -- a range, and so many bytes behind it
+  -- a range, and so many bytes after it
   module _ (i j : ℕ) (ahead : i ≤ j) where
     pub slice_range-on : (k : ℕ) → slice_range t i (j + k) ≡ slice_range t i j ++ take k (drop j t)
     slice_range-on k =
@@ -38,7 +38,7 @@ module _ (t : List ℕ) where
   stands-within i j [] le h = omega arith
   stands-within i j (c ∷ w) le h = let here = slice_get_within t i c h.0 in stands-within (i + 1) j w (omega arith) h.1
 
-  -- two words one behind the other are their join
+  -- two words one after the other are their join
   pub stands-append : (i j k : ℕ) (u v : List ℕ) → Stands t i j u → Stands t j k v → Stands t i k (u ++ v)
   stands-append i j k [] v h g = subst (λ x. Stands t x k v) (sym h) g
   stands-append i j k (c ∷ u) v h g = (h.0, stands-append (i + 1) j k u v h.1 g)
@@ -81,7 +81,7 @@ module _ (t : List ℕ) where
   pub slice-one : (i c : ℕ) → slice_get t i ≡ Some c → slice_range t i (i + 1) ≡ c ∷ []
   slice-one i c h = sym (slice-stands i (i + 1) (c ∷ []) (h, refl))
 
-  -- the byte at the front of a word, or the one behind an empty word
+  -- the byte at the prefix of a word, or the one after an empty word
   pub stands-next : (P : ℕ → Type 0) (i j : ℕ) (w : List ℕ) → Stands t i j w → First w P → IfSome (slice_get t j) P
       → IfSome (slice_get t i) P
   stands-next P i j [] h f p = subst (λ k. IfSome (slice_get t k) P) (sym h) p

@@ -1,4 +1,4 @@
--- What a tape holds when more is written behind its first bytes.
+-- What a tape holds when more is written after its first bytes.
 use Rattle.std.proofs.Common.{◌≡◌, ℕ, ◌+◌, ◌-◌, ◌/◌, ◌%◌, ◌<◌, ◌≤◌, cond, List, [], ◌∷◌, ◌++◌, length, drop, take, refl}
 use Rattle.std.proofs.Common.{sym, ap, ◌∙◌, arith, append_assoc, take-take}
 use Rattle.std.specs.Prelude.{slice_range, slice_set, nat_lt}
@@ -10,10 +10,10 @@ use Rattle.std.proofs.lemmas.List.{length-set, length-take}
 use lib.Lanes.{chunk}
 use Rattle.jiter_scan.proofs.Standing.{slice_range-split}
 
--- where a chunk of the text is written behind the first bytes, so many of its bytes stand behind them
-pub put-front : (t tape next : List ℕ) (i n k : ℕ) → n ≤ length tape → k ≤ 16
+-- where a chunk of the text is written after the first bytes, so many of its bytes stand after them
+pub put-prefix : (t tape next : List ℕ) (i n k : ℕ) → n ≤ length tape → k ≤ 16
     → take (n + 16) next ≡ take n tape ++ chunk i 16 t → take (n + k) next ≡ take n tape ++ slice_range t i (i + k)
-put-front t tape next i n k within few put =
+put-prefix t tape next i n k within few put =
     let long : length (take n tape) ≡ n = omega (arith, length-take n tape) in
     let count : k ≡ i + k - i = omega arith in
     sym (take-take (n + k) (n + 16) next (omega arith))
@@ -81,12 +81,12 @@ module _ (c : ℕ) where
   unfolding encode_utf8
   encode-four l = no_fewer 128 _ _ (omega arith) ∙ no_fewer 2048 _ _ (omega arith) ∙ no_fewer 65536 _ _ l
 
--- where what was copied so far stands behind the first bytes, and a chunk is written behind it, so many bytes more do
+-- where what was copied so far stands after the first bytes, and a chunk is written after it, so many bytes more do
 pub copied-on : (t first tape next : List ℕ) (from i count n k : ℕ) → from ≤ i → n ≤ length tape → k ≤ 16
     → take n tape ≡ take count first ++ slice_range t from i → take (n + 16) next ≡ take n tape ++ chunk i 16 t
     → take (n + k) next ≡ take count first ++ slice_range t from (i + k)
 copied-on t first tape next from i count n k above within few so_far put =
-    put-front t tape next i n k within few put
+    put-prefix t tape next i n k within few put
     ∙ ap (λ w. w ++ slice_range t i (i + k)) so_far
     ∙ append_assoc (take count first) (slice_range t from i) (slice_range t i (i + k))
     ∙ ap (λ w. take count first ++ w) (sym (slice_range-split t from i above (i + k) (omega arith)))

@@ -72,7 +72,7 @@ word_at-same t w k i b h e same =
     word_at-step t w k i h ∙ ap (byte_then rest (get_or w k 0) i) e
     ∙ ap (λ (y : Bool). cond y rest (failed expected_ident i)) (eq-eqb _ _ same)
 
--- behind the word
+-- after the word
 pub word_at-end : (t w : List ℕ) (k i : ℕ) → length w ≤ k → word_at t (drop k w) i ≡ taken tt i
 unfolding word_at
 word_at-end t w k i h = ap (λ v. word_at t v i) (drop_all k w h)

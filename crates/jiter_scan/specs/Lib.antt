@@ -13,8 +13,8 @@ pub mod NumberTests
 pub mod NumberReading
 pub mod NumberDecoder
 pub mod NumberExtent
-pub mod OpenNumber
-pub mod OpenWord
+pub mod PartialNumber
+pub mod PartialWord
 pub mod NumberWithin
 pub mod Simd
-pub mod PlainNumber
+pub mod FastNumber

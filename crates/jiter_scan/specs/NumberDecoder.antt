@@ -26,7 +26,7 @@ abbrev pub integer_view : Integer → reading.Integer
 integer_view (found.Whole n) = reading.int_seen (int_view n)
 integer_view found.FloatSeen = reading.float_seen
 
--- an integer ends behind i, a float shows at i or behind it, and neither past the length
+-- an integer ends after i, a float shows at i or after it, and neither past the length
 abbrev pub EndsWithin : ℕ → ℕ → Integer × ℕ → Type 0
 EndsWithin i len (found.Whole n, e) = (i < e) × (e ≤ len)
 EndsWithin i len (found.FloatSeen, j) = (i ≤ j) × (j < len)

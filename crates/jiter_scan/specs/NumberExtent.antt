@@ -7,7 +7,7 @@ use Rattle.jiter_scan.specs.Kind.{expected_value, invalid_number}
 use Rattle.jiter_scan.specs.Number.{float, number_value, is_float_byte}
 use Rattle.jiter_scan.specs.NumberDecoder.{IsMinusTo}
 use Rattle.jiter_scan.specs.NumberReading.{extent_then, int_part_at, fraction_at, exponent_at, decimal_at}
-use Rattle.jiter_scan.specs.NumberReading.{number_extent, int_at, integer_behind, float_seen}
+use Rattle.jiter_scan.specs.NumberReading.{number_extent, int_at, integer_after, float_seen}
 use Rattle.jiter_scan.specs.Scanned.{Scanned, taken, failed}
 use Rattle.jiter_scan.specs.Word.{Extent, word_at}
 use Rattle.jiter_scan.specs.declared.number_extent.Extent.{Extent as Found}
@@ -35,7 +35,7 @@ pub record IsNameFrom (t w : List ℕ) (i j : ℕ) : Type 0 where
 -- the number at i has no name: its digits begin at j
 pub record IsDecimalFrom (t : List ℕ) (i j : ℕ) : Type 0 where
   pub extent : (names : Bool) → number_extent names t i ≡ decimal_at t j
-  pub integer : int_at t i ≡ integer_behind t i (int_part_at t j)
+  pub integer : int_at t i ≡ integer_after t i (int_part_at t j)
 
 -- the end of what was found
 abbrev pub extent_end : Found → Scanned (Unit {0})

@@ -8,7 +8,7 @@ use Rattle.jiter_scan.specs.Word.{Extent, word_at}
 use Rattle.jiter_scan.specs.Digits.{is_digit, digit_run_end}
 use Rattle.jiter_scan.specs.Number.{Number, number_value, digit_limit}
 
--- and what follows behind it
+-- and what follows after it
 abbrev pub extent_then : Extent → (ℕ → Extent) → Extent
 extent_then (taken u e) next = next e
 extent_then (failed k j) next = failed k j
@@ -18,10 +18,10 @@ abbrev pub digits_from : List ℕ → ℕ → Option ℕ → Extent
 digits_from t i None = failed eof_value i
 digits_from t i (Some c) = if is_digit c then taken tt (digit_run_end t i) else failed invalid_number i
 
--- behind a leading zero no digit may stand
-abbrev pub behind_zero : ℕ → Option ℕ → Extent
-behind_zero j None = taken tt j
-behind_zero j (Some c) = if is_digit c then failed invalid_number j else taken tt j
+-- after a leading zero no digit may stand
+abbrev pub after_zero : ℕ → Option ℕ → Extent
+after_zero j None = taken tt j
+after_zero j (Some c) = if is_digit c then failed invalid_number j else taken tt j
 
 -- the digits from i to before e, unless they are too many
 abbrev pub within_limit : ℕ → ℕ → Extent
@@ -31,7 +31,7 @@ within_limit i e = if nat_le e (i + digit_limit) then taken tt e else failed num
 abbrev pub int_part_from : List ℕ → ℕ → Option ℕ → Extent
 int_part_from t i None = failed eof_value i
 int_part_from t i (Some c) =
-    if c == ascii.digit_zero then behind_zero (i + 1) (slice_get t (i + 1))
+    if c == ascii.digit_zero then after_zero (i + 1) (slice_get t (i + 1))
     else (if is_digit c then within_limit i (digit_run_end t i) else failed invalid_number i)
 
 -- the integer part at i
@@ -64,14 +64,14 @@ fraction_at t i = fraction_from t i (slice_get t i)
 abbrev pub exponent_at : List ℕ → ℕ → Extent
 exponent_at t i = exponent_from t i (slice_get t i)
 
--- a decimal number behind its minus
+-- a decimal number after its minus
 abbrev pub decimal_at : List ℕ → ℕ → Extent
 decimal_at t i = extent_then (int_part_at t i) (λ j. extent_then (fraction_at t j) (λ k. exponent_at t k))
 
--- behind a minus
-abbrev pub behind_minus : Bool → List ℕ → ℕ → Option ℕ → Extent
-behind_minus names t i None = failed eof_value i
-behind_minus names t i (Some c) =
+-- after a minus
+abbrev pub after_minus : Bool → List ℕ → ℕ → Option ℕ → Extent
+after_minus names t i None = failed eof_value i
+after_minus names t i (Some c) =
     if c == ascii.capital_i then (if names then word_at t (codes "Infinity") i else failed invalid_number i)
     else decimal_at t i
 
@@ -83,7 +83,7 @@ name_at names t w i = if names then word_at t w i else failed expected_value i
 abbrev pub extent_from : Bool → List ℕ → ℕ → Option ℕ → Extent
 extent_from names t i None = failed eof_value i
 extent_from names t i (Some c) =
-    if c == ascii.minus then behind_minus names t (i + 1) (slice_get t (i + 1))
+    if c == ascii.minus then after_minus names t (i + 1) (slice_get t (i + 1))
     else (if c == ascii.capital_n then name_at names t (codes "NaN") i
     else (if c == ascii.capital_i then name_at names t (codes "Infinity") i
     else decimal_at t i))
@@ -116,26 +116,26 @@ integer_or_float t i e None = taken (int_seen (number_value (slice_range t i e))
 integer_or_float t i e (Some c) =
     if is_float_sign c then taken float_seen e else taken (int_seen (number_value (slice_range t i e))) e
 
--- behind the integer part of a number that begins at i
-abbrev pub integer_behind : List ℕ → ℕ → Extent → Scanned Integer
-integer_behind t i (taken u e) = integer_or_float t i e (slice_get t e)
-integer_behind t i (failed k j) = failed k j
+-- after the integer part of a number that begins at i
+abbrev pub integer_after : List ℕ → ℕ → Extent → Scanned Integer
+integer_after t i (taken u e) = integer_or_float t i e (slice_get t e)
+integer_after t i (failed k j) = failed k j
 
--- behind the minus at i
-abbrev pub integer_behind_minus : List ℕ → ℕ → Option ℕ → Scanned Integer
-integer_behind_minus t i None = failed eof_value (i + 1)
-integer_behind_minus t i (Some c) =
-    if c == ascii.capital_i then taken float_seen (i + 1) else integer_behind t i (int_part_at t (i + 1))
+-- after the minus at i
+abbrev pub integer_after_minus : List ℕ → ℕ → Option ℕ → Scanned Integer
+integer_after_minus t i None = failed eof_value (i + 1)
+integer_after_minus t i (Some c) =
+    if c == ascii.capital_i then taken float_seen (i + 1) else integer_after t i (int_part_at t (i + 1))
 
 -- an integer, at the place i of this byte
 abbrev pub integer_from : List ℕ → ℕ → Option ℕ → Scanned Integer
 integer_from t i None = failed eof_value i
 integer_from t i (Some c) =
-    if c == ascii.minus then integer_behind_minus t i (slice_get t (i + 1))
+    if c == ascii.minus then integer_after_minus t i (slice_get t (i + 1))
     else (if (c == ascii.capital_n) || (c == ascii.capital_i) then taken float_seen i
-    else integer_behind t i (int_part_at t i))
+    else integer_after t i (int_part_at t i))
 
--- The integer at i and its end, or that a float shows and where: sign and integer part, and what stands behind.
+-- The integer at i and its end, or that a float shows and where: sign and integer part, and what stands after.
 unfoldable pub int_at : List ℕ → ℕ → Scanned Integer
 int_at t i = integer_from t i (slice_get t i)
 

@@ -14,7 +14,7 @@ use Rattle.jiter_scan.specs.declared.number_within.ShortWithin.TheVariants as sh
 abbrev pub continues_number : ℕ → Bool
 continues_number c = is_digit c || (c == ascii.point) || (c == ascii.small_e) || (c == ascii.capital_e)
 
--- A number of this value stands in a piece from a place on to before e. Wherever its bytes stand with the one behind
+-- A number of this value stands in a piece from a place on to before e. Wherever its bytes stand with the one after
 -- them, it is read to there.
 pub record EndsWithin (piece : List ℕ) (at : ℕ) (n : Number) (e : ℕ) : Type 0 where
   pub begins : at < e

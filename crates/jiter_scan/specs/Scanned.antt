@@ -4,12 +4,12 @@ use Rattle.jiter_scan.specs.Kind.{Kind, kind_of, fault_kind, is_end_kind, out_of
 use Rattle.jiter_scan.specs.declared.errors.Fault.{Fault}
 use Rattle.jiter_scan.specs.declared.errors.JsonError.{JsonError}
 
--- what was read and the place behind it, or a fault's kind and index
+-- what was read and the place after it, or a fault's kind and index
 pub data Scanned (A : Type 0) : Type 0 where
   taken : A → ℕ → Scanned A
   failed : Kind → ℕ → Scanned A
 
--- what a pair of a value and the place behind it says was read
+-- what a pair of a value and the place after it says was read
 abbrev pub with_end : {X A : Type 0} → (X → A) → X × ℕ → Scanned A
 with_end view p = taken (view p.0) p.1
 

@@ -149,12 +149,12 @@ static TENS: [u64; 9] = [
 ];
 
 #[inline(always)]
-pub(crate) fn joined(front: u64, back: u64, count: usize) -> u64
+pub(crate) fn joined(prefix: u64, back: u64, count: usize) -> u64
     requires most { count ≤ 8 }
-    requires fits { front * 10 ^ count + back < 2 ^ 64 }
-    ensures { result ≡ front * 10 ^ count + back }
+    requires fits { prefix * 10 ^ count + back < 2 ^ 64 }
+    ensures { result ≡ prefix * 10 ^ count + back }
 {
-    front * TENS[count] + back
+    prefix * TENS[count] + back
 }
 
 /// Returns the number that the first `count` bytes are in decimal.

@@ -3,7 +3,7 @@ ghost use Rattle.std.specs.Prelude.{◌≡◌, ◌++◌, Some, IfOk, OnOk, codes
 ghost use Rattle.jiter_scan.specs.Kind.{kind_of, fault_kind, kind_text, is_memory};
 ghost use Rattle.jiter_scan.specs.Position.{at_index, position_of, position_text, short_text, description_text};
 
-use crate::memory::{Refused, copy_text, push_number, push_text};
+use crate::memory::{AllocFailed, copy_text, push_number, push_text};
 use std::alloc::{AllocError, Global};
 use std::error::Error;
 use std::fmt;
@@ -243,8 +243,8 @@ impl JsonError {
         Ok(self.describe(alloc, bytes)?)
     }
 
-    // The public call makes its `AllocError` from a `Refused`, so it fails only if an allocation failed.
-    fn describe(&self, alloc: Global, bytes: &[u8]) -> Result<String, Refused>
+    // The public call makes its `AllocError` from a `AllocFailed`, so it fails only if an allocation failed.
+    fn describe(&self, alloc: Global, bytes: &[u8]) -> Result<String, AllocFailed>
         ensures { IfOk result (λ text. string_bytes text
             ≡ description_text (kind_of self.now.error_type) self.now.index bytes.now) }
     {
@@ -256,7 +256,7 @@ impl JsonError {
 }
 
 /// Appends ` at line L column C` to a string.
-pub fn push_position(text: &mut String, position: &LinePosition) -> Result<(), Refused>
+pub fn push_position(text: &mut String, position: &LinePosition) -> Result<(), AllocFailed>
     ensures { OnOk result (string_bytes text.new
         ≡ string_bytes text.old ++ (codes " at " ++ position_text position.now)) }
 {
@@ -305,7 +305,7 @@ impl LinePosition {
         Ok(self.shorten(alloc)?)
     }
 
-    fn shorten(&self, alloc: Global) -> Result<String, Refused>
+    fn shorten(&self, alloc: Global) -> Result<String, AllocFailed>
         ensures { IfOk result (λ text. string_bytes text ≡ short_text self.now) }
     {
         let mut text = copy_text(alloc, "")?;
@@ -326,14 +326,14 @@ impl LinePosition {
     pub fn find(bytes: &[u8], index: usize) -> Self
         ensures { result ≡ position_of bytes.now index }
     {
-        let front = if index < bytes.len() {
+        let prefix = if index < bytes.len() {
             &bytes[..=index]
         } else {
             bytes
         };
         let mut line = 1;
         let mut column = 0;
-        for byte in front {
+        for byte in prefix {
             if *byte == b'\n' {
                 line += 1;
                 column = 0;

@@ -4,15 +4,15 @@
 
 pub mod decimal;
 pub mod errors;
+pub mod fast_number;
 pub mod memory;
 pub mod number_decoder;
 pub mod number_extent;
 pub mod number_within;
-pub mod open_number;
-pub mod open_word;
 pub mod partial_mode;
-pub mod placing;
-pub mod plain_number;
+pub mod partial_number;
+pub mod partial_word;
+pub mod print_buffer;
 pub mod short_scan;
 pub mod simd;
 pub mod tape;
@@ -20,6 +20,6 @@ pub mod text;
 pub mod word;
 
 pub use errors::{Fault, FaultKind, JsonError, JsonErrorType, JsonResult, LinePosition};
-pub use memory::Refused;
+pub use memory::AllocFailed;
 pub use number_decoder::{NumberAny, NumberInt};
 pub use partial_mode::PartialMode;

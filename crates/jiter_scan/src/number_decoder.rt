@@ -7,16 +7,16 @@ ghost use Rattle.jiter_scan.specs.Scanned.{Scans, with_end, whole_text, AnswersA
 ghost use Rattle.jiter_scan.specs.Word.{word_at};
 ghost use Rattle.jiter_scan.specs.Digits.{digit_run_end, decimal_of};
 ghost use Rattle.jiter_scan.specs.Number.{is_float_byte, positive_value, negative_value, number_value};
-ghost use Rattle.jiter_scan.specs.NumberReading.{int_part_at, decimal_at, is_float_sign, behind_minus, name_at};
-ghost use Rattle.jiter_scan.specs.NumberReading.{with_value, number_at, int_at, integer_behind, integer_behind_minus};
+ghost use Rattle.jiter_scan.specs.NumberReading.{int_part_at, decimal_at, is_float_sign, after_minus, name_at};
+ghost use Rattle.jiter_scan.specs.NumberReading.{with_value, number_at, int_at, integer_after, integer_after_minus};
 ghost use Rattle.jiter_scan.specs.NumberReading.{begins_number, number_alone, int_alone};
 ghost use Rattle.jiter_scan.specs.NumberDecoder.{int_view, number_view, integer_view, EndsWithin, magnitude_of};
 ghost use Rattle.jiter_scan.specs.NumberDecoder.{IsMinusTo};
 
 use crate::decimal::{chunk_at, digit_word, joined};
 use crate::errors::{Fault, FaultKind, JsonError, JsonResult, fault_at};
+use crate::fast_number::{FastNumber, fast_number_at};
 use crate::number_extent::{Extent, int_part_end, minus_end, name_from, number_extent};
-use crate::plain_number::{PlainNumber, plain_number_at};
 use crate::text::ascii_text;
 use crate::word::byte_at;
 
@@ -177,9 +177,9 @@ pub(crate) fn digits_magnitude(bytes: &[u8], at: usize, end: usize) -> u64
     if count <= 16 {
         digits_value(bytes, at, end)
     } else if count <= 19 {
-        let front = digits_value(bytes, at, at + 16);
+        let prefix = digits_value(bytes, at, at + 16);
         let back = digits_value(bytes, at + 16, end);
-        joined(front, back, count - 16)
+        joined(prefix, back, count - 16)
     } else {
         MAGNITUDE_LIMIT
     }
@@ -286,16 +286,16 @@ pub fn number_at<'j>(
     ensures advances { IfOk result (λ x. (at < x.1) × (x.1 ≤ length bytes.now)) }
 {
     let digits = minus_end(bytes, at);
-    match plain_number_at(bytes, digits) {
-        PlainNumber::Int(magnitude, end) => {
+    match fast_number_at(bytes, digits) {
+        FastNumber::Int(magnitude, end) => {
             let number = integer_of(bytes, at, digits, end, magnitude);
             Ok((NumberAny::Int(number), end))
         }
-        PlainNumber::Float(end) => {
+        FastNumber::Float(end) => {
             let text = ascii_text(&bytes[at..end]);
             Ok((NumberAny::Float(text), end))
         }
-        PlainNumber::Other => slow_number_at(bytes, at, allow_inf_nan),
+        FastNumber::Other => slow_number_at(bytes, at, allow_inf_nan),
     }
 }
 

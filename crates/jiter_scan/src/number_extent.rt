@@ -1,7 +1,7 @@
 //! Finds where numbers end, without their values (RFC 8259, 6).
 ghost use Rattle.std.specs.Prelude.{◌≡◌, ◌+◌, ◌<◌, ◌≤◌, Bool, IfOk, IfSome, IfNone, length, slice_get};
 ghost use Rattle.jiter_scan.specs.Digits.{digit_run_end};
-ghost use Rattle.jiter_scan.specs.NumberReading.{extent_then, digits_from, behind_zero, within_limit, int_part_at};
+ghost use Rattle.jiter_scan.specs.NumberReading.{extent_then, digits_from, after_zero, within_limit, int_part_at};
 ghost use Rattle.jiter_scan.specs.NumberReading.{fraction_at, exponent_at, power_from, decimal_at, number_extent};
 ghost use Rattle.jiter_scan.specs.NumberDecoder.{IsMinusTo};
 ghost use Rattle.jiter_scan.specs.NumberExtent.{IsDecimalExtent, IsDecimalFrom, IsExtent, IsNameFrom, extent_end, minus_end};
@@ -10,7 +10,7 @@ ghost use Rattle.jiter_scan.specs.Scanned.{Scans, taken};
 
 use crate::decimal::{digit_run_end, digits_end, is_digit};
 use crate::errors::{Fault, FaultKind, fault_at};
-use crate::plain_number::{PlainNumber, roomy_number_at};
+use crate::fast_number::{FastNumber, padded_number_at};
 use crate::word::{byte_at, word_end};
 
 /// How many bytes the fast path may read for a short number: a minus, and 65 from its first digit on.
@@ -39,7 +39,7 @@ fn some_digits_end(bytes: &[u8], from: usize) -> Result<usize, Fault>
 
 // No digit may follow a leading zero.
 fn zero_end(bytes: &[u8], at: usize) -> Result<usize, Fault>
-    ensures value { Scans (taken tt) result (behind_zero at (slice_get bytes.now at)) }
+    ensures value { Scans (taken tt) result (after_zero at (slice_get bytes.now at)) }
     ensures place { IfOk result (λ e. e ≡ at) }
 {
     match byte_at(bytes, at) {
@@ -256,22 +256,22 @@ pub fn minus_end(bytes: &[u8], at: usize) -> usize
 
 /// Returns the index after the number at `at`, if it is short. At least 66 bytes must be left.
 #[inline(always)]
-pub fn roomy_number_end(bytes: &[u8], at: usize) -> Option<usize>
+pub fn padded_number_end(bytes: &[u8], at: usize) -> Option<usize>
     requires { at + 66 ≤ length bytes.now }
     ensures end { IfSome result
         (λ e. (names : Bool) → number_extent names bytes.now at ≡ taken tt e) }
     ensures place { IfSome result (λ e. (at < e) × (e ≤ length bytes.now)) }
 {
-    match roomy_number_at(bytes, minus_end(bytes, at)) {
-        PlainNumber::Int(_, end) => Some(end),
-        PlainNumber::Float(end) => Some(end),
-        PlainNumber::Other => None,
+    match padded_number_at(bytes, minus_end(bytes, at)) {
+        FastNumber::Int(_, end) => Some(end),
+        FastNumber::Float(end) => Some(end),
+        FastNumber::Other => None,
     }
 }
 
 /// Returns the index after the number at `at`, if it is short and at least 66 bytes are left.
 #[inline(always)]
-pub fn plain_number_end(bytes: &[u8], at: usize) -> Option<usize>
+pub fn fast_number_end(bytes: &[u8], at: usize) -> Option<usize>
     requires { at < length bytes.now }
     ensures end { IfSome result
         (λ e. (names : Bool) → number_extent names bytes.now at ≡ taken tt e) }
@@ -280,7 +280,7 @@ pub fn plain_number_end(bytes: &[u8], at: usize) -> Option<usize>
     if bytes.len() - at < NUMBER_REACH {
         return None;
     }
-    roomy_number_end(bytes, at)
+    padded_number_end(bytes, at)
 }
 
 /// Returns the index after the number at `at`, without its value (RFC 8259, 6). Fails as
@@ -291,7 +291,7 @@ pub fn number_end(bytes: &[u8], at: usize, allow_inf_nan: bool) -> Result<usize,
     ensures value { Scans (taken tt) result (number_extent allow_inf_nan bytes.now at) }
     ensures advances { IfOk result (λ e. (at < e) × (e ≤ length bytes.now)) }
 {
-    match plain_number_end(bytes, at) {
+    match fast_number_end(bytes, at) {
         Some(end) => Ok(end),
         None => slow_number_end(bytes, at, allow_inf_nan),
     }

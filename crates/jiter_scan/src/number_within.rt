@@ -4,9 +4,9 @@ ghost use Rattle.jiter_scan.specs.NumberDecoder.{number_view};
 ghost use Rattle.jiter_scan.specs.NumberWithin.{EndsWithin, EndsNumber};
 ghost use Rattle.jiter_scan.specs.NumberWithin.{IsShortWithin, continues_number};
 
+use crate::fast_number::{FastNumber, padded_number_at, signed};
 use crate::number_decoder::{NumberAny, number_at};
 use crate::number_extent::minus_end;
-use crate::plain_number::{PlainNumber, roomy_number_at, signed};
 
 /// A short number that is complete in a chunk.
 #[derive(Clone, Copy, Debug)]
@@ -42,22 +42,22 @@ pub fn short_within(piece: &[u8], at: usize) -> ShortWithin
     ensures { IsShortWithin piece.now at result }
 {
     let from = minus_end(piece, at);
-    match roomy_number_at(piece, from) {
-        PlainNumber::Int(magnitude, end) => {
+    match padded_number_at(piece, from) {
+        FastNumber::Int(magnitude, end) => {
             if ends_number(piece, end) {
                 ShortWithin::Int(signed(magnitude, from > at), end)
             } else {
                 ShortWithin::Other
             }
         }
-        PlainNumber::Float(end) => {
+        FastNumber::Float(end) => {
             if ends_number(piece, end) {
                 ShortWithin::Float(end)
             } else {
                 ShortWithin::Other
             }
         }
-        PlainNumber::Other => ShortWithin::Other,
+        FastNumber::Other => ShortWithin::Other,
     }
 }
 

@@ -12,7 +12,7 @@ ghost use Rattle.jiter_scan.specs.Simd.{digits_end, ascii_from, failing, is_no_m
 ghost use Rattle.jiter_scan.specs.Simd.{IsEightBytes};
 
 pub use crate::decimal::{digit_count, digit_word, digits_end};
-use crate::memory::Refused;
+use crate::memory::AllocFailed;
 use crate::tape::{put_chunk, put_slice};
 use std::simd::prelude::*;
 
@@ -311,7 +311,7 @@ pub fn string_stop(bytes: &[u8], from: usize) -> usize
 ///
 /// # Errors
 ///
-/// - `Refused`, only if the buffer has to grow and the allocation fails
+/// - `AllocFailed`, only if the buffer has to grow and the allocation fails
 ///
 /// # Requires
 ///
@@ -323,9 +323,9 @@ pub fn copy_plain(
     count: usize,
     bytes: &[u8],
     from: usize,
-) -> Result<(usize, usize, bool), Refused>
+) -> Result<(usize, usize, bool), AllocFailed>
     requires within { from ≤ length bytes.now }
-    requires front { count ≤ vec_len buffer.old }
+    requires prefix { count ≤ vec_len buffer.old }
     ensures stop { IfOk result (λ r. r.0 ≡ scan_stop bytes.now from) }
     ensures text { IfOk result (λ r. take r.1 buffer.new.items
         ≡ take count buffer.old.items ++ slice_range bytes.now from (scan_stop bytes.now from)) }

@@ -7,12 +7,12 @@ ghost use Rattle.std.specs.Simd.Lanes.{chunk};
 ghost use Rattle.jiter_scan.specs.Scan.{is_plain, is_ascii};
 ghost use Rattle.jiter_scan.specs.Simd.{failing};
 
-use crate::memory::{Refused, lengthen};
+use crate::memory::{AllocFailed, lengthen};
 use crate::simd::{highs, stops};
 use std::simd::prelude::*;
 
 // Adds at least 256 bytes.
-fn double(tape: &mut Vec<u8>) -> Result<(), Refused>
+fn double(tape: &mut Vec<u8>) -> Result<(), AllocFailed>
     ensures room { OnOk result (vec_len tape.old + 32 ≤ vec_len tape.new) }
     ensures kept { OnOk result (take (vec_len tape.old) tape.new.items ≡ tape.old.items) }
 {
@@ -21,8 +21,8 @@ fn double(tape: &mut Vec<u8>) -> Result<(), Refused>
 }
 
 /// Makes the tape long enough for `bytes` more after the first `count`, and 32 free ones.
-pub(crate) fn make_room(tape: &mut Vec<u8>, count: usize, bytes: usize) -> Result<(), Refused>
-    requires front { count ≤ vec_len tape.old }
+pub(crate) fn make_room(tape: &mut Vec<u8>, count: usize, bytes: usize) -> Result<(), AllocFailed>
+    requires prefix { count ≤ vec_len tape.old }
     requires size { bytes < 2 ^ 63 }
     ensures room { OnOk result (count + bytes + 32 ≤ vec_len tape.new) }
     ensures kept { OnOk result (take count tape.new.items ≡ take count tape.old.items) }
@@ -36,8 +36,12 @@ pub(crate) fn make_room(tape: &mut Vec<u8>, count: usize, bytes: usize) -> Resul
 /// Writes bytes after the first `count` of the tape, which grows if it must. Returns how many bytes count then; at
 /// least 32 free ones follow.
 #[inline(always)]
-pub(crate) fn put_slice(tape: &mut Vec<u8>, count: usize, bytes: &[u8]) -> Result<usize, Refused>
-    requires front { count ≤ vec_len tape.old }
+pub(crate) fn put_slice(
+    tape: &mut Vec<u8>,
+    count: usize,
+    bytes: &[u8],
+) -> Result<usize, AllocFailed>
+    requires prefix { count ≤ vec_len tape.old }
     ensures text { IfOk result (λ n. take n tape.new.items ≡ take count tape.old.items ++ bytes.now) }
     ensures room { IfOk result (λ n. n + 32 ≤ vec_len tape.new) }
 {

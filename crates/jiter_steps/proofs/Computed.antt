@@ -6,8 +6,8 @@ use Rattle.std.specs.Char.{encode_utf8}
 use Rattle.jiter_scan.specs.Word.{word_at}
 use Rattle.jiter_scan.proofs.Computed.{computed_numbers}
 use Rattle.jiter_steps.specs.Blank.{past_blanks}
-use Rattle.jiter_steps.specs.StringReading.{portion_at, body_within, body_at, content_at}
-use Rattle.jiter_steps.specs.Read.{parts_at, inside_at, front_answer, whole_answer}
+use Rattle.jiter_steps.specs.StringReading.{event_at, body_within, body_at, content_at}
+use Rattle.jiter_steps.specs.Read.{parts_at, inside_at, prefix_answer, whole_answer}
 
 unfoldable pub computed_literals : ⊤
 unfolding word_at
@@ -18,7 +18,7 @@ unfolding past_blanks
 computed_steps = tt
 
 unfoldable pub computed_strings : ⊤
-unfolding content_at body_at body_within portion_at utf8_valid_len utf8_error_len is_utf8 chars encode_utf8
+unfolding content_at body_at body_within event_at utf8_valid_len utf8_error_len is_utf8 chars encode_utf8
 computed_strings = tt
 
 unfoldable pub computed_cuts : ⊤
@@ -26,6 +26,6 @@ unfolding computed_numbers encode_utf8
 computed_cuts = tt
 
 unfoldable pub computed_readings : ⊤
-unfolding whole_answer front_answer parts_at inside_at
+unfolding whole_answer prefix_answer parts_at inside_at
     computed_literals computed_steps computed_numbers computed_strings
 computed_readings = tt

@@ -1,9 +1,9 @@
--- The cut law: of a document that is an array or an object, a partial reading of a front gives what `cut` leaves there.
+-- The cut law: of a document that is an array or an object, a partial reading of a prefix gives what `cut` leaves there.
 --
--- A front of a text has its bytes, blanks and steps before the place k (Fronts). The node that the whole text spells
--- is followed while the front is read, by any rules: what ends before the cut is read as before, and the value that
--- the cut falls into meets the end of input (ReadFronts, FrontNodes; CutParts for a container; NumberCut for a
--- number, as the whole text has the front's bytes before the cut: Fault.SameNumbers). So a front without its last
+-- A prefix of a text has its bytes, blanks and steps before the place k (Prefixes). The node that the whole text spells
+-- is followed while the prefix is read, by any rules: what ends before the cut is read as before, and the value that
+-- the cut falls into meets the end of input (ReadPrefixes, PrefixNodes; CutParts for a container; NumberCut for a
+-- number, as the whole text has the prefix's bytes before the cut: Fault.SameNumbers). So a prefix without its last
 -- bracket is refused (Prefixes). In a partial mode a number is read up to the cut where its bytes up to there are a
 -- number's text (NumberCutLaws), a string is kept as its pieces before the cut (CutCharacters, StringCut,
 -- StringCutLaws), a container keeps the parts that end by the cut and what is left of the next (CutNodes). Where the
@@ -13,13 +13,13 @@ pub mod CutCharacters
 pub mod CutLaw
 pub mod CutNodes
 pub mod CutParts
-pub mod FrontNodes
-pub mod Fronts
+pub mod PrefixNodes
+pub mod DocumentPrefixes
 pub mod LaterCuts
 pub mod Halting
 pub mod NumberCut
 pub mod NumberCutLaws
 pub mod Prefixes
-pub mod ReadFronts
+pub mod ReadPrefixes
 pub mod StringCut
 pub mod StringCutLaws

@@ -1,7 +1,7 @@
 -- The first fault: no document begins with the bytes up to it (Dead), or little more makes one of those before it
 -- (Alive).
 --
--- Dead: of two texts with the same bytes before a place, a value of the one that ends before it, with a byte behind
+-- Dead: of two texts with the same bytes before a place, a value of the one that ends before it, with a byte after
 -- it, is read the same in the other; where the one meets a fault of a byte before the place, the other meets a fault.
 -- Runs, strings and steps are walked by SameRuns, SameStrings and SameSteps, containers by SameReadings; SameNumbers
 -- keeps what jiter_scan's walk over the rows of numbers asks (NumberRows). SameSpelling says the like of the grammar.
@@ -9,7 +9,7 @@
 --
 -- Alive: where a value's reading meets a fault that can go on, there is a filler, and a closer for each container
 -- that is open there, with which what was read is a node of the completed text (Completions). By induction on the
--- levels: a number (OpenNumbers, from jiter_scan's NumberSound), a container behind its parts (StuckSteps, OpenParts),
+-- levels: a number (OpenNumbers, from jiter_scan's NumberSound), a container after its parts (StuckSteps, OpenParts),
 -- any value (OpenReadings).
 pub mod Alive
 pub mod Completions

@@ -5,8 +5,8 @@
 -- Then blanks and the steps between parts, both ways (Blanks, RowSteps). The reading by the rules that build the
 -- derivation itself (NodeRules) takes only what is spelled, its nesting within the levels left: by induction on these,
 -- the loop carrying "these nodes so far, whatever follows them" (Sound). The other way goes along the node, whose
--- containers are parts that stand one behind another (SpelledParts), and is the case of a front that is the whole
--- text (Cut.FrontNodes). Documents joins both to `answer-is`, for a whole text, and `one_node`: a document's node is
+-- containers are parts that stand one after another (SpelledParts), and is the case of a prefix that is the whole
+-- text (Cut.PrefixNodes). Documents joins both to `answer-is`, for a whole text, and `one_node`: a document's node is
 -- the one that the reading builds.
 pub mod Blanks
 pub mod Documents

@@ -14,20 +14,20 @@ use Rattle.jiter_scan.specs.Stands.{Stands}
 use Rattle.jiter_scan.proofs.Choices.{if_case, if_both, if-true, if-false}
 use Rattle.jiter_scan.proofs.Standing.{get-none, slice-stands}
 use Rattle.jiter_steps.specs.Escape.{short_escape, is_hex, unit_of, is_high, is_low}
-use Rattle.jiter_steps.specs.OpenEscape.{IsSpelled}
-use Rattle.jiter_steps.specs.StringReading.{closed, unclosed, cut, wrong, Portion, part, over, bad_digit, unit_at}
-use Rattle.jiter_steps.specs.StringReading.{HexDigits, few, hex_digits_or, hex_digits_at, behind, unit_then}
-use Rattle.jiter_steps.specs.StringReading.{surrogate_pair, behind_high_backslash, behind_high, single, unicode_escape}
-use Rattle.jiter_steps.specs.StringReading.{short, behind_backslash, portion_by, portion_at}
-use Rattle.jiter_steps.specs.declared.open_escape.Spelled.TheVariants as spelled
-use Rattle.jiter_steps.proofs.Cut.Fronts.{front-stands}
-use Rattle.jiter_steps.proofs.Grammar.Places.{Explains, portion_at-explains}
-use Rattle.jiter_steps.proofs.Grammar.StringComplete.{portion_by-escape}
+use Rattle.jiter_steps.specs.PartialEscape.{IsSpelled}
+use Rattle.jiter_steps.specs.StringReading.{closed, unclosed, cut, wrong, Event, part, over, bad_digit, unit_at}
+use Rattle.jiter_steps.specs.StringReading.{HexDigits, few, hex_digits_or, hex_digits_at, after, unit_then}
+use Rattle.jiter_steps.specs.StringReading.{surrogate_pair, after_high_backslash, after_high, single, unicode_escape}
+use Rattle.jiter_steps.specs.StringReading.{short, after_backslash, event_by, event_at}
+use Rattle.jiter_steps.specs.declared.partial_escape.Spelled.TheVariants as spelled
+use Rattle.jiter_steps.proofs.Cut.DocumentPrefixes.{prefix-stands}
+use Rattle.jiter_steps.proofs.Grammar.Places.{Explains, event_at-explains}
+use Rattle.jiter_steps.proofs.Grammar.StringComplete.{event_by-escape}
 
 -- ---- while it is cut it is short
 
 -- if it is cut, the text is shorter than twelve bytes
-abbrev Short : List ℕ → Portion → Type 0
+abbrev Short : List ℕ → Event → Type 0
 Short w f = f ≡ over cut → length w < 12
 
 module _ (w : List ℕ) where
@@ -40,7 +40,7 @@ module _ (w : List ℕ) where
   wrong-short k j e = absurd (cc)
 
   -- what a byte decides
-  byte-short : (f : Option ℕ → Portion) (i : ℕ) → i < 12 → ((c : ℕ) → Short w (f (Some c)))
+  byte-short : (f : Option ℕ → Event) (i : ℕ) → i < 12 → ((c : ℕ) → Short w (f (Some c)))
       → Short w (f (slice_get w i))
   byte-short f i lt some = by (slice_get w i) refl where
     by : (o : Option ℕ) → slice_get w i ≡ o → Short w (f o)
@@ -48,12 +48,12 @@ module _ (w : List ℕ) where
     by (Some c) e h = some c h
 
   -- four digits
-  unit-short : (i : ℕ) (next : ℕ → ℕ → Portion) → i + 4 ≤ 12 → ((x : ℕ) → Short w (next (i + 4) x))
+  unit-short : (i : ℕ) (next : ℕ → ℕ → Event) → i + 4 ≤ 12 → ((x : ℕ) → Short w (next (i + 4) x))
       → Short w (unit_then w i next)
   unit-short i next small all =
-      if_case (λ d. Short w (behind (next (i + 4)) d)) (nat_lt (length w) (i + 4)) _ _
+      if_case (λ d. Short w (after (next (i + 4)) d)) (nat_lt (length w) (i + 4)) _ _
       (λ e h. omega (arith, ltb-true (length w) (i + 4) e)) (λ e. by (bad_digit w i)) where
-        by : (o : Option ℕ) → Short w (behind (next (i + 4)) (hex_digits_or o (unit_at w i)))
+        by : (o : Option ℕ) → Short w (after (next (i + 4)) (hex_digits_or o (unit_at w i)))
         by None = all (unit_at w i)
         by (Some k) = wrong-short invalid_escape k
 
@@ -62,18 +62,18 @@ module _ (w : List ℕ) where
   pair-short high j x =
       if_case (Short w) (is_low x) _ _ (λ e. part-short _ true j) (λ e. wrong-short lone_surrogate _)
 
-  -- behind the first one
-  high-short : (high : ℕ) → Short w (behind_high w high 6 (slice_get w 6))
+  -- after the first one
+  high-short : (high : ℕ) → Short w (after_high w high 6 (slice_get w 6))
   high-short high =
-      byte-short (behind_high w high 6) 6 (omega arith)
+      byte-short (after_high w high 6) 6 (omega arith)
       (λ c. if_case (Short w) (c == 92) _ _
-      (λ e. byte-short (behind_high_backslash w high 7) 7 (omega arith)
+      (λ e. byte-short (after_high_backslash w high 7) 7 (omega arith)
       (λ d. if_case (Short w) (d == 117) _ _
       (λ f. unit-short 8 (surrogate_pair high) (omega arith) (pair-short high 12))
       (λ f. wrong-short end_of_hex_escape 7)))
       (λ e. wrong-short end_of_hex_escape 6))
 
-  -- behind four digits
+  -- after four digits
   unicode-short : (x : ℕ) → Short w (unicode_escape w 6 x)
   unicode-short x =
       if_case (Short w) (is_high x) _ _ (λ e. high-short x)
@@ -85,20 +85,20 @@ module _ (w : List ℕ) where
   sign-short (Some c) = part-short _ true 2
 
   -- A cut escape has fewer than twelve bytes.
-  pub cut_short : portion_at w 0 ≡ over cut → length w < 12
-  unfolding portion_at
+  pub cut_short : event_at w 0 ≡ over cut → length w < 12
+  unfolding event_at
   cut_short =
-      byte-short (portion_by w 0) 0 (omega arith)
+      byte-short (event_by w 0) 0 (omega arith)
       (λ c. if_case (Short w) (c == 34) _ _ (λ e h. absurd (cc))
       (λ e. if_case (Short w) (c == 92) _ _
-      (λ f. byte-short (behind_backslash w 1) 1 (omega arith)
+      (λ f. byte-short (after_backslash w 1) 1 (omega arith)
       (λ d. if_case (Short w) (d == 117) _ _ (λ g. unit-short 2 (unicode_escape w) (omega arith) unicode-short)
       (λ g. sign-short (short_escape d))))
       (λ f. if_case (Short w) (nat_lt c 32) _ _ (λ g. wrong-short _ 0) (λ g. part-short _ false 1))))
 
 -- ---- what ends it is found wherever it stands
 
--- the bytes w stand in t behind p others
+-- the bytes w stand in t after p others
 abbrev At : List ℕ → List ℕ → ℕ → Type 0
 At w t p = (i c : ℕ) → slice_get w i ≡ Some c → slice_get t (p + i) ≡ Some c
 
@@ -111,7 +111,7 @@ stands-at (b ∷ w) t i j s (suc k) c e =
     ap (slice_get t) here ∙ stands-at w t (i + 1) j s.1 k c e
 
 -- where f is a fault, g is that fault p bytes further
-abbrev Moved : ℕ → Portion → Portion → Type 0
+abbrev Moved : ℕ → Event → Event → Type 0
 Moved p f g = (k : Kind) (j : ℕ) → f ≡ over (wrong k j) → g ≡ over (wrong k (p + j))
 
 -- what the bytes a, b, c and d are as digits
@@ -122,7 +122,7 @@ digits_of i a b c d =
 
 module _ (p : ℕ) where
   -- what is no fault
-  part-moved : (bs : List ℕ) (o : Bool) (j : ℕ) (g : Portion) → Moved p (part bs o j) g
+  part-moved : (bs : List ℕ) (o : Bool) (j : ℕ) (g : Event) → Moved p (part bs o j) g
   part-moved bs o j g k n e = absurd (cc)
 
   -- a fault
@@ -150,11 +150,11 @@ module _ (p : ℕ) where
   sign-moved i m (Some c) at = part-moved _ true (i + 1) _
 
   -- four digits
-  digits-moved : (i m a b c d : ℕ) → p + i ≡ m → (f g : ℕ → Portion) → ((x : ℕ) → Moved p (f x) (g x))
-      → Moved p (behind f (digits_of i a b c d)) (behind g (digits_of m a b c d))
+  digits-moved : (i m a b c d : ℕ) → p + i ≡ m → (f g : ℕ → Event) → ((x : ℕ) → Moved p (f x) (g x))
+      → Moved p (after f (digits_of i a b c d)) (after g (digits_of m a b c d))
   digits-moved i m a b c d at f g all =
       let u = unit_of a b c d in
-      let R = λ (x y : Option ℕ). Moved p (behind f (hex_digits_or x u)) (behind g (hex_digits_or y u)) in
+      let R = λ (x y : Option ℕ). Moved p (after f (hex_digits_or x u)) (after g (hex_digits_or y u)) in
       if_both R (is_hex a) _ _ _ _
       (λ e. if_both R (is_hex b) _ _ _ _
       (λ e. if_both R (is_hex c) _ _ _ _
@@ -166,7 +166,7 @@ module _ (p : ℕ) where
 
 module _ (w t : List ℕ) (p : ℕ) (same : At w t p) where
   -- what a byte decides
-  byte-moved : (f g : Option ℕ → Portion) (i m : ℕ) → p + i ≡ m → ((k : Kind) (j : ℕ) → f None ≡ over (wrong k j) → ⊥)
+  byte-moved : (f g : Option ℕ → Event) (i m : ℕ) → p + i ≡ m → ((k : Kind) (j : ℕ) → f None ≡ over (wrong k j) → ⊥)
       → ((c : ℕ) → Moved p (f (Some c)) (g (Some c))) → Moved p (f (slice_get w i)) (g (slice_get t m))
   byte-moved f g i m at none some = by (slice_get w i) refl where
     by : (o : Option ℕ) → slice_get w i ≡ o → Moved p (f o) (g (slice_get t m))
@@ -199,98 +199,98 @@ module _ (w t : List ℕ) (p : ℕ) (same : At w t p) where
       ∙ (λ k. digits_of m (a k) (b k) (c k) (d k))
 
   -- four digits, or too few
-  unit-moved : (i m : ℕ) → p + i ≡ m → (f g : ℕ → ℕ → Portion) → ((x : ℕ) → Moved p (f (i + 4) x) (g (m + 4) x))
+  unit-moved : (i m : ℕ) → p + i ≡ m → (f g : ℕ → ℕ → Event) → ((x : ℕ) → Moved p (f (i + 4) x) (g (m + 4) x))
       → Moved p (unit_then w i f) (unit_then t m g)
   unit-moved i m at f g all =
-      if_case (λ d. Moved p (behind (f (i + 4)) d) (unit_then t m g)) (nat_lt (length w) (i + 4)) _ _
+      if_case (λ d. Moved p (after (f (i + 4)) d) (unit_then t m g)) (nat_lt (length w) (i + 4)) _ _
       (λ e k j h. absurd (cc)) (λ e. good (ltb-false (length w) (i + 4) e)) where
         good : i + 4 ≤ length w
-            → Moved p (behind (f (i + 4)) (hex_digits_or (bad_digit w i) (unit_at w i))) (unit_then t m g)
+            → Moved p (after (f (i + 4)) (hex_digits_or (bad_digit w i) (unit_at w i))) (unit_then t m g)
         good within =
             let here = hex_digits_or (bad_digit w i) (unit_at w i) in
-            subst (λ x. Moved p (behind (f (i + 4)) here) (behind (g (m + 4)) x)) (sym (digits-there i m at within))
+            subst (λ x. Moved p (after (f (i + 4)) here) (after (g (m + 4)) x)) (sym (digits-there i m at within))
             (digits-moved p i m (slice_index w i) (slice_index w (i + 1)) (slice_index w (i + 2))
             (slice_index w (i + 3)) at (f (i + 4)) (g (m + 4)) all)
 
-  -- behind the backslash that follows a first number
+  -- after the backslash that follows a first number
   high_backslash-moved : (high i m : ℕ) → p + i ≡ m
-      → Moved p (behind_high_backslash w high i (slice_get w i)) (behind_high_backslash t high m (slice_get t m))
+      → Moved p (after_high_backslash w high i (slice_get w i)) (after_high_backslash t high m (slice_get t m))
   high_backslash-moved high i m at =
-      byte-moved (behind_high_backslash w high i) (behind_high_backslash t high m) i m at (λ k j h. cc)
+      byte-moved (after_high_backslash w high i) (after_high_backslash t high m) i m at (λ k j h. cc)
       (λ c. if_both (Moved p) (c == 117) _ _ _ _
       (λ e. unit-moved (i + 1) (m + 1) (omega arith) (surrogate_pair high) (surrogate_pair high)
       (λ x. pair-moved p high (i + 1 + 4) (m + 1 + 4) x (omega arith) (omega arith)))
       (λ e. wrong-moved p end_of_hex_escape i m at))
 
-  -- behind a first number
+  -- after a first number
   high-moved : (high i m : ℕ) → p + i ≡ m
-      → Moved p (behind_high w high i (slice_get w i)) (behind_high t high m (slice_get t m))
+      → Moved p (after_high w high i (slice_get w i)) (after_high t high m (slice_get t m))
   high-moved high i m at =
-      byte-moved (behind_high w high i) (behind_high t high m) i m at (λ k j h. cc)
+      byte-moved (after_high w high i) (after_high t high m) i m at (λ k j h. cc)
       (λ c. if_both (Moved p) (c == 92) _ _ _ _ (λ e. high_backslash-moved high (i + 1) (m + 1) (omega arith))
       (λ e. wrong-moved p end_of_hex_escape i m at))
 
-  -- behind any number
+  -- after any number
   unicode-moved : (j m x : ℕ) → p + j ≡ m → 1 ≤ j → Moved p (unicode_escape w j x) (unicode_escape t m x)
   unicode-moved j m x at some =
       if_both (Moved p) (is_high x) _ _ _ _ (λ e. high-moved x j m at) (λ e. single-moved p j m x at some)
 
-  -- behind a backslash
+  -- after a backslash
   backslash-moved : (i m : ℕ) → p + i ≡ m
-      → Moved p (behind_backslash w i (slice_get w i)) (behind_backslash t m (slice_get t m))
+      → Moved p (after_backslash w i (slice_get w i)) (after_backslash t m (slice_get t m))
   backslash-moved i m at =
-      byte-moved (behind_backslash w i) (behind_backslash t m) i m at (λ k j h. cc)
+      byte-moved (after_backslash w i) (after_backslash t m) i m at (λ k j h. cc)
       (λ c. if_both (Moved p) (c == 117) _ _ _ _
       (λ e. unit-moved (i + 1) (m + 1) (omega arith) (unicode_escape w) (unicode_escape t)
       (λ x. unicode-moved (i + 1 + 4) (m + 1 + 4) x (omega arith) (omega arith)))
       (λ e. sign-moved p i m (short_escape c) at))
 
   -- at any place
-  place-moved : (i m : ℕ) → p + i ≡ m → Moved p (portion_at w i) (portion_at t m)
-  unfolding portion_at
+  place-moved : (i m : ℕ) → p + i ≡ m → Moved p (event_at w i) (event_at t m)
+  unfolding event_at
   place-moved i m at =
-      byte-moved (portion_by w i) (portion_by t m) i m at (λ k j h. cc)
+      byte-moved (event_by w i) (event_by t m) i m at (λ k j h. cc)
       (λ c. if_both (Moved p) (c == 34) _ _ _ _ (λ e k j h. absurd (cc))
       (λ e. if_both (Moved p) (c == 92) _ _ _ _ (λ e. backslash-moved (i + 1) (m + 1) (omega arith))
       (λ e. if_both (Moved p) (nat_lt c 32) _ _ _ _ (λ e. wrong-moved p control_character i m at)
       (λ e. part-moved p _ false (i + 1) _))))
 
   -- A fault that is found in w is found in t.
-  pub wrong-found : (k : Kind) (j : ℕ) → portion_at w 0 ≡ over (wrong k j) → portion_at t p ≡ over (wrong k (p + j))
+  pub wrong-found : (k : Kind) (j : ℕ) → event_at w 0 ≡ over (wrong k j) → event_at t p ≡ over (wrong k (p + j))
   wrong-found = place-moved 0 p (omega arith)
 
 -- ---- what is cut at the end of the text is cut there too
 
 -- where f is cut, g is
-abbrev StaysCut : Portion → Portion → Type 0
+abbrev StaysCut : Event → Event → Type 0
 StaysCut f g = f ≡ over cut → g ≡ over cut
 
 -- a part is not cut, nor is a fault
-part-no_cut : (bs : List ℕ) (o : Bool) (j : ℕ) (g : Portion) → StaysCut (part bs o j) g
+part-no_cut : (bs : List ℕ) (o : Bool) (j : ℕ) (g : Event) → StaysCut (part bs o j) g
 part-no_cut bs o j g h = absurd (cc)
 
-wrong-no_cut : (k : Kind) (j : ℕ) (g : Portion) → StaysCut (over (wrong k j)) g
+wrong-no_cut : (k : Kind) (j : ℕ) (g : Event) → StaysCut (over (wrong k j)) g
 wrong-no_cut k j g h = absurd (cc)
 
 -- rows that do not ask the text
-pair-no_cut : (high j x : ℕ) (g : Portion) → StaysCut (surrogate_pair high j x) g
+pair-no_cut : (high j x : ℕ) (g : Event) → StaysCut (surrogate_pair high j x) g
 pair-no_cut high j x g =
     if_case (λ f. StaysCut f g) (is_low x) _ _ (λ e. part-no_cut _ true j g) (λ e. wrong-no_cut lone_surrogate _ g)
 
-single-no_cut : (j x : ℕ) (g : Portion) → StaysCut (single j x) g
+single-no_cut : (j x : ℕ) (g : Event) → StaysCut (single j x) g
 single-no_cut j x g =
     if_case (λ f. StaysCut f g) (is_low x) _ _ (λ e. wrong-no_cut lone_surrogate _ g) (λ e. part-no_cut _ true j g)
 
-sign-no_cut : (i : ℕ) (o : Option ℕ) (g : Portion) → StaysCut (short i o) g
+sign-no_cut : (i : ℕ) (o : Option ℕ) (g : Event) → StaysCut (short i o) g
 sign-no_cut i None g = wrong-no_cut invalid_escape i g
 sign-no_cut i (Some c) g = part-no_cut _ true (i + 1) g
 
 -- four digits
-digits-cut : (i m a b c d : ℕ) (f g : ℕ → Portion) → ((x : ℕ) → StaysCut (f x) (g x))
-    → StaysCut (behind f (digits_of i a b c d)) (behind g (digits_of m a b c d))
+digits-cut : (i m a b c d : ℕ) (f g : ℕ → Event) → ((x : ℕ) → StaysCut (f x) (g x))
+    → StaysCut (after f (digits_of i a b c d)) (after g (digits_of m a b c d))
 digits-cut i m a b c d f g all =
     let u = unit_of a b c d in
-    let R = λ (x y : Option ℕ). StaysCut (behind f (hex_digits_or x u)) (behind g (hex_digits_or y u)) in
+    let R = λ (x y : Option ℕ). StaysCut (after f (hex_digits_or x u)) (after g (hex_digits_or y u)) in
     if_both R (is_hex a) _ _ _ _
     (λ e. if_both R (is_hex b) _ _ _ _
     (λ e. if_both R (is_hex c) _ _ _ _
@@ -302,7 +302,7 @@ digits-cut i m a b c d f g all =
 
 module _ (w t : List ℕ) (p : ℕ) (same : At w t p) (long : length t ≡ p + length w) where
   -- what a byte decides, or the end
-  byte-cut : (f g : Option ℕ → Portion) (i m : ℕ) → p + i ≡ m → StaysCut (f None) (g None)
+  byte-cut : (f g : Option ℕ → Event) (i m : ℕ) → p + i ≡ m → StaysCut (f None) (g None)
       → ((c : ℕ) → StaysCut (f (Some c)) (g (Some c))) → StaysCut (f (slice_get w i)) (g (slice_get t m))
   byte-cut f g i m at none some = by (slice_get w i) refl where
     by : (o : Option ℕ) → slice_get w i ≡ o → StaysCut (f o) (g (slice_get t m))
@@ -312,131 +312,131 @@ module _ (w t : List ℕ) (p : ℕ) (same : At w t p) (long : length t ≡ p + l
     by (Some c) e h = subst (λ o. g o ≡ over cut) (sym (ap (slice_get t) (sym at) ∙ same i c e)) (some c h)
 
   -- four digits, or too few
-  unit-cut : (i m : ℕ) → p + i ≡ m → (f g : ℕ → ℕ → Portion) → ((x : ℕ) → StaysCut (f (i + 4) x) (g (m + 4) x))
+  unit-cut : (i m : ℕ) → p + i ≡ m → (f g : ℕ → ℕ → Event) → ((x : ℕ) → StaysCut (f (i + 4) x) (g (m + 4) x))
       → StaysCut (unit_then w i f) (unit_then t m g)
   unit-cut i m at f g all =
-      if_case (λ d. StaysCut (behind (f (i + 4)) d) (unit_then t m g)) (nat_lt (length w) (i + 4)) _ _
+      if_case (λ d. StaysCut (after (f (i + 4)) d) (unit_then t m g)) (nat_lt (length w) (i + 4)) _ _
       (λ e h. less (ltb-true (length w) (i + 4) e)) (λ e. good (ltb-false (length w) (i + 4) e)) where
         less : length w < i + 4 → unit_then t m g ≡ over cut
         less lt =
-            ap (behind (g (m + 4)))
+            ap (after (g (m + 4)))
             (if-true (nat_lt (length t) (m + 4)) few (hex_digits_or (bad_digit t m) (unit_at t m))
             (lt-ltb (length t) (m + 4) (omega arith)))
 
         good : i + 4 ≤ length w
-            → StaysCut (behind (f (i + 4)) (hex_digits_or (bad_digit w i) (unit_at w i))) (unit_then t m g)
+            → StaysCut (after (f (i + 4)) (hex_digits_or (bad_digit w i) (unit_at w i))) (unit_then t m g)
         good within =
             let here = hex_digits_or (bad_digit w i) (unit_at w i) in
-            subst (λ x. StaysCut (behind (f (i + 4)) here) (behind (g (m + 4)) x))
+            subst (λ x. StaysCut (after (f (i + 4)) here) (after (g (m + 4)) x))
             (sym (digits-there w t p same i m at within))
             (digits-cut i m (slice_index w i) (slice_index w (i + 1)) (slice_index w (i + 2)) (slice_index w (i + 3))
             (f (i + 4)) (g (m + 4)) all)
 
-  -- behind the backslash that follows a first number
+  -- after the backslash that follows a first number
   high_backslash-cut : (high i m : ℕ) → p + i ≡ m
-      → StaysCut (behind_high_backslash w high i (slice_get w i)) (behind_high_backslash t high m (slice_get t m))
+      → StaysCut (after_high_backslash w high i (slice_get w i)) (after_high_backslash t high m (slice_get t m))
   high_backslash-cut high i m at =
-      byte-cut (behind_high_backslash w high i) (behind_high_backslash t high m) i m at (λ h. h)
+      byte-cut (after_high_backslash w high i) (after_high_backslash t high m) i m at (λ h. h)
       (λ c. if_both StaysCut (c == 117) _ _ _ _
       (λ e. unit-cut (i + 1) (m + 1) (omega arith) (surrogate_pair high) (surrogate_pair high)
       (λ x. pair-no_cut high (i + 1 + 4) x _))
       (λ e. wrong-no_cut end_of_hex_escape i _))
 
-  -- behind a first number
+  -- after a first number
   high-cut : (high i m : ℕ) → p + i ≡ m
-      → StaysCut (behind_high w high i (slice_get w i)) (behind_high t high m (slice_get t m))
+      → StaysCut (after_high w high i (slice_get w i)) (after_high t high m (slice_get t m))
   high-cut high i m at =
-      byte-cut (behind_high w high i) (behind_high t high m) i m at (λ h. h)
+      byte-cut (after_high w high i) (after_high t high m) i m at (λ h. h)
       (λ c. if_both StaysCut (c == 92) _ _ _ _ (λ e. high_backslash-cut high (i + 1) (m + 1) (omega arith))
       (λ e. wrong-no_cut end_of_hex_escape i _))
 
-  -- behind any number
+  -- after any number
   unicode-cut : (j m x : ℕ) → p + j ≡ m → StaysCut (unicode_escape w j x) (unicode_escape t m x)
   unicode-cut j m x at =
       if_both StaysCut (is_high x) _ _ _ _ (λ e. high-cut x j m at) (λ e. single-no_cut j x _)
 
-  -- behind a backslash
+  -- after a backslash
   backslash-cut : (i m : ℕ) → p + i ≡ m
-      → StaysCut (behind_backslash w i (slice_get w i)) (behind_backslash t m (slice_get t m))
+      → StaysCut (after_backslash w i (slice_get w i)) (after_backslash t m (slice_get t m))
   backslash-cut i m at =
-      byte-cut (behind_backslash w i) (behind_backslash t m) i m at (λ h. h)
+      byte-cut (after_backslash w i) (after_backslash t m) i m at (λ h. h)
       (λ c. if_both StaysCut (c == 117) _ _ _ _
       (λ e. unit-cut (i + 1) (m + 1) (omega arith) (unicode_escape w) (unicode_escape t)
       (λ x. unicode-cut (i + 1 + 4) (m + 1 + 4) x (omega arith)))
       (λ e. sign-no_cut i (short_escape c) _))
 
   -- at any place
-  place-cut : (i m : ℕ) → p + i ≡ m → StaysCut (portion_at w i) (portion_at t m)
-  unfolding portion_at
+  place-cut : (i m : ℕ) → p + i ≡ m → StaysCut (event_at w i) (event_at t m)
+  unfolding event_at
   place-cut i m at =
-      byte-cut (portion_by w i) (portion_by t m) i m at (λ h. absurd (cc))
+      byte-cut (event_by w i) (event_by t m) i m at (λ h. absurd (cc))
       (λ c. if_both StaysCut (c == 34) _ _ _ _ (λ e h. absurd (cc))
       (λ e. if_both StaysCut (c == 92) _ _ _ _ (λ e. backslash-cut (i + 1) (m + 1) (omega arith))
       (λ e. if_both StaysCut (nat_lt c 32) _ _ _ _ (λ e. wrong-no_cut control_character i _)
       (λ e. part-no_cut _ false (i + 1) _))))
 
 -- An escape that was cut ends within the bytes that follow.
-pub whole-behind : (w v : List ℕ) (bs : List ℕ) (j : ℕ) → portion_at w 0 ≡ over cut
-    → portion_at (w ++ v) 0 ≡ part bs true j → (length w < j) × (j ≤ length (w ++ v))
-whole-behind w v bs j open_before h =
+pub whole-after : (w v : List ℕ) (bs : List ℕ) (j : ℕ) → event_at w 0 ≡ over cut
+    → event_at (w ++ v) 0 ≡ part bs true j → (length w < j) × (j ≤ length (w ++ v))
+whole-after w v bs j open_before h =
     let u = w ++ v in
-    let e = subst (Explains u 0) h (portion_at-explains u 0) in
+    let e = subst (Explains u 0) h (event_at-explains u 0) in
     let long = length-append w v in
     elim (cases_lt (length w) j) [
       | inl lt ↦ (lt, omega (arith, e.within))
       | inr le ↦
-          let front : Stands w 0 j e.bytes =
+          let prefix : Stands w 0 j e.bytes =
           subst (λ x. Stands x 0 j e.bytes) (take-append_seam w v)
-          (front-stands u (length w) (omega arith) 0 j e.bytes e.stands le) in
-          let early = portion_by-escape w 0 j e.character e.bytes e.escape front in
+          (prefix-stands u (length w) (omega arith) 0 j e.bytes e.stands le) in
+          let early = event_by-escape w 0 j e.character e.bytes e.escape prefix in
           absurd (cc)
     ]
 
--- With one byte it ends behind that, wherever its bytes stand.
-pub spelled-next : (w : List ℕ) (b c j : ℕ) → portion_at w 0 ≡ over cut
-    → portion_at (w ++ b ∷ []) 0 ≡ part (encode_utf8 c) true j → IsSpelled (w ++ b ∷ []) (spelled.Whole c)
+-- With one byte it ends after that, wherever its bytes stand.
+pub spelled-next : (w : List ℕ) (b c j : ℕ) → event_at w 0 ≡ over cut
+    → event_at (w ++ b ∷ []) 0 ≡ part (encode_utf8 c) true j → IsSpelled (w ++ b ∷ []) (spelled.Whole c)
 spelled-next w b c j open_before h = λ t i stands.
     let u = w ++ b ∷ [] in
-    let r = whole-behind w (b ∷ []) (encode_utf8 c) j open_before h in
-    let e = subst (Explains u 0) h (portion_at-explains u 0) in
+    let r = whole-after w (b ∷ []) (encode_utf8 c) j open_before h in
+    let e = subst (Explains u 0) h (event_at-explains u 0) in
     let bytes : e.bytes ≡ u =
     slice-stands u 0 j e.bytes e.stands ∙ take_all (j - 0) u (omega (arith, r.0, length-append w (b ∷ []))) in
-    portion_by-escape t i (i + length u) e.character e.bytes e.escape
+    event_by-escape t i (i + length u) e.character e.bytes e.escape
     (subst (λ x. Stands t i (i + length u) x) (sym bytes) stands)
     ∙ ap (λ x. part x true (i + length u)) (sym e.is)
 
 -- the first byte of an escape that is cut
-pub cut_begins : (w : List ℕ) → portion_at w 0 ≡ over cut → slice_get w 0 ≡ Some 92
-cut_begins w h = subst (Explains w 0) h (portion_at-explains w 0)
+pub cut_begins : (w : List ℕ) → event_at w 0 ≡ over cut → slice_get w 0 ≡ Some 92
+cut_begins w h = subst (Explains w 0) h (event_at-explains w 0)
 
 -- and stays so
-pub begins-behind : (w v : List ℕ) (c : ℕ) → slice_get w 0 ≡ Some c → slice_get (w ++ v) 0 ≡ Some c
-begins-behind [] v c h = absurd (omega (arith, slice_get_within [] 0 c h))
-begins-behind (x ∷ w) v c h = h
+pub begins-after : (w v : List ℕ) (c : ℕ) → slice_get w 0 ≡ Some c → slice_get (w ++ v) 0 ≡ Some c
+begins-after [] v c h = absurd (omega (arith, slice_get_within [] 0 c h))
+begins-after (x ∷ w) v c h = h
 
 -- Where a backslash stands, the string is not over.
 module _ (u : List ℕ) (backslash : slice_get u 0 ≡ Some 92) where
   -- not by a quote
-  pub no-close : (e : ℕ) → over (closed e) ≡ portion_at u 0 → ⊥
+  pub no-close : (e : ℕ) → over (closed e) ≡ event_at u 0 → ⊥
   no-close e h =
-      let x = subst (Explains u 0) (sym h) (portion_at-explains u 0) in
+      let x = subst (Explains u 0) (sym h) (event_at-explains u 0) in
       omega (arith, same_Some 92 34 (sym backslash ∙ x.0))
 
   -- nor by the end of the input
-  pub no-end : over unclosed ≡ portion_at u 0 → ⊥
-  no-end h = none-some 92 (sym (subst (Explains u 0) (sym h) (portion_at-explains u 0)) ∙ backslash)
+  pub no-end : over unclosed ≡ event_at u 0 → ⊥
+  no-end h = none-some 92 (sym (subst (Explains u 0) (sym h) (event_at-explains u 0)) ∙ backslash)
 
 -- and so is a fault.
 pub spelled-wrong : (u t : List ℕ) (i : ℕ) → Stands t i (i + length u) u → (k : Kind) (j : ℕ)
-    → portion_at u 0 ≡ over (wrong k j) → portion_at t i ≡ over (wrong k (i + j))
+    → event_at u 0 ≡ over (wrong k j) → event_at t i ≡ over (wrong k (i + j))
 spelled-wrong u t i stands = wrong-found u t i (stands-at u t i (i + length u) stands)
 
 -- A wrong byte is one of them.
-pub wrong-within : (u : List ℕ) (k : Kind) (j : ℕ) → portion_at u 0 ≡ over (wrong k j) → j < length u
-wrong-within u k j h = (subst (Explains u 0) h (portion_at-explains u 0)).1
+pub wrong-within : (u : List ℕ) (k : Kind) (j : ℕ) → event_at u 0 ≡ over (wrong k j) → j < length u
+wrong-within u k j h = (subst (Explains u 0) h (event_at-explains u 0)).1
 
--- What is cut is so where the text ends behind it.
+-- What is cut is so where the text ends after it.
 pub spelled-cut : (u t : List ℕ) (i : ℕ) → Stands t i (i + length u) u → length t ≡ i + length u
-    → portion_at u 0 ≡ over cut → portion_at t i ≡ over cut
+    → event_at u 0 ≡ over cut → event_at t i ≡ over cut
 spelled-cut u t i stands long =
     place-cut u t i (stands-at u t i (i + length u) stands) long 0 i (omega arith)

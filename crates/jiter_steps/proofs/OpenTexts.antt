@@ -1,4 +1,4 @@
--- A text that arrives in parts: what bytes behind its characters make of it, and what it is when they are all.
+-- A text that arrives in parts: what bytes after its characters make of it, and what it is when they are all.
 use Rattle.std.proofs.Common.{◌≡◌, ◌⊎◌, inl, inr, ℕ, zero, suc, ◌+◌, ◌-◌, ◌<◌, ◌≤◌, ◌==◌, Bool, true, false, not}
 use Rattle.std.proofs.Common.{List, [], ◌∷◌, ◌++◌, length, take, drop, refl, sym, ap, ◌∙◌, subst, arith}
 use Rattle.std.proofs.Common.{append-nil, append_assoc, length-append, nat_eq}
@@ -17,9 +17,9 @@ use Rattle.jiter_scan.specs.Kind.{invalid_code_point}
 use Rattle.jiter_scan.specs.Scanned.{Scanned, taken, failed}
 use Rattle.jiter_scan.proofs.Choices.{if_gives, if-true, if-false}
 use Rattle.jiter_steps.specs.Tree.{Text}
-use Rattle.jiter_steps.specs.StringReading.{if_utf8, valid_front, valid_front_by, checked}
-use Rattle.jiter_steps.specs.OpenText.{BeginsNoText, IsUnfinished, IsBroken, HoldsBytes, SoFar, HoldsText}
-use Rattle.jiter_steps.proofs.Cut.CutCharacters.{IsFront, front-unfinished}
+use Rattle.jiter_steps.specs.StringReading.{if_utf8, valid_prefix, valid_prefix_by, checked}
+use Rattle.jiter_steps.specs.PartialText.{BeginsNoText, IsUnfinished, IsBroken, HoldsBytes, SoFar, HoldsText}
+use Rattle.jiter_steps.proofs.Cut.CutCharacters.{IsPrefix, prefix-unfinished}
 use Rattle.jiter_steps.proofs.Grammar.Utf8Shape.{lead}
 
 -- no bytes begin no text
@@ -42,22 +42,22 @@ encode-some c cs s =
     let l = lead c (and_parts _ _ s).0 in
     omega (arith, ap length l.is)
 
--- What stands behind the longest front that is a text begins none.
+-- What stands after the longest prefix that is a text begins none.
 pub rest-none : (w : List ℕ) (n : ℕ) → IsValidUpTo w n → BeginsNoText (drop n w)
 rest-none w n v zero u = refl
 rest-none w n v (suc m) u =
     absurd (v.longest (n + suc m) (omega arith)
-    (subst IsUtf8 (sym (take-add n (suc m) w)) (IsUtf8-append (take n w) (take (suc m) (drop n w)) v.front u)))
+    (subst IsUtf8 (sym (take-add n (suc m) w)) (IsUtf8-append (take n w) (take (suc m) (drop n w)) v.prefix u)))
 
 module _ (text w : List ℕ) (u : IsUtf8 text) (none : BeginsNoText w) where
-  -- no longer front than the text itself is one
-  front-none : (k : ℕ) → IsUtf8 (take (length text + k) (text ++ w)) → take k w ≡ []
-  front-none k t =
+  -- no longer prefix than the text itself is one
+  prefix-none : (k : ℕ) → IsUtf8 (take (length text + k) (text ++ w)) → take k w ≡ []
+  prefix-none k t =
       let l = take (length text + k) (text ++ w) in
       let is : l ≡ text ++ take k w = take-append-add text w k in
-      let front : take (length text) l ≡ text = ap (take (length text)) is ∙ take-append_seam text (take k w) in
+      let prefix : take (length text) l ≡ text = ap (take (length text)) is ∙ take-append_seam text (take k w) in
       let long : length text ≤ length l = omega (arith, ap length is, length-append text (take k w)) in
-      let bound = IsCharBoundary-from_take l (length text) t long (subst IsUtf8 (sym front) u) in
+      let bound = IsCharBoundary-from_take l (length text) t long (subst IsUtf8 (sym prefix) u) in
       let rest : drop (length text) l ≡ take k w =
       ap (drop (length text)) is ∙ drop-append_seam text (take k w) in
       none k (subst IsUtf8 rest (IsUtf8-drop l (length text) t bound))
@@ -72,11 +72,11 @@ module _ (text w : List ℕ) (u : IsUtf8 text) (none : BeginsNoText w) where
   valid-some : 0 < length w → IsValidUpTo (text ++ w) (length text)
   valid-some some = record {
     short = omega (arith, length-append text w);
-    front = subst IsUtf8 (sym (take-append_seam text w)) u;
+    prefix = subst IsUtf8 (sym (take-append_seam text w)) u;
     longest = λ m h t.
         let at : m ≡ length text + (m - length text) = omega arith in
         some-taken (m - length text) w (omega arith) some
-        (front-none (m - length text) (subst (λ n. IsUtf8 (take n (text ++ w))) at t));
+        (prefix-none (m - length text) (subst (λ n. IsUtf8 (take n (text ++ w))) at t));
   }
 
   -- and where none do
@@ -85,16 +85,16 @@ module _ (text w : List ℕ) (u : IsUtf8 text) (none : BeginsNoText w) where
       ap (λ x. utf8_valid_len (text ++ x)) e ∙ ap utf8_valid_len (append-nil text) ∙ utf8_valid_len-IsUtf8 text u
   valid-by (inr s) = utf8_valid_len-IsValidUpTo (text ++ w) (length text) (valid-some s)
 
-  -- The text is the longest front that is one.
+  -- The text is the longest prefix that is one.
   pub valid-text : utf8_valid_len (text ++ w) ≡ length text
   valid-text = valid-by (empty-or w) where
     empty-or : (w : List ℕ) → (w ≡ []) ⊎ (0 < length w)
     empty-or [] = inl refl
     empty-or (x ∷ w) = inr (omega arith)
 
-  -- and what is wrong is wrong behind it
-  pub error-behind : utf8_error_len (drop (utf8_valid_len (text ++ w)) (text ++ w)) ≡ utf8_error_len w
-  error-behind =
+  -- and what is wrong is wrong after it
+  pub error-after : utf8_error_len (drop (utf8_valid_len (text ++ w)) (text ++ w)) ≡ utf8_error_len w
+  error-after =
       ap (λ n. utf8_error_len (drop n (text ++ w))) valid-text ∙ ap utf8_error_len (drop-append_seam text w)
 
   -- and it is taken
@@ -159,19 +159,19 @@ error-stays (a ∷ b ∷ []) u n h = error-two a b n u h
 error-stays (a ∷ b ∷ c ∷ []) u n h = error-three a b c n u h
 error-stays (a ∷ b ∷ c ∷ d ∷ w) u n h = error-four a b c d (w ++ u) w ∙ h
 
--- A character that stands behind what is wrong would be whole in it, or unfinished.
+-- A character that stands after what is wrong would be whole in it, or unfinished.
 module _ (w : List ℕ) (n : ℕ) (none : BeginsNoText w) (wrong : utf8_error_len w ≡ Some n) where
   -- the bytes w and more begin with no character
   begins-none : (u more : List ℕ) (c : ℕ) (cs : List ℕ) → all_scalars (c ∷ cs) ≡ true → w ++ u ≡ encode c ++ more → ⊥
   begins-none u more c cs s is = elim (cases_lt (length w) (length (encode c))) [
     | inl short ↦
-        let front : take (length w) (encode c) ≡ w =
+        let prefix : take (length w) (encode c) ≡ w =
         sym (take-append-le (length w) (encode c) more (omega arith)) ∙ ap (take (length w)) (sym is)
         ∙ take-append_seam w u in
         let rest = drop (length w) (encode c) in
         let split : encode c ≡ w ++ rest =
-        sym (take-append-drop (length w) (encode c)) ∙ ap (λ x. x ++ rest) front in
-        let open_front : IsFront w =
+        sym (take-append-drop (length w) (encode c)) ∙ ap (λ x. x ++ rest) prefix in
+        let open_prefix : IsPrefix w =
         record {
           c = c;
           more = rest;
@@ -179,20 +179,20 @@ module _ (w : List ℕ) (n : ℕ) (none : BeginsNoText w) (wrong : utf8_error_le
           is = split;
           some = omega (arith, length-drop (length w) (encode c));
         } in
-        none-some n (sym (front-unfinished w open_front) ∙ wrong)
+        none-some n (sym (prefix-unfinished w open_prefix) ∙ wrong)
     | inr long ↦
         let k = length (encode c) in
-        let front : take k w ≡ encode c =
+        let prefix : take k w ≡ encode c =
         sym (take-append-le k w u long) ∙ ap (take k) is ∙ take-append_seam (encode c) more in
-        let utf8 : IsUtf8 (take k w) = subst IsUtf8 (sym front) (IsUtf8-encode c (and_parts _ _ s).0) in
-        let nothing : encode c ≡ [] = sym front ∙ none k utf8 in
+        let utf8 : IsUtf8 (take k w) = subst IsUtf8 (sym prefix) (IsUtf8-encode c (and_parts _ _ s).0) in
+        let nothing : encode c ≡ [] = sym prefix ∙ none k utf8 in
         let some = encode-some c cs s in
         absurd (omega (arith, ap length nothing))
   ]
 
   -- nor with any text
-  none-behind : (u : List ℕ) → BeginsNoText (w ++ u)
-  none-behind u m t = by t.0 t.1.0 t.1.1 where
+  none-after : (u : List ℕ) → BeginsNoText (w ++ u)
+  none-after u m t = by t.0 t.1.0 t.1.1 where
     by : (cs : List ℕ) → all_scalars cs ≡ true → encodes cs ≡ take m (w ++ u) → take m (w ++ u) ≡ []
     by [] s e = sym e
     by (c ∷ cs) s e =
@@ -202,7 +202,7 @@ module _ (w : List ℕ) (n : ℕ) (none : BeginsNoText w) (wrong : utf8_error_le
 
   -- so they are broken
   pub broken-is : IsBroken w
-  broken-is = record { none = none-behind; count = n; wrong = λ u. error-stays w u n wrong }
+  broken-is = record { none = none-after; count = n; wrong = λ u. error-stays w u n wrong }
 
 -- and so do more
 pub broken-on : (w u : List ℕ) → IsBroken w → IsBroken (w ++ u)
@@ -212,7 +212,7 @@ broken-on w u b = record {
   wrong = λ v. ap utf8_error_len (append_assoc w u v) ∙ b.wrong (u ++ v);
 }
 
--- Where bytes behind the characters so far are characters, all are.
+-- Where bytes after the characters so far are characters, all are.
 pub absorbed-whole : (old text bytes d : List ℕ) → d ≡ old ++ bytes → (rest : List ℕ) → text ≡ old ++ bytes → rest ≡ []
     → HoldsBytes false text rest d
 absorbed-whole old text bytes d is rest all none = (
@@ -220,16 +220,16 @@ absorbed-whole old text bytes d is rest all none = (
   subst IsUnfinished (sym none) nil-unfinished,
 )
 
--- What stands behind the longest front that is a text, by the error that is found there: an unfinished character,
+-- What stands after the longest prefix that is a text, by the error that is found there: an unfinished character,
 module _ (w : List ℕ) (n : ℕ) (v : IsValidUpTo w n) where
-  pub open-behind : (o : Option ℕ) → utf8_error_len (drop n w) ≡ o → is_some o ≡ false → IsUnfinished (drop n w)
-  open-behind None e s = record { none = rest-none w n v; unended = e }
-  open-behind (Some k) e s = absurd (cc)
+  pub open-after : (o : Option ℕ) → utf8_error_len (drop n w) ≡ o → is_some o ≡ false → IsUnfinished (drop n w)
+  open-after None e s = record { none = rest-none w n v; unended = e }
+  open-after (Some k) e s = absurd (cc)
 
   -- or wrong bytes
-  pub broken-behind : (o : Option ℕ) → utf8_error_len (drop n w) ≡ o → is_some o ≡ true → IsBroken (drop n w)
-  broken-behind None e s = absurd (cc)
-  broken-behind (Some k) e s = broken-is (drop n w) k (rest-none w n v) e
+  pub broken-after : (o : Option ℕ) → utf8_error_len (drop n w) ≡ o → is_some o ≡ true → IsBroken (drop n w)
+  broken-after None e s = absurd (cc)
+  broken-after (Some k) e s = broken-is (drop n w) k (rest-none w n v) e
 
 -- a broken text goes on as one
 pub broken-goes : (text rest d u : List ℕ) → HoldsBytes true text rest d → HoldsBytes true text rest (d ++ u)
@@ -242,11 +242,11 @@ module _ (text rest d : List ℕ) (utf8 : IsUtf8 text) (i e : ℕ) (owned : Bool
   abbrev whole_text : Scanned Text
   whole_text = taken (record { owned = owned; bytes = text }) e
 
-  -- or a byte is wrong behind it
+  -- or a byte is wrong after it
   abbrev wrong_text : Scanned Text
   wrong_text = failed invalid_code_point (i + length text)
 
-  -- of bytes w behind the text that begin no other: whether there are none
+  -- of bytes w after the text that begin no other: whether there are none
   if-whole : (w : List ℕ) → d ≡ text ++ w → BeginsNoText w
       → if_utf8 i owned d e ≡ (if nat_eq (length w) 0 then whole_text else wrong_text)
   if-whole [] is none =
@@ -261,12 +261,12 @@ module _ (text rest d : List ℕ) (utf8 : IsUtf8 text) (i e : ℕ) (owned : Bool
       ∙ ap (λ n. failed invalid_code_point (i + n)) short
       ∙ sym (if-false (nat_eq (length (b ∷ w)) 0) _ _ (ne_eqb (length (b ∷ w)) 0 (omega arith)))
 
-  -- what is kept of them, by what is wrong behind the text
+  -- what is kept of them, by what is wrong after the text
   kept-by : (w : List ℕ) (o : Option ℕ) → d ≡ text ++ w → BeginsNoText w → utf8_error_len w ≡ o
-      → valid_front i owned d e ≡ valid_front_by i owned d e o
+      → valid_prefix i owned d e ≡ valid_prefix_by i owned d e o
   kept-by w o is none error =
-      ap (valid_front_by i owned d e)
-      (ap (λ x. utf8_error_len (drop (utf8_valid_len x) x)) is ∙ error-behind text w utf8 none ∙ error)
+      ap (valid_prefix_by i owned d e)
+      (ap (λ x. utf8_error_len (drop (utf8_valid_len x) x)) is ∙ error-after text w utf8 none ∙ error)
 
   -- kept, an unfinished character is left out,
   pub open-kept : HoldsBytes false text rest d → checked true i owned d e ≡ whole_text

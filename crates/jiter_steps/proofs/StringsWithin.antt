@@ -6,30 +6,30 @@ use Rattle.std.specs.Str.{IsUtf8}
 use Rattle.jiter_scan.proofs.Standing.{slice-one, slice_range-split, slice-stands, stands-split}
 use Rattle.jiter_scan.specs.Scanned.{taken}
 use Rattle.jiter_scan.specs.Stands.{Stands}
-use Rattle.jiter_steps.specs.OpenString.{IsTextWithin}
+use Rattle.jiter_steps.specs.PartialString.{IsTextWithin}
 use Rattle.jiter_steps.specs.StringReading.{Body, Stop, before, body_at, closed, content_at, over, part}
-use Rattle.jiter_steps.specs.StringReading.{checked, is_cut, portion_at, string_at, text_form, text_in_form, whole}
+use Rattle.jiter_steps.specs.StringReading.{checked, is_cut, event_at, string_at, text_form, text_in_form, whole}
 use Rattle.jiter_steps.specs.Tree.{Text}
 use Rattle.jiter_steps.proofs.Calls.StringAnswers.{string-checked, string_closed}
 use Rattle.jiter_steps.proofs.Grammar.Places.{Explains}
-use Rattle.jiter_steps.proofs.Grammar.StringComplete.{portion_by-byte, portion_by-escape, portion_by-quote}
+use Rattle.jiter_steps.proofs.Grammar.StringComplete.{event_by-byte, event_by-escape, event_by-quote}
 use Rattle.jiter_steps.proofs.Grammar.StringSound.{closed-text}
-use Rattle.jiter_steps.proofs.Reading.Bodies.{StopWithin, body_at-portion_by, body_at-within, each-body}
+use Rattle.jiter_steps.proofs.Reading.Bodies.{StopWithin, body_at-event_by, body_at-within, each-body}
 use Rattle.jiter_steps.proofs.Reading.Bodies.{part-ahead}
 
 module _ (piece : List ℕ) where
   -- the bytes of a part are the same part, wherever they stand
   part-again : (m j : ℕ) (bs : List ℕ) (o : Bool) → Explains piece m (part bs o j) → (t : List ℕ) (i k : ℕ)
-      → Stands t i k (slice_range piece m j) → portion_at t i ≡ part bs o k
+      → Stands t i k (slice_range piece m j) → event_at t i ≡ part bs o k
   part-again m j bs true h t i k s =
-      portion_by-escape t i k h.character h.bytes h.escape
+      event_by-escape t i k h.character h.bytes h.escape
       (subst (Stands t i k) (sym (slice-stands piece m j h.bytes h.stands)) s)
       ∙ ap (λ x. part x true k) (sym h.is)
   part-again m j bs false h t i k s =
       let one : slice_range piece m j ≡ h.byte ∷ [] =
       sym (slice-stands piece m j (h.byte ∷ []) (h.here, sym h.ends)) in
       let there : Stands t i k (h.byte ∷ []) = subst (Stands t i k) one s in
-      portion_by-byte t i h.byte there.0 (record {
+      event_by-byte t i h.byte there.0 (record {
         printed = h.printed;
         no_quote = h.no_quote;
         no_backslash = h.no_backslash;
@@ -47,17 +47,17 @@ module _ (piece : List ℕ) where
       each-body piece Again
       (λ m j bs o h go e stop t i k s.
       let ahead = part-ahead piece m j bs o h in
-      let behind = subst (StopWithin piece j) stop (body_at-within piece j) in
-      let split = slice_range-split piece m j (omega (arith, ahead.0)) e (omega (arith, behind.0)) in
+      let after = subst (StopWithin piece j) stop (body_at-within piece j) in
+      let split = slice_range-split piece m j (omega (arith, ahead.0)) e (omega (arith, after.0)) in
       let two = stands-split t i k (slice_range piece m j) (slice_range piece j e) (subst (Stands t i k) split s) in
-      body_at-portion_by t i (part bs o two.0) (part-again m j bs o h t i two.0 two.1)
+      body_at-event_by t i (part bs o two.0) (part-again m j bs o h t i two.0 two.1)
       ∙ ap (before bs o) (go e stop t two.0 k two.2))
       (λ m x h e stop t i k s.
       let quote : (slice_get piece m ≡ Some 34) × (e ≡ m + 1) =
       subst (λ (y : Stop). Explains piece m (over y)) stop h in
       let there : Stands t i k (34 ∷ []) =
       subst (Stands t i k) (ap (slice_range piece m) quote.1 ∙ slice-one piece m 34 quote.0) s in
-      body_at-portion_by t i (over (closed (i + 1))) (portion_by-quote t i there.0)
+      body_at-event_by t i (over (closed (i + 1))) (event_by-quote t i there.0)
       ∙ ap (λ (y : Stop). record { bytes = []; owned = is_cut y; stop = y }) (ap closed there.1)
       ∙ ap (λ (y : Stop). record { bytes = []; owned = is_cut y; stop = closed k }) (sym stop))
 
@@ -79,7 +79,7 @@ module _ (piece : List ℕ) (at e : ℕ) (x : Text) (utf8 : IsUtf8 x.bytes)
   abbrev quoted : List ℕ
   quoted = slice_range piece at e
 
-  -- it ends behind its quote
+  -- it ends after its quote
   ends : (at + 1 < e) × (e ≤ length piece)
   unfolding content_at
   ends =

@@ -2,11 +2,11 @@
 --
 -- Whatever is read, the two agree, or the first has the fault of a repeated key (Agreeing). With partial reading off it
 -- has that fault exactly where the document, if the text is one, has two keys of the same characters in one object
--- (Distinct, and Documents for whole texts).
+-- (BorrowingUnique, and Documents for whole texts).
 pub mod Agreeing
 pub mod Cuts
 pub mod Dead
-pub mod Distinct
+pub mod BorrowingUnique
 pub mod Documents
 pub mod Keys
 pub mod Nodes

@@ -10,7 +10,7 @@ use Rattle.jiter_steps.specs.StringReading.{Form, whole, raw, text_form, string_
 use Rattle.jiter_steps.specs.Tree.{Text, Tree, items_of, members_of}
 use Rattle.jiter_steps.specs.Tree as tree
 use Rattle.jiter_steps.specs.Node.{nesting_limit, number_tree}
-use Rattle.jiter_steps.specs.Read.{Rules, Reading, front_answer, whole_answer, value_at}
+use Rattle.jiter_steps.specs.Read.{Rules, Reading, prefix_answer, whole_answer, value_at}
 
 -- what was read, seen so, with the place that it ends at
 abbrev pub seen_as : {A B : Type 0} → (A → ℕ → B) → Scanned A → Scanned B
@@ -61,7 +61,7 @@ abbrev pub partial_trees : Bool → PartialMode → Rules Text Tree
 partial_trees names mode = trees is_forgiven (value_form mode) names
 
 abbrev pub partial_answer : Bool → PartialMode → List ℕ → Reading Tree
-partial_answer names mode t = front_answer (partial_trees names mode) t
+partial_answer names mode t = prefix_answer (partial_trees names mode) t
 
 -- What a parse in this mode answers.
 abbrev pub answer_in : Bool → PartialMode → List ℕ → Reading Tree

@@ -18,7 +18,7 @@ use Rattle.jiter_steps.specs.Node as grammar
 abbrev pub cut_number : Bool → List ℕ → Option Tree
 cut_number names w = if is_number_text names w then Some (number_tree (number_value w)) else None
 
--- the pieces before the first that ends behind k
+-- the pieces before the first that ends after k
 abbrev pub cut_string : List ℕ → List Piece → ℕ → ℕ → Tree
 cut_string t ps b k = tree.string (text_at t (pieces_to k ps) b k)
 
@@ -55,8 +55,8 @@ abbrev mutual
   cut_members names t (member key n ms) k mode =
       with_member (text_at t key.pieces key.begin key.end) (cut names t n k mode) (cut_members names t ms k mode)
 
--- a front of a document that is an array or an object, which ends before a place behind the first bracket
-pub record IsBegunContainer (names : Bool) (front : List ℕ) : Type 0 where
+-- a prefix of a document that is an array or an object, which ends before a place after the first bracket
+pub record IsBegunContainer (names : Bool) (prefix : List ℕ) : Type 0 where
   pub text : List ℕ
   pub node : Node
   pub place : ℕ
@@ -64,4 +64,4 @@ pub record IsBegunContainer (names : Bool) (front : List ℕ) : Type 0 where
   pub container : IsContainer node
   pub begun : begin node < place
   pub within : place ≤ length text
-  pub is : front ≡ take place text
+  pub is : prefix ≡ take place text

@@ -1,4 +1,4 @@
--- One tree goes on where another stopped, as a longer front of a document does.
+-- One tree goes on where another stopped, as a longer prefix of a document does.
 use Rattle.std.specs.Prelude.{◌≡◌, ◌⊎◌, ℕ, ◌≤◌, true, List, ◌++◌}
 use Rattle.jiter_steps.specs.Tree.{Text, Tree, string, array, object, Items, no_items, item, Members, no_members}
 use Rattle.jiter_steps.specs.Tree.{member}

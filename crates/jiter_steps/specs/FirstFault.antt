@@ -8,7 +8,7 @@ use Rattle.jiter_steps.specs.Node.{Node, IsDocument}
 
 -- no document begins with these bytes
 abbrev pub BeginsNoDocument : Bool → List ℕ → Type 0
-BeginsNoDocument names front = (rest : List ℕ) (n : Node) → IsDocument names (front ++ rest) n → ⊥
+BeginsNoDocument names prefix = (rest : List ℕ) (n : Node) → IsDocument names (prefix ++ rest) n → ⊥
 
 -- a kind of fault of the bytes, and neither one of their end nor that of UTF-8
 abbrev pub IsDeadEnd : Kind → Type 0
@@ -24,13 +24,13 @@ abbrev pub IsFiller : List ℕ → Type 0
 IsFiller w = (w ≡ []) ⊎ ((w ≡ codes "0") ⊎ (w ≡ codes "\"\":0"))
 
 -- some document is these bytes, then nothing, `0` or `"":0`, then closers
-pub record CanBeCompleted (names : Bool) (front : List ℕ) : Type 0 where
+pub record CanBeCompleted (names : Bool) (prefix : List ℕ) : Type 0 where
   pub filler : List ℕ
   pub closers : List ℕ
   pub node : Node
   pub is_filler : IsFiller filler
   pub are_closers : AreClosers closers
-  pub document : IsDocument names (front ++ (filler ++ closers)) node
+  pub document : IsDocument names (prefix ++ (filler ++ closers)) node
 
 -- the kinds of fault up to whose index the text can be completed
 abbrev pub can_go_on : Kind → Bool

@@ -3,7 +3,7 @@ use Rattle.std.specs.Prelude.{ℕ, suc, ◌-◌, if◌then◌else◌, Bool, List
 use Rattle.jiter_scan.specs.Kind.{Kind}
 use Rattle.jiter_steps.specs.Node.{nesting_limit}
 use Rattle.jiter_steps.specs.Step.{Step, more, closed, stuck, step}
-use Rattle.jiter_steps.specs.Read.{Reading, Rules, Container, with_key, follow, behind_part, parts_at, array_of}
+use Rattle.jiter_steps.specs.Read.{Reading, Rules, Container, with_key, follow, after_part, parts_at, array_of}
 use Rattle.jiter_steps.specs.Read.{object_of, inside_at}
 
 -- an open container: the items so far; or the members so far, and the key that awaits its value
@@ -19,7 +19,7 @@ resolve_step forgives (stuck k j) = if forgives k then closed j else stuck k j
 
 module _ {K A : Type 0} (r : Rules K A) (t : List ℕ) where
   module _ {P : Type 0} (c : Container P A) where
-    -- the rest of a container that has these parts: where the next one begins, and what a step behind them leads to
+    -- the rest of a container that has these parts: where the next one begins, and what a step after them leads to
     abbrev pub parts_from : List P → ℕ → Reading A
     parts_from parts j = parts_at r c t (length t) parts j
 
@@ -38,15 +38,15 @@ module _ {K A : Type 0} (r : Rules K A) (t : List ℕ) where
   object_in depth = object_of r (value_in (suc depth)) t 0
 
   -- what an open container goes on to, once the value that it awaits is read so
-  abbrev pub behind_value : ℕ → Frame K A → Reading A → Reading A
-  behind_value depth (items_frame items) x = behind_part r (array_in depth) t (parts_from (array_in depth)) items x
-  behind_value depth (members_frame members k) x =
-      behind_part r (object_in depth) t (parts_from (object_in depth)) members (with_key k x)
+  abbrev pub after_value : ℕ → Frame K A → Reading A → Reading A
+  after_value depth (items_frame items) x = after_part r (array_in depth) t (parts_from (array_in depth)) items x
+  after_value depth (members_frame members k) x =
+      after_part r (object_in depth) t (parts_from (object_in depth)) members (with_key k x)
 
   -- and then all of them, the innermost first
   abbrev pub resume : List (Frame K A) → Reading A → Reading A
   resume [] x = x
-  resume (f ∷ fs) x = resume fs (behind_value (length fs) f x)
+  resume (f ∷ fs) x = resume fs (after_value (length fs) f x)
 
   -- What stands inside these open containers: where a value begins at j,
   abbrev pub value_from : List (Frame K A) → ℕ → Reading A

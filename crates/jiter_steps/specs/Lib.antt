@@ -6,9 +6,9 @@ pub mod Escape
 pub mod Piece
 pub mod StringReading
 pub mod StringDecoder
-pub mod OpenText
-pub mod OpenEscape
-pub mod OpenString
+pub mod PartialText
+pub mod PartialEscape
+pub mod PartialString
 pub mod RawString
 pub mod Read
 pub mod ReadError

@@ -49,8 +49,8 @@ end (string ps b e) = e
 end (array b e ns) = e
 end (object b e ms) = e
 
--- the byte c stands behind the blanks from i on, and e is the place behind it
-pub record StandsBehind (t : List ℕ) (i c e : ℕ) : Type 0 where
+-- the byte c stands after the blanks from i on, and e is the place after it
+pub record StandsAfter (t : List ℕ) (i c e : ℕ) : Type 0 where
   pub at : ℕ
   pub blanks : IsBlank t i at
   pub here : slice_get t at ≡ Some c
@@ -62,11 +62,11 @@ pub record SpellsNumber (names : Bool) (t : List ℕ) (b e : ℕ) : Type 0 where
   pub within : e ≤ length t
   pub text : IsNumberText names (slice_range t b e)
 
--- a key, the colon behind it, and the place j where a value may begin
+-- a key, the colon after it, and the place j where a value may begin
 pub record SpellsKey (t : List ℕ) (k : Key) (j : ℕ) : Type 0 where
   pub string : SpellsString t k.begin k.pieces k.end
   pub colon : ℕ
-  pub behind : StandsBehind t k.end ascii.colon colon
+  pub after : StandsAfter t k.end ascii.colon colon
   pub blanks : IsBlank t colon j
 
 -- The text spells the node. A number may be a name only where names are allowed.
@@ -78,29 +78,29 @@ abbrev mutual
   Spells names t (array b e ns) = (slice_get t b ≡ Some ascii.left_bracket) × SpellsItems names t (b + 1) ns e
   Spells names t (object b e ms) = (slice_get t b ≡ Some ascii.left_brace) × SpellsMembers names t (b + 1) ms e
 
-  -- the items and `]`, behind `[`
+  -- the items and `]`, after `[`
   pub SpellsItems : Bool → List ℕ → ℕ → Nodes → ℕ → Type 0
-  SpellsItems names t i no_nodes e = StandsBehind t i ascii.right_bracket e
+  SpellsItems names t i no_nodes e = StandsAfter t i ascii.right_bracket e
   SpellsItems names t i (node n ns) e = IsBlank t i (begin n) × Spells names t n × SpellsMoreItems names t (end n) ns e
 
-  -- commas and further items, and `]`, behind an item
+  -- commas and further items, and `]`, after an item
   pub SpellsMoreItems : Bool → List ℕ → ℕ → Nodes → ℕ → Type 0
-  SpellsMoreItems names t i no_nodes e = StandsBehind t i ascii.right_bracket e
+  SpellsMoreItems names t i no_nodes e = StandsAfter t i ascii.right_bracket e
   SpellsMoreItems names t i (node n ns) e =
-      (c : ℕ) × StandsBehind t i ascii.comma c × IsBlank t c (begin n) × Spells names t n
+      (c : ℕ) × StandsAfter t i ascii.comma c × IsBlank t c (begin n) × Spells names t n
       × SpellsMoreItems names t (end n) ns e
 
-  -- the members and `}`, behind `{`
+  -- the members and `}`, after `{`
   pub SpellsMembers : Bool → List ℕ → ℕ → NodeMembers → ℕ → Type 0
-  SpellsMembers names t i no_members e = StandsBehind t i ascii.right_brace e
+  SpellsMembers names t i no_members e = StandsAfter t i ascii.right_brace e
   SpellsMembers names t i (member k n ms) e =
       IsBlank t i k.begin × SpellsKey t k (begin n) × Spells names t n × SpellsMoreMembers names t (end n) ms e
 
-  -- commas and further members, and `}`, behind a member
+  -- commas and further members, and `}`, after a member
   pub SpellsMoreMembers : Bool → List ℕ → ℕ → NodeMembers → ℕ → Type 0
-  SpellsMoreMembers names t i no_members e = StandsBehind t i ascii.right_brace e
+  SpellsMoreMembers names t i no_members e = StandsAfter t i ascii.right_brace e
   SpellsMoreMembers names t i (member k n ms) e =
-      (c : ℕ) × StandsBehind t i ascii.comma c × IsBlank t c k.begin × SpellsKey t k (begin n) × Spells names t n
+      (c : ℕ) × StandsAfter t i ascii.comma c × IsBlank t c k.begin × SpellsKey t k (begin n) × Spells names t n
       × SpellsMoreMembers names t (end n) ms e
 
 -- how deep containers that are not empty stand one inside another
@@ -180,12 +180,12 @@ IsContainer (string ps b e) = ⊥
 IsContainer (array b e ns) = Unit {0}
 IsContainer (object b e ms) = Unit {0}
 
--- a front of a document that is an array or an object, without its last bracket
-pub record IsCutContainer (names : Bool) (front : List ℕ) : Type 0 where
+-- a prefix of a document that is an array or an object, without its last bracket
+pub record IsCutContainer (names : Bool) (prefix : List ℕ) : Type 0 where
   pub text : List ℕ
   pub node : Node
   pub place : ℕ
   pub document : IsDocument names text node
   pub container : IsContainer node
   pub before_end : place < end node
-  pub is : front ≡ take place text
+  pub is : prefix ≡ take place text

@@ -33,12 +33,12 @@ pub record IsUnit (p : List ℕ) (u : ℕ) : Type 0 where
 
 -- p is two such, of a high and a low surrogate, which together are c
 pub record IsPair (p : List ℕ) (c : ℕ) : Type 0 where
-  pub front : List ℕ
+  pub prefix : List ℕ
   pub back : List ℕ
   pub high : ℕ
   pub low : ℕ
-  pub is : p ≡ front ++ back
-  pub first : IsUnit front high
+  pub is : p ≡ prefix ++ back
+  pub first : IsUnit prefix high
   pub second : IsUnit back low
   pub is_high : is_high high ≡ true
   pub is_low : is_low low ≡ true
@@ -63,7 +63,7 @@ pub record SpellsChar (t : List ℕ) (i j c : ℕ) : Type 0 where
   pub stands : Stands t i j bytes
   pub piece : IsPiece bytes c
 
--- these pieces stand one behind another from i to e
+-- these pieces stand one after another from i to e
 abbrev pub SpellsPieces : List ℕ → ℕ → List Piece → ℕ → Type 0
 SpellsPieces t i [] e = i ≡ e
 SpellsPieces t i (p ∷ ps) e = SpellsChar t i p.end p.character × SpellsPieces t p.end ps e
@@ -84,7 +84,7 @@ pub record SpellsString (t : List ℕ) (i : ℕ) (ps : List Piece) (e : ℕ) : T
 abbrev pub text_of : List Piece → List ℕ
 text_of ps = encode_utf8_all (characters ps)
 
--- the pieces before the first that ends behind k
+-- the pieces before the first that ends after k
 abbrev pub pieces_to : ℕ → List Piece → List Piece
 pieces_to k [] = []
 pieces_to k (p ∷ ps) = if nat_le p.end k then p ∷ pieces_to k ps else []

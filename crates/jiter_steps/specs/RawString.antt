@@ -2,7 +2,7 @@
 use Rattle.std.specs.Prelude.{◌≡◌, ℕ, false, List}
 use Rattle.std.specs.Borrow.{Bor}
 use Rattle.jiter_steps.specs.Tree.{Text}
-use Rattle.jiter_steps.specs.StringReading.{over, portion_at, body_at}
+use Rattle.jiter_steps.specs.StringReading.{over, event_at, body_at}
 
 -- bytes that stand in the source
 abbrev pub raw_view : Bor (List ℕ) → Text
@@ -10,4 +10,4 @@ raw_view s = record { owned = false; bytes = s.now }
 
 -- The content that begins at i is over at j: how it ends is what stands there.
 abbrev pub EndsAt : List ℕ → ℕ → ℕ → Type 0
-EndsAt t i j = portion_at t j ≡ over (body_at t i).stop
+EndsAt t i j = event_at t j ≡ over (body_at t i).stop

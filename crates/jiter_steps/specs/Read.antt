@@ -30,7 +30,7 @@ pub record Rules (K A : Type 0) : Type 0 where
   pub array : ℕ → ℕ → List A → A
   pub object : ℕ → ℕ → List (K × A) → A
 
--- A container: what may stand behind its bracket, what behind a part, a part at a place, the fault there that the parts
+-- A container: what may stand after its bracket, what after a part, a part at a place, the fault there that the parts
 -- before it make, and what is built of the parts.
 pub record Container (P A : Type 0) : Type 0 where
   pub first : ℕ → Option ℕ → Step
@@ -49,20 +49,20 @@ abbrev pub with_key : {K A : Type 0} → K → Reading A → Reading (K × A)
 with_key k (done a e) = done (k, a) e
 with_key k (fault kind i stop) = fault kind i stop
 
-abbrev pub behind_colon : {K A : Type 0} → K → (ℕ → Reading A) → Extent → Reading (K × A)
-behind_colon k inner (taken u j) = with_key k (inner j)
-behind_colon k inner (failed kind j) = fault kind j j
+abbrev pub after_colon : {K A : Type 0} → K → (ℕ → Reading A) → Extent → Reading (K × A)
+after_colon k inner (taken u j) = with_key k (inner j)
+after_colon k inner (failed kind j) = fault kind j j
 
-abbrev pub behind_key : {K A : Type 0} → (ℕ → Reading A) → List ℕ → ℕ → Scanned K → Reading (K × A)
-behind_key inner t i (taken k e) = behind_colon k inner (object_colon t e)
-behind_key inner t i (failed kind j) = fault kind j i
+abbrev pub after_key : {K A : Type 0} → (ℕ → Reading A) → List ℕ → ℕ → Scanned K → Reading (K × A)
+after_key inner t i (taken k e) = after_colon k inner (object_colon t e)
+after_key inner t i (failed kind j) = fault kind j i
 
 -- a part, unless those before it refuse it: it is not looked at then
 abbrev pub unless_refused : {P : Type 0} → Option (Kind × ℕ) → Reading P → Reading P
 unless_refused None x = x
 unless_refused (Some f) x = fault f.0 f.1 f.1
 
--- behind a whole text's value nothing may stand
+-- after a whole text's value nothing may stand
 abbrev pub if_last : {A : Type 0} → A → ℕ → ℕ → Option ℕ → Reading A
 if_last a e j None = done a e
 if_last a e j (Some c) = fault trailing_characters j j
@@ -83,18 +83,18 @@ module _ {K A : Type 0} where
   follow r next close (stuck k j) = if_forgiven r close k j j
 
   module _ {P : Type 0} where
-    -- behind a part
-    abbrev pub behind_part : Rules K A → Container P A → List ℕ → (List P → ℕ → Reading A) → List P → Reading P
+    -- after a part
+    abbrev pub after_part : Rules K A → Container P A → List ℕ → (List P → ℕ → Reading A) → List P → Reading P
         → Reading A
-    behind_part r c t go parts (done p e) =
+    after_part r c t go parts (done p e) =
         follow r (go (parts ++ p ∷ [])) (λ e. c.build e (parts ++ p ∷ [])) (step t c.next e)
-    behind_part r c t go parts (fault k i stop) = if_forgiven r (λ e. c.build e parts) k i stop
+    after_part r c t go parts (fault k i stop) = if_forgiven r (λ e. c.build e parts) k i stop
 
-    -- The parts from i on, behind those so far. The number bounds the rounds; the text's length is always enough.
+    -- The parts from i on, after those so far. The number bounds the rounds; the text's length is always enough.
     unfoldable pub parts_at : Rules K A → Container P A → List ℕ → ℕ → List P → ℕ → Reading A
     parts_at r c t zero parts i = fault eof_value i i
     parts_at r c t (suc n) parts i =
-        behind_part r c t (λ more_parts j. parts_at r c t n more_parts j) parts
+        after_part r c t (λ more_parts j. parts_at r c t n more_parts j) parts
         (unless_refused (c.refuses parts i) (c.part i))
 
     -- the container whose bracket is at i
@@ -117,7 +117,7 @@ module _ {K A : Type 0} where
       record {
         first = object_first;
         next = object_step t;
-        part = λ j. behind_key inner t j (r.key t j);
+        part = λ j. after_key inner t j (r.key t j);
         refuses = λ members j. r.refuses members t j;
         build = r.object i;
       }
@@ -145,9 +145,9 @@ module _ {K A : Type 0} where
   if_begun r t i (Some c) = value_at r t nesting_limit i
 
   -- the text's value, whatever follows it
-  unfoldable pub front_answer : Rules K A → List ℕ → Reading A
-  front_answer r t = if_begun r t (past_blanks t 0) (slice_get t (past_blanks t 0))
+  unfoldable pub prefix_answer : Rules K A → List ℕ → Reading A
+  prefix_answer r t = if_begun r t (past_blanks t 0) (slice_get t (past_blanks t 0))
 
   -- the text's value, with nothing but blanks round it
   unfoldable pub whole_answer : Rules K A → List ℕ → Reading A
-  whole_answer r t = to_end t (front_answer r t)
+  whole_answer r t = to_end t (prefix_answer r t)

@@ -6,54 +6,54 @@ use Rattle.jiter_scan.specs.declared.errors.Fault.{Fault}
 use Rattle.jiter_steps.specs.Answer.{seen_as, only_ends}
 use Rattle.jiter_steps.specs.Frames.{Frame, items_frame, members_frame, resume, value_from}
 use Rattle.jiter_steps.specs.Node.{nesting_limit}
-use Rattle.jiter_steps.specs.Read.{Reading, done, fault, behind_key, value_at}
+use Rattle.jiter_steps.specs.Read.{Reading, done, fault, after_key, value_at}
 use Rattle.jiter_steps.specs.Step.{Step, more, closed, stuck, step, container_first, container_step}
 use Rattle.jiter_steps.specs.StringReading.{raw, string_at}
-use Rattle.jiter_steps.specs.declared.parse.Shape.{Shape}
-use Rattle.jiter_steps.specs.declared.parse.Shape.TheVariants as shape
+use Rattle.jiter_steps.specs.declared.parse.ContainerKind.{ContainerKind}
+use Rattle.jiter_steps.specs.declared.parse.ContainerKind.TheVariants as shape
 
 -- a key and its colon, up to where its value begins
 abbrev pub key_end : List ℕ → ℕ → Reading (Unit {0} × Unit {0})
-key_end t i = behind_key (λ j. done tt j) t i (seen_as (λ s e. tt) (string_at raw t i))
+key_end t i = after_key (λ j. done tt j) t i (seen_as (λ s e. tt) (string_at raw t i))
 
--- behind a key and its colon a value begins
+-- after a key and its colon a value begins
 abbrev pub awaits_value : Reading (Unit {0} × Unit {0}) → Reading Bool
 awaits_value (done u j) = done true j
 awaits_value (fault k i stop) = fault k i stop
 
--- where a part begins at j: its value, behind a key and its colon in an object
-abbrev pub value_inside : Shape → List ℕ → ℕ → Reading Bool
+-- where a part begins at j: its value, after a key and its colon in an object
+abbrev pub value_inside : ContainerKind → List ℕ → ℕ → Reading Bool
 value_inside shape.Array t j = done true j
 value_inside shape.Object t j = awaits_value (key_end t j)
 
 -- whether a value begins at the place that is read, where a step leads on; else the container has ended there
-abbrev pub inside : Shape → List ℕ → Step → Reading Bool
+abbrev pub inside : ContainerKind → List ℕ → Step → Reading Bool
 inside b t (more j) = value_inside b t j
 inside b t (closed e) = done false e
 inside b t (stuck k j) = fault k j j
 
 -- from a container's bracket at i to the first value inside
-abbrev pub first_inside : Shape → List ℕ → ℕ → Reading Bool
+abbrev pub first_inside : ContainerKind → List ℕ → ℕ → Reading Bool
 first_inside b t i = inside b t (step t (container_first b) (i + 1))
 
 -- from the end of one value inside to the next one
-abbrev pub next_inside : Shape → List ℕ → ℕ → Reading Bool
+abbrev pub next_inside : ContainerKind → List ℕ → ℕ → Reading Bool
 next_inside b t e = inside b t (step t (container_step b t) e)
 
 -- An open container. Nothing is kept of its parts.
-abbrev pub frame_of : Shape → Frame (Unit {0}) (Unit {0})
+abbrev pub frame_of : ContainerKind → Frame (Unit {0}) (Unit {0})
 frame_of shape.Array = items_frame []
 frame_of shape.Object = members_frame [] tt
 
 -- what an open container is, by whether it is an object
-abbrev pub shape_of : Bool → Shape
-shape_of false = shape.Array
-shape_of true = shape.Object
+abbrev pub kind_of_container : Bool → ContainerKind
+kind_of_container false = shape.Array
+kind_of_container true = shape.Object
 
 -- So many open containers, the innermost first. The table says of each, the outermost first, whether it is an object.
 abbrev pub open_frames : List Bool → ℕ → List (Frame (Unit {0}) (Unit {0}))
 open_frames objects zero = []
-open_frames objects (suc n) = frame_of (shape_of (slice_index_or objects n false)) ∷ open_frames objects n
+open_frames objects (suc n) = frame_of (kind_of_container (slice_index_or objects n false)) ∷ open_frames objects n
 
 -- What was returned, and the place i then, lead on to the reading x inside these open containers: a value is awaited
 -- at i, or one has ended there.
@@ -67,9 +67,9 @@ Continues names t fs (Err f) i x = x ≡ fault (fault_kind f.kind) f.index i
 abbrev pub IsPlainEnd : List ℕ → ℕ → ℕ → Type 0
 IsPlainEnd t i e = (names : Bool) → (levels : ℕ) → value_at (only_ends names) t levels i ≡ done tt e
 
--- Behind a part that ends at i, in a container of this shape that stands in any others: a value is awaited at j, or one
+-- After a part that ends at i, in a container of this shape that stands in any others: a value is awaited at j, or one
 -- has ended there.
-abbrev pub LeadsBehind : Shape → List ℕ → ℕ → Bool → ℕ → Type 0
-LeadsBehind b t i awaited j =
+abbrev pub LeadsAfter : ContainerKind → List ℕ → ℕ → Bool → ℕ → Type 0
+LeadsAfter b t i awaited j =
     (names : Bool) → (fs : List (Frame (Unit {0}) (Unit {0}))) → length fs < nesting_limit
     → Continues names t (frame_of b ∷ fs) (Ok awaited) j (resume (only_ends names) t (frame_of b ∷ fs) (done tt i))

@@ -9,15 +9,15 @@ use Rattle.jiter_scan.specs.Ascii as ascii
 use Rattle.jiter_scan.specs.Kind.{fault_kind}
 use Rattle.jiter_scan.specs.Scan.{scan_stop}
 use Rattle.jiter_steps.specs.Tree.{Text}
-use Rattle.jiter_steps.specs.StringReading.{HexDigits, number, bad, few, Portion, part, over, Stop, closed, unclosed}
+use Rattle.jiter_steps.specs.StringReading.{HexDigits, number, bad, few, Event, part, over, Stop, closed, unclosed}
 use Rattle.jiter_steps.specs.StringReading.{cut}
 use Rattle.jiter_steps.specs.StringReading.{wrong}
 use Rattle.jiter_steps.specs.declared.escape.Hex.{Hex}
 use Rattle.jiter_steps.specs.declared.escape.Hex.TheVariants as hex
-use Rattle.jiter_steps.specs.declared.escape.AtStop.{AtStop}
-use Rattle.jiter_steps.specs.declared.escape.AtStop.TheVariants as at_stop
-use Rattle.jiter_steps.specs.declared.escape.Ending.{Ending}
-use Rattle.jiter_steps.specs.declared.escape.Ending.TheVariants as ending
+use Rattle.jiter_steps.specs.declared.escape.StringEvent.{StringEvent}
+use Rattle.jiter_steps.specs.declared.escape.StringEvent.TheVariants as at_stop
+use Rattle.jiter_steps.specs.declared.escape.StringEnd.{StringEnd}
+use Rattle.jiter_steps.specs.declared.escape.StringEnd.TheVariants as ending
 
 -- the text lies in memory of its own
 abbrev pub is_owned : CowStr Global → Bool
@@ -41,17 +41,17 @@ IfNumber (hex.Bad k) P = Unit {0}
 IfNumber (hex.Number u) P = P u
 
 -- how a string ends
-abbrev pub stop_view : Ending → Stop
+abbrev pub stop_view : StringEnd → Stop
 stop_view (ending.Closed e) = closed e
 stop_view ending.Unclosed = unclosed
 stop_view ending.Cut = cut
 stop_view (ending.Wrong f) = wrong (fault_kind f.kind) f.index
 
 -- what stands at a place that is no plain byte's
-abbrev pub portion_view : AtStop → Portion
-portion_view (at_stop.Escape c j) = part (encode_utf8 c) true j
-portion_view (at_stop.End s) = over (stop_view s)
+abbrev pub event_view : StringEvent → Event
+event_view (at_stop.Escape c j) = part (encode_utf8 c) true j
+event_view (at_stop.End s) = over (stop_view s)
 
--- Only a string with a backslash wants memory: the plain bytes behind its quote end at one.
+-- Only a string with a backslash wants memory: the plain bytes after its quote end at one.
 abbrev pub WantsMemory : List ℕ → ℕ → Type 0
 WantsMemory t at = slice_get t (scan_stop t (at + 1)) ≡ Some ascii.backslash

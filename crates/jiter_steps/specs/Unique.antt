@@ -12,7 +12,7 @@ use Rattle.jiter_steps.specs.Answer.{whole_trees, partial_trees}
 use Rattle.jiter_steps.specs.Node.{Node, Nodes, no_nodes, node, NodeMembers, no_members, member, IsDocument}
 use Rattle.jiter_steps.specs.Node as grammar
 use Rattle.jiter_steps.specs.Piece.{text_of}
-use Rattle.jiter_steps.specs.Read.{Reading, Rules, front_answer, whole_answer}
+use Rattle.jiter_steps.specs.Read.{Reading, Rules, prefix_answer, whole_answer}
 use Rattle.jiter_steps.specs.Step.{step, colon}
 use Rattle.jiter_steps.specs.Tree.{Text, Tree}
 
@@ -45,21 +45,21 @@ pub record IsUniqueDocument (names : Bool) (t : List ℕ) (n : Node) : Type 0 wh
 
 -- no document with unique keys begins with these bytes
 abbrev pub BeginsNoUniqueDocument : Bool → List ℕ → Type 0
-BeginsNoUniqueDocument names front = (rest : List ℕ) (n : Node) → IsUniqueDocument names (front ++ rest) n → ⊥
+BeginsNoUniqueDocument names prefix = (rest : List ℕ) (n : Node) → IsUniqueDocument names (prefix ++ rest) n → ⊥
 
 -- these characters are those of one of the keys
 abbrev pub is_among : List ℕ → List (List ℕ) → Bool
 is_among key keys = list_any (bytes_eq key) keys
 
--- the fault of a repeated key stands behind its colon
-abbrev pub behind_its_colon : List ℕ → Extent → Option (Kind × ℕ)
-behind_its_colon key (taken u j) = Some (duplicate_key key, j)
-behind_its_colon key (failed k j) = None
+-- the fault of a repeated key stands after its colon
+abbrev pub after_its_colon : List ℕ → Extent → Option (Kind × ℕ)
+after_its_colon key (taken u j) = Some (duplicate_key key, j)
+after_its_colon key (failed k j) = None
 
--- the fault of a key, behind these
+-- the fault of a key, after these
 abbrev pub repeated_key : {K : Type 0} → (K → List ℕ) → List (List ℕ) → List ℕ → Scanned K → Option (Kind × ℕ)
 repeated_key characters keys t (taken k e) =
-    if is_among (characters k) keys then behind_its_colon (characters k) (step t colon e) else None
+    if is_among (characters k) keys then after_its_colon (characters k) (step t colon e) else None
 repeated_key characters keys t (failed kind j) = None
 
 -- the same rules, and no key twice, where a key is seen with these characters
@@ -86,5 +86,5 @@ unique_answer names t = whole_answer (without_repeats own_bytes (whole_trees nam
 -- What a parse that refuses repeated keys answers in this mode.
 abbrev pub unique_answer_in : Bool → PartialMode → List ℕ → Reading Tree
 unique_answer_in names mode t =
-    if is_active mode then front_answer (without_repeats own_bytes (partial_trees names mode)) t
+    if is_active mode then prefix_answer (without_repeats own_bytes (partial_trees names mode)) t
     else unique_answer names t

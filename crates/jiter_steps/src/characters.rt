@@ -1,7 +1,7 @@
 //! Finds how many of the first bytes are complete characters in UTF-8 (RFC 3629, 3 and 4).
 ghost use Rattle.std.specs.Prelude.{◌≡◌, ◌+◌, ◌≤◌, drop, false, length, take, true};
 ghost use Rattle.std.specs.Str.{IsUtf8};
-ghost use Rattle.jiter_steps.specs.OpenText.{IsBroken, IsUnfinished};
+ghost use Rattle.jiter_steps.specs.PartialText.{IsBroken, IsUnfinished};
 
 use std::str::from_utf8;
 
@@ -10,9 +10,9 @@ const MANY: usize = 64;
 
 // For long runs.
 #[inline(never)]
-fn right_far(bytes: &[u8]) -> (usize, bool)
+fn valid_utf8_end_far(bytes: &[u8]) -> (usize, bool)
     ensures within { result.0 ≤ length bytes.now }
-    ensures front { IsUtf8 (take result.0 bytes.now) }
+    ensures prefix { IsUtf8 (take result.0 bytes.now) }
     ensures open { result.1 ≡ false → IsUnfinished (drop result.0 bytes.now) }
     ensures wrong { result.1 ≡ true → IsBroken (drop result.0 bytes.now) }
     ensures few { result.1 ≡ false → length bytes.now ≤ result.0 + 3 }
@@ -25,15 +25,15 @@ fn right_far(bytes: &[u8]) -> (usize, bool)
 
 // Returns how many of the first bytes are complete characters, and whether the bytes after them are wrong. If not, they
 // are an incomplete character, or none.
-pub(crate) fn right_end(bytes: &[u8]) -> (usize, bool)
+pub(crate) fn valid_utf8_end(bytes: &[u8]) -> (usize, bool)
     ensures within { result.0 ≤ length bytes.now }
-    ensures front { IsUtf8 (take result.0 bytes.now) }
+    ensures prefix { IsUtf8 (take result.0 bytes.now) }
     ensures open { result.1 ≡ false → IsUnfinished (drop result.0 bytes.now) }
     ensures wrong { result.1 ≡ true → IsBroken (drop result.0 bytes.now) }
     ensures few { result.1 ≡ false → length bytes.now ≤ result.0 + 3 }
 {
     if bytes.len() >= MANY {
-        return right_far(bytes);
+        return valid_utf8_end_far(bytes);
     }
     match from_utf8(bytes) {
         Ok(_) => (bytes.len(), false),

@@ -4,11 +4,11 @@ ghost use Rattle.std.specs.Prelude.{IfSome, Some, None};
 ghost use Rattle.std.specs.Char.{digit_value, encode_utf8};
 ghost use Rattle.jiter_scan.specs.Scan.{is_stop};
 ghost use Rattle.jiter_steps.specs.Escape.{short_escape, is_hex, is_high, is_low};
-ghost use Rattle.jiter_steps.specs.StringReading.{number, part, hex_digits_at, portion_at, unit_then, behind_backslash};
-ghost use Rattle.jiter_steps.specs.StringReading.{unicode_escape, behind_high, behind_high_backslash, surrogate_pair};
-ghost use Rattle.jiter_steps.specs.StringDecoder.{digits_view, IfNumber, portion_view};
-ghost use Rattle.jiter_steps.specs.declared.escape.AtStop.TheVariants as at_stop;
-ghost use Rattle.jiter_steps.specs.declared.escape.Ending.TheVariants as ending;
+ghost use Rattle.jiter_steps.specs.StringReading.{number, part, hex_digits_at, event_at, unit_then, after_backslash};
+ghost use Rattle.jiter_steps.specs.StringReading.{unicode_escape, after_high, after_high_backslash, surrogate_pair};
+ghost use Rattle.jiter_steps.specs.StringDecoder.{digits_view, IfNumber, event_view};
+ghost use Rattle.jiter_steps.specs.declared.escape.StringEvent.TheVariants as at_stop;
+ghost use Rattle.jiter_steps.specs.declared.escape.StringEnd.TheVariants as ending;
 
 use jiter_scan::errors::{Fault, FaultKind, fault_at};
 use jiter_scan::word::byte_at;
@@ -24,7 +24,7 @@ enum Hex {
 
 // How a string ends: after its quote, at the end of the input (`Cut` if inside an escape), or with an error.
 #[derive(Clone, Copy, Debug)]
-pub(crate) enum Ending {
+pub(crate) enum StringEnd {
     Closed(usize),
     Unclosed,
     Cut,
@@ -33,9 +33,9 @@ pub(crate) enum Ending {
 
 // What ends a run of plain bytes: an escape, with its character and the index after it, or the end of the string.
 #[derive(Clone, Copy, Debug)]
-pub(crate) enum AtStop {
+pub(crate) enum StringEvent {
     Escape(char, usize),
-    End(Ending),
+    End(StringEnd),
 }
 
 fn digit(byte: u8) -> Option<u32>
@@ -52,7 +52,7 @@ fn digit(byte: u8) -> Option<u32>
 
 // For each byte, the character that it means after a backslash, or 0 if that is no short escape (RFC 8259, 7). `\u` is
 // not a short escape.
-static SIGNS: [u8; 256] = [
+static SIMPLE_ESCAPES: [u8; 256] = [
     0, 0, 0, 0, 0, 0, 0, 0, 0, 0, 0, 0, 0, 0, 0, 0, 0, 0, 0, 0, 0, 0, 0, 0, 0, 0, 0, 0, 0, 0, 0, 0,
     0, 0, 34, 0, 0, 0, 0, 0, 0, 0, 0, 0, 0, 0, 0, 47, 0, 0, 0, 0, 0, 0, 0, 0, 0, 0, 0, 0, 0, 0, 0,
     0, 0, 0, 0, 0, 0, 0, 0, 0, 0, 0, 0, 0, 0, 0, 0, 0, 0, 0, 0, 0, 0, 0, 0, 0, 0, 0, 0, 0, 92, 0,
@@ -65,12 +65,12 @@ static SIGNS: [u8; 256] = [
 ];
 
 #[inline(always)]
-fn sign_of(letter: u8) -> u8
+fn simple_escape_of(letter: u8) -> u8
     ensures some { result ≢ 0 → short_escape letter ≡ Some result }
     ensures none { result ≡ 0 → short_escape letter ≡ None }
     ensures ascii { result < 128 }
 {
-    SIGNS[letter as usize]
+    SIMPLE_ESCAPES[letter as usize]
 }
 
 #[inline(always)]
@@ -78,7 +78,7 @@ fn short_escape(letter: u8) -> Option<u8>
     ensures value { result ≡ short_escape letter }
     ensures ascii { IfSome result (λ c. c < 128) }
 {
-    match sign_of(letter) {
+    match simple_escape_of(letter) {
         0 => None,
         sign => Some(sign),
     }
@@ -120,111 +120,111 @@ fn hex_at(bytes: &[u8], at: usize) -> Hex
     Hex::Number(a * 4096 + b * 256 + c * 16 + d)
 }
 
-fn wrong(kind: FaultKind, index: usize) -> AtStop
+fn wrong(kind: FaultKind, index: usize) -> StringEvent
     ensures { result ≡ at_stop.End (ending.Wrong (record { kind = kind; index = index })) }
 {
-    AtStop::End(Ending::Wrong(Fault { kind, index }))
+    StringEvent::End(StringEnd::Wrong(Fault { kind, index }))
 }
 
 // `high` was read; the digits of the second escape begin at `at`.
-fn low_surrogate(bytes: &[u8], high: u32, at: usize) -> AtStop
+fn low_surrogate(bytes: &[u8], high: u32, at: usize) -> StringEvent
     requires high { is_high high ≡ true }
     requires within { at ≤ length bytes.now }
-    ensures value { portion_view result ≡ unit_then bytes.now at (surrogate_pair high) }
+    ensures value { event_view result ≡ unit_then bytes.now at (surrogate_pair high) }
 {
     match hex_at(bytes, at) {
-        Hex::Short => AtStop::End(Ending::Cut),
+        Hex::Short => StringEvent::End(StringEnd::Cut),
         Hex::Bad(index) => wrong(FaultKind::InvalidEscape, index),
         Hex::Number(low) => {
             if !is_low(low) {
                 return wrong(FaultKind::LoneLeadingSurrogateInHexEscape, at + 3);
             }
             match char::from_u32(0x10000 + (high - 0xd800) * 0x400 + (low - 0xdc00)) {
-                Some(c) => AtStop::Escape(c, at + 4),
+                Some(c) => StringEvent::Escape(c, at + 4),
                 None => unreachable!(),
             }
         }
     }
 }
 
-fn behind_high_backslash(bytes: &[u8], high: u32, at: usize) -> AtStop
+fn after_high_backslash(bytes: &[u8], high: u32, at: usize) -> StringEvent
     requires high { is_high high ≡ true }
-    ensures value { portion_view result ≡ behind_high_backslash bytes.now high at (slice_get bytes.now at) }
+    ensures value { event_view result ≡ after_high_backslash bytes.now high at (slice_get bytes.now at) }
 {
     match byte_at(bytes, at) {
-        None => AtStop::End(Ending::Cut),
+        None => StringEvent::End(StringEnd::Cut),
         Some(b'u') => low_surrogate(bytes, high, at + 1),
         Some(_) => wrong(FaultKind::UnexpectedEndOfHexEscape, at),
     }
 }
 
-fn behind_high(bytes: &[u8], high: u32, at: usize) -> AtStop
+fn after_high(bytes: &[u8], high: u32, at: usize) -> StringEvent
     requires high { is_high high ≡ true }
-    ensures value { portion_view result ≡ behind_high bytes.now high at (slice_get bytes.now at) }
+    ensures value { event_view result ≡ after_high bytes.now high at (slice_get bytes.now at) }
 {
     match byte_at(bytes, at) {
-        None => AtStop::End(Ending::Cut),
-        Some(b'\\') => behind_high_backslash(bytes, high, at + 1),
+        None => StringEvent::End(StringEnd::Cut),
+        Some(b'\\') => after_high_backslash(bytes, high, at + 1),
         Some(_) => wrong(FaultKind::UnexpectedEndOfHexEscape, at),
     }
 }
 
 // The backslash and the `u` are before `at`.
-fn unicode_escape(bytes: &[u8], at: usize) -> AtStop
+fn unicode_escape(bytes: &[u8], at: usize) -> StringEvent
     requires within { at ≤ length bytes.now }
-    ensures value { portion_view result ≡ unit_then bytes.now at (unicode_escape bytes.now) }
+    ensures value { event_view result ≡ unit_then bytes.now at (unicode_escape bytes.now) }
 {
     match hex_at(bytes, at) {
-        Hex::Short => AtStop::End(Ending::Cut),
+        Hex::Short => StringEvent::End(StringEnd::Cut),
         Hex::Bad(index) => wrong(FaultKind::InvalidEscape, index),
         Hex::Number(unit) => {
             if is_high(unit) {
-                return behind_high(bytes, unit, at + 4);
+                return after_high(bytes, unit, at + 4);
             }
             if is_low(unit) {
                 return wrong(FaultKind::LoneLeadingSurrogateInHexEscape, at + 3);
             }
             match char::from_u32(unit) {
-                Some(c) => AtStop::Escape(c, at + 4),
+                Some(c) => StringEvent::Escape(c, at + 4),
                 None => unreachable!(),
             }
         }
     }
 }
 
-fn behind_backslash(bytes: &[u8], at: usize) -> AtStop
-    ensures value { portion_view result ≡ behind_backslash bytes.now at (slice_get bytes.now at) }
+fn after_backslash(bytes: &[u8], at: usize) -> StringEvent
+    ensures value { event_view result ≡ after_backslash bytes.now at (slice_get bytes.now at) }
 {
     match byte_at(bytes, at) {
-        None => AtStop::End(Ending::Cut),
+        None => StringEvent::End(StringEnd::Cut),
         Some(b'u') => unicode_escape(bytes, at + 1),
         Some(letter) => match short_escape(letter) {
-            Some(c) => AtStop::Escape(c as char, at + 1),
+            Some(c) => StringEvent::Escape(c as char, at + 1),
             None => wrong(FaultKind::InvalidEscape, at),
         },
     }
 }
 
 // The general case. Errors are found here.
-#[tactic(auto, unfolding(crate::specs::StringReading::portion_at))]
-pub(crate) fn portion_at(bytes: &[u8], at: usize) -> AtStop
+#[tactic(auto, unfolding(crate::specs::StringReading::event_at))]
+pub(crate) fn event_at(bytes: &[u8], at: usize) -> StringEvent
     requires { IfSome (slice_get bytes.now at) (λ b. is_stop b ≡ true) }
-    ensures { portion_view result ≡ portion_at bytes.now at }
+    ensures { event_view result ≡ event_at bytes.now at }
 {
     match byte_at(bytes, at) {
-        None => AtStop::End(Ending::Unclosed),
-        Some(b'"') => AtStop::End(Ending::Closed(at + 1)),
-        Some(b'\\') => behind_backslash(bytes, at + 1),
+        None => StringEvent::End(StringEnd::Unclosed),
+        Some(b'"') => StringEvent::End(StringEnd::Closed(at + 1)),
+        Some(b'\\') => after_backslash(bytes, at + 1),
         Some(_) => wrong(FaultKind::ControlCharacterWhileParsingString, at),
     }
 }
 
 // The fast path, with at least six bytes left: a short escape, or `\u` with four digits that are no surrogate.
 #[inline(always)]
-#[tactic(auto, unfolding(crate::specs::StringReading::portion_at))]
+#[tactic(auto, unfolding(crate::specs::StringReading::event_at))]
 fn escape_at(bytes: &[u8], at: usize) -> Option<(char, usize)>
     requires { at ≤ length bytes.now }
-    ensures { IfSome result (λ r. part (encode_utf8 r.0) true r.1 ≡ portion_at bytes.now at) }
+    ensures { IfSome result (λ r. part (encode_utf8 r.0) true r.1 ≡ event_at bytes.now at) }
 {
     if bytes.len() - at < 6 || bytes[at] != b'\\' {
         return None;
@@ -243,30 +243,30 @@ fn escape_at(bytes: &[u8], at: usize) -> Option<(char, usize)>
 
 // The closing quote and most escapes are found first.
 #[inline(always)]
-#[tactic(auto, unfolding(crate::specs::StringReading::portion_at))]
-pub(crate) fn next_portion(bytes: &[u8], at: usize) -> AtStop
+#[tactic(auto, unfolding(crate::specs::StringReading::event_at))]
+pub(crate) fn next_event(bytes: &[u8], at: usize) -> StringEvent
     requires within { at ≤ length bytes.now }
     requires stop { IfSome (slice_get bytes.now at) (λ b. is_stop b ≡ true) }
-    ensures { portion_view result ≡ portion_at bytes.now at }
+    ensures { event_view result ≡ event_at bytes.now at }
 {
     if at < bytes.len() && bytes[at] == b'"' {
-        return AtStop::End(Ending::Closed(at + 1));
+        return StringEvent::End(StringEnd::Closed(at + 1));
     }
     match escape_at(bytes, at) {
-        Some((c, end)) => AtStop::Escape(c, end),
-        None => portion_at(bytes, at),
+        Some((c, end)) => StringEvent::Escape(c, end),
+        None => event_at(bytes, at),
     }
 }
 
 #[inline(always)]
-pub(crate) fn sign_at(bytes: &[u8], at: usize) -> u8
+pub(crate) fn simple_escape_at(bytes: &[u8], at: usize) -> u8
     requires { at ≤ length bytes.now }
     ensures value { result ≢ 0
-        → part (encode_utf8 result) true (at + 2) ≡ portion_at bytes.now at }
+        → part (encode_utf8 result) true (at + 2) ≡ event_at bytes.now at }
     ensures ascii { result < 128 }
 {
     if bytes.len() - at < 2 || bytes[at] != b'\\' {
         return 0;
     }
-    sign_of(bytes[at + 1])
+    simple_escape_of(bytes[at + 1])
 }

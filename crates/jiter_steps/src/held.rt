@@ -8,12 +8,12 @@ use std::marker::Model;
 const LIMIT: usize = 20;
 
 #[derive(Drop)]
-pub(crate) struct Held {
+pub(crate) struct PendingBytes {
     bytes: [u8; LIMIT],
     count: usize,
 }
 
-impl Model for Held {
+impl Model for PendingBytes {
     ghost use Rattle.std.specs.Prelude.{◌≤◌, List, ℕ, take};
 
     ghost Value = { List ℕ };
@@ -23,11 +23,11 @@ impl Model for Held {
     ghost invariant = { λ h. h.count ≤ 20 };
 }
 
-impl Held {
-    pub(crate) fn new() -> Held
+impl PendingBytes {
+    pub(crate) fn new() -> PendingBytes
         ensures { result ≡ [] }
     {
-        Held {
+        PendingBytes {
             bytes: [0; LIMIT],
             count: 0,
         }
@@ -40,13 +40,13 @@ impl Held {
         &self.bytes[..self.count]
     }
 
-    pub(crate) fn with(&self, more: &[u8]) -> Held
+    pub(crate) fn with(&self, more: &[u8]) -> PendingBytes
         requires { length self.now + length more.now ≤ 20 }
         ensures { result ≡ self.now ++ more.now }
     {
         let mut bytes = self.bytes;
         let count = self.count + more.len();
         bytes[self.count..count].copy_from_slice(more);
-        Held { bytes, count }
+        PendingBytes { bytes, count }
     }
 }

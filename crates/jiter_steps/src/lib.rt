@@ -5,13 +5,13 @@
 pub mod blank;
 mod characters;
 mod escape;
+mod fast_skip;
 mod held;
-pub mod open_escape;
-pub mod open_string;
-pub mod open_text;
 pub mod parse;
+pub mod partial_escape;
+pub mod partial_string;
+pub mod partial_text;
 pub mod plain;
-mod plain_skip;
 pub mod raw_string;
 pub mod read_error;
 pub mod skip;

@@ -87,22 +87,22 @@ pub fn literal_end(bytes: &[u8], from: usize, literal: Literal) -> Result<usize,
 
 /// The kind of an open container. Its methods have all that differs between the steps of arrays and of objects.
 #[derive(Clone, Copy, Debug, PartialEq, Eq)]
-pub enum Shape {
+pub enum ContainerKind {
     /// An array.
     Array,
     /// An object.
     Object,
 }
 
-impl Shape {
+impl ContainerKind {
     /// Returns the closing bracket.
     #[inline(always)]
     pub fn closer(self) -> u8
         ensures { result ≡ closer_of self }
     {
         match self {
-            Shape::Array => b']',
-            Shape::Object => b'}',
+            ContainerKind::Array => b']',
+            ContainerKind::Object => b'}',
         }
     }
 
@@ -112,8 +112,8 @@ impl Shape {
         ensures { result ≡ begins_part self byte }
     {
         match self {
-            Shape::Array => byte != b']',
-            Shape::Object => byte == b'"',
+            ContainerKind::Array => byte != b']',
+            ContainerKind::Object => byte == b'"',
         }
     }
 
@@ -123,8 +123,8 @@ impl Shape {
         ensures { fault_kind result ≡ end_kind_of self }
     {
         match self {
-            Shape::Array => FaultKind::EofWhileParsingList,
-            Shape::Object => FaultKind::EofWhileParsingObject,
+            ContainerKind::Array => FaultKind::EofWhileParsingList,
+            ContainerKind::Object => FaultKind::EofWhileParsingObject,
         }
     }
 
@@ -134,8 +134,8 @@ impl Shape {
         ensures { fault_kind result ≡ comma_kind_of self }
     {
         match self {
-            Shape::Array => FaultKind::ExpectedListCommaOrEnd,
-            Shape::Object => FaultKind::ExpectedObjectCommaOrEnd,
+            ContainerKind::Array => FaultKind::ExpectedListCommaOrEnd,
+            ContainerKind::Object => FaultKind::ExpectedObjectCommaOrEnd,
         }
     }
 }
@@ -186,7 +186,7 @@ impl<'j> Parser<'j> {
     /// Passes the opening bracket at the reader's position, and returns whether a part follows (RFC 8259, 4 and 5). The
     /// reader is then at the part, or after the closing bracket. After an error it is at the error's index.
     #[inline(always)]
-    pub fn first(&mut self, shape: Shape) -> Result<bool, Fault>
+    pub fn first(&mut self, shape: ContainerKind) -> Result<bool, Fault>
         requires { self.old.index < length self.old.bytes.now }
         ensures moves { Moves self.old self.new }
         ensures value { Steps result self.new.index
@@ -214,7 +214,7 @@ impl<'j> Parser<'j> {
     /// Returns whether another part follows the one before the reader's position (RFC 8259, 4 and 5). The reader is
     /// then at the part, or after the closing bracket. After an error it is at the error's index.
     #[inline(always)]
-    pub fn step(&mut self, shape: Shape) -> Result<bool, Fault>
+    pub fn step(&mut self, shape: ContainerKind) -> Result<bool, Fault>
         ensures moves { Moves self.old self.new }
         ensures value { Steps result self.new.index
             (step self.old.bytes.now (container_step shape self.old.bytes.now) self.old.index) }
@@ -238,7 +238,7 @@ impl<'j> Parser<'j> {
     }
 
     #[inline(always)]
-    fn comma(&mut self, shape: Shape) -> Result<bool, Fault>
+    fn comma(&mut self, shape: ContainerKind) -> Result<bool, Fault>
         ensures moves { Moves self.old self.new }
         ensures value { Steps result self.new.index
             (step self.old.bytes.now (container_comma shape) self.old.index) }

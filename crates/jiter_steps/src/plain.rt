@@ -13,7 +13,7 @@ ghost use Rattle.jiter_steps.specs.Step.{step, container_first, container_comma,
 ghost use Rattle.jiter_steps.specs.StringReading.{string_at, text_form, between};
 
 use crate::blank::blanks_end;
-use crate::parse::{Literal, Shape};
+use crate::parse::{ContainerKind, Literal};
 use jiter_scan::short_scan::ascii_quote;
 use jiter_scan::text::ascii_text;
 use jiter_scan::word::byte_at;
@@ -50,7 +50,7 @@ pub fn peek(bytes: &[u8], from: usize) -> (usize, Option<u8>)
 
 /// Finds the first part of a container, or its end (RFC 8259, 4 and 5). `from` is after the opening bracket.
 #[inline(always)]
-pub fn plain_first(bytes: &[u8], from: usize, shape: Shape) -> (usize, Next)
+pub fn fast_first(bytes: &[u8], from: usize, shape: ContainerKind) -> (usize, Next)
     requires { from ≤ length bytes.now }
     ensures next { IsNext result.0 result.1 (step bytes.now (container_first shape) from) }
     ensures within { (from ≤ result.0) × (result.0 ≤ length bytes.now) }
@@ -72,7 +72,7 @@ pub fn plain_first(bytes: &[u8], from: usize, shape: Shape) -> (usize, Next)
 }
 
 #[inline(always)]
-fn plain_comma(bytes: &[u8], from: usize, shape: Shape) -> (usize, Next)
+fn fast_comma(bytes: &[u8], from: usize, shape: ContainerKind) -> (usize, Next)
     requires { from ≤ length bytes.now }
     ensures next { IsNext result.0 result.1 (step bytes.now (container_comma shape) from) }
     ensures within { (from ≤ result.0) × (result.0 ≤ length bytes.now) }
@@ -93,7 +93,7 @@ fn plain_comma(bytes: &[u8], from: usize, shape: Shape) -> (usize, Next)
 
 // `shape` is a constant where this is inlined.
 #[inline(always)]
-fn known_plain_step(bytes: &[u8], from: usize, shape: Shape) -> (usize, Next)
+fn known_fast_step(bytes: &[u8], from: usize, shape: ContainerKind) -> (usize, Next)
     requires { from ≤ length bytes.now }
     ensures next { IsNext result.0 result.1 (step bytes.now (container_step shape bytes.now) from) }
     ensures within { (from ≤ result.0) × (result.0 ≤ length bytes.now) }
@@ -104,7 +104,7 @@ fn known_plain_step(bytes: &[u8], from: usize, shape: Shape) -> (usize, Next)
         None => (at, Next::Stuck),
         Some(byte) => {
             if byte == b',' {
-                plain_comma(bytes, at + 1, shape)
+                fast_comma(bytes, at + 1, shape)
             } else if byte == shape.closer() {
                 (at + 1, Next::End)
             } else {
@@ -116,21 +116,21 @@ fn known_plain_step(bytes: &[u8], from: usize, shape: Shape) -> (usize, Next)
 
 /// Finds the next part of a container, or its end (RFC 8259, 4 and 5). `from` is after a part.
 #[inline(always)]
-pub fn plain_step(bytes: &[u8], from: usize, shape: Shape) -> (usize, Next)
+pub fn fast_step(bytes: &[u8], from: usize, shape: ContainerKind) -> (usize, Next)
     requires { from ≤ length bytes.now }
     ensures next { IsNext result.0 result.1 (step bytes.now (container_step shape bytes.now) from) }
     ensures within { (from ≤ result.0) × (result.0 ≤ length bytes.now) }
     ensures part { result.1 ≡ Next.Part → result.0 < length bytes.now }
 {
     match shape {
-        Shape::Array => known_plain_step(bytes, from, Shape::Array),
-        Shape::Object => known_plain_step(bytes, from, Shape::Object),
+        ContainerKind::Array => known_fast_step(bytes, from, ContainerKind::Array),
+        ContainerKind::Object => known_fast_step(bytes, from, ContainerKind::Object),
     }
 }
 
 /// Returns the index of a member's value, if a colon and another byte follow (RFC 8259, 4). `from` is after the key.
 #[inline(always)]
-pub fn plain_colon(bytes: &[u8], from: usize) -> Option<usize>
+pub fn fast_colon(bytes: &[u8], from: usize) -> Option<usize>
     requires { from ≤ length bytes.now }
     ensures value { IfSome result (λ j. object_colon bytes.now from ≡ taken tt j) }
     ensures within { IfSome result (λ j. (from ≤ j) × (j < length bytes.now)) }
@@ -154,7 +154,7 @@ pub fn plain_colon(bytes: &[u8], from: usize) -> Option<usize>
 /// Returns the index of the closing quote of the string at `at` (RFC 8259, 7). All bytes between the quotes must be
 /// plain and below 80 hex; otherwise returns `None`.
 #[inline(always)]
-pub fn plain_text_end(bytes: &[u8], at: usize) -> Option<usize>
+pub fn fast_string_end(bytes: &[u8], at: usize) -> Option<usize>
     requires { at < length bytes.now }
     ensures value { IfSome result (λ to. (keep : Bool)
         → string_at (text_form keep) bytes.now at ≡ taken (between bytes.now (at + 1) to) (to + 1)) }
@@ -207,7 +207,7 @@ fn has_four(bytes: &[u8], at: usize, a: u8, b: u8, c: u8, d: u8) -> bool
 
 /// Returns the index after the literal at `at`, if it is there and at least five bytes are left (RFC 8259, 3).
 #[inline(always)]
-pub fn plain_literal_end(bytes: &[u8], at: usize, literal: Literal) -> Option<usize>
+pub fn fast_literal_end(bytes: &[u8], at: usize, literal: Literal) -> Option<usize>
     requires { at < length bytes.now }
     ensures value { IfSome result (λ e. literal_at bytes.now literal at ≡ taken tt e) }
     ensures within { IfSome result (λ e. (at < e) × (e ≤ length bytes.now)) }

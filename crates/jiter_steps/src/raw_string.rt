@@ -10,9 +10,9 @@ ghost use Rattle.jiter_steps.specs.Answer.{seen_as};
 ghost use Rattle.jiter_steps.specs.RawString.{EndsAt, raw_view};
 ghost use Rattle.jiter_steps.specs.Read.{scalar_at};
 ghost use Rattle.jiter_steps.specs.StringReading.{content_at, string_at, raw, raw_form};
-ghost use Rattle.jiter_steps.specs.StringReading.{Stop, part, over, portion_at};
+ghost use Rattle.jiter_steps.specs.StringReading.{Stop, part, over, event_at};
 
-use crate::escape::{AtStop, Ending, next_portion, portion_at};
+use crate::escape::{StringEnd, StringEvent, event_at, next_event};
 use crate::parse::Parser;
 use crate::string_decoder::cut_short;
 use jiter_scan::errors::Fault;
@@ -24,12 +24,12 @@ use jiter_scan::word::byte_at;
 fn escape_end(bytes: &[u8], at: usize) -> Option<usize>
     requires within { at ≤ length bytes.now }
     requires stop { IfSome (slice_get bytes.now at) (λ b. is_stop b ≡ true) }
-    ensures escape { IfSome result (λ e. (bs : List ℕ) × (part bs true e ≡ portion_at bytes.now at)) }
-    ensures over { result ≡ None → (s : Stop) × (over s ≡ portion_at bytes.now at) }
+    ensures escape { IfSome result (λ e. (bs : List ℕ) × (part bs true e ≡ event_at bytes.now at)) }
+    ensures over { result ≡ None → (s : Stop) × (over s ≡ event_at bytes.now at) }
 {
-    match next_portion(bytes, at) {
-        AtStop::Escape(_, end) => Some(end),
-        AtStop::End(_) => None,
+    match next_event(bytes, at) {
+        StringEvent::Escape(_, end) => Some(end),
+        StringEvent::End(_) => None,
     }
 }
 
@@ -90,12 +90,12 @@ fn fault_of(bytes: &[u8], at: usize) -> Fault
         → (IsTrue keep → at < length bytes.now)
         → content_at (raw_form keep) bytes.now i ≡ failed (fault_kind result.kind) result.index }
 {
-    match portion_at(bytes, at) {
-        AtStop::End(Ending::Wrong(fault)) => fault,
-        AtStop::End(Ending::Unclosed) => cut_short(bytes),
-        AtStop::End(Ending::Cut) => cut_short(bytes),
-        AtStop::End(Ending::Closed(_)) => unreachable!(),
-        AtStop::Escape(_, _) => unreachable!(),
+    match event_at(bytes, at) {
+        StringEvent::End(StringEnd::Wrong(fault)) => fault,
+        StringEvent::End(StringEnd::Unclosed) => cut_short(bytes),
+        StringEvent::End(StringEnd::Cut) => cut_short(bytes),
+        StringEvent::End(StringEnd::Closed(_)) => unreachable!(),
+        StringEvent::Escape(_, _) => unreachable!(),
     }
 }
 

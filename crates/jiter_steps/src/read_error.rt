@@ -2,7 +2,7 @@
 ghost use Rattle.std.specs.Prelude.{◌≡◌};
 
 use jiter_scan::errors::Fault;
-use jiter_scan::memory::Refused;
+use jiter_scan::memory::AllocFailed;
 
 /// Why reading failed.
 #[derive(Debug, PartialEq, Eq, Drop)]
@@ -10,7 +10,7 @@ pub enum ReadError {
     /// The bytes have an error.
     Fault(Fault),
     /// An allocation failed.
-    Memory(Refused),
+    Memory(AllocFailed),
 }
 
 impl From<Fault> for ReadError {
@@ -23,12 +23,12 @@ impl From<Fault> for ReadError {
     }
 }
 
-impl From<Refused> for ReadError {
+impl From<AllocFailed> for ReadError {
     ghost use Rattle.jiter_steps.specs.declared.read_error.ReadError.TheVariants as error;
 
     ghost from_gives = { λ refused e. e ≡ error.Memory refused };
 
-    fn from(refused: Refused) -> ReadError {
+    fn from(refused: AllocFailed) -> ReadError {
         ReadError::Memory(refused)
     }
 }

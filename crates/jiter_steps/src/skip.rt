@@ -7,12 +7,12 @@ ghost use Rattle.jiter_steps.specs.Literal.{start_of};
 ghost use Rattle.jiter_steps.specs.Node.{nesting_limit};
 ghost use Rattle.jiter_steps.specs.Parse.{Moves, Reads};
 ghost use Rattle.jiter_steps.specs.Read.{done, scalar_at, value_at};
-ghost use Rattle.jiter_steps.specs.Skip.{key_end, value_inside, first_inside, next_inside, frame_of, shape_of};
+ghost use Rattle.jiter_steps.specs.Skip.{key_end, value_inside, first_inside, next_inside, frame_of, kind_of_container};
 ghost use Rattle.jiter_steps.specs.Skip.{open_frames, Continues};
 ghost use Rattle.jiter_steps.specs.Step.{opening};
 
-use crate::parse::{NESTING_LIMIT, Parser, Shape, Start, start_of};
-use crate::plain_skip::{plain_end, plain_first_inside, plain_run, plain_value_end};
+use crate::fast_skip::{fast_end, fast_first_inside, fast_value_end, plain_run};
+use crate::parse::{ContainerKind, NESTING_LIMIT, Parser, Start, start_of};
 use crate::raw_string::string_end;
 use jiter_scan::errors::{Fault, FaultKind};
 use jiter_scan::number_extent::number_end;
@@ -29,29 +29,29 @@ struct Nest {
 }
 
 #[inline(always)]
-fn shape_of(is_object: bool) -> Shape
-    ensures { result ≡ shape_of is_object }
+fn kind_of_container(is_object: bool) -> ContainerKind
+    ensures { result ≡ kind_of_container is_object }
 {
     if is_object {
-        Shape::Object
+        ContainerKind::Object
     } else {
-        Shape::Array
+        ContainerKind::Array
     }
 }
 
 #[inline(always)]
-fn is_object(shape: Shape) -> bool
-    ensures { shape ≡ shape_of result }
+fn is_object(shape: ContainerKind) -> bool
+    ensures { shape ≡ kind_of_container result }
 {
     match shape {
-        Shape::Array => false,
-        Shape::Object => true,
+        ContainerKind::Array => false,
+        ContainerKind::Object => true,
     }
 }
 
 // The reader is at the container's first value. That is also the index of the nesting limit's error.
 #[inline(always)]
-fn open(parser: &Parser<'_>, nest: &mut Nest, shape: Shape) -> Result<bool, Fault>
+fn open(parser: &Parser<'_>, nest: &mut Nest, shape: ContainerKind) -> Result<bool, Fault>
     requires { parser.now.index < length parser.now.bytes.now }
     ensures { (names : Bool) → Continues names parser.now.bytes.now
         (open_frames nest.new.objects nest.new.depth) result parser.now.index
@@ -96,7 +96,7 @@ fn key(parser: &mut Parser<'_>) -> Result<(), Fault>
 
 // In an object, the value is after a key and its colon.
 #[inline(always)]
-fn value_inside(parser: &mut Parser<'_>, shape: Shape) -> Result<bool, Fault>
+fn value_inside(parser: &mut Parser<'_>, shape: ContainerKind) -> Result<bool, Fault>
     requires { parser.old.index < length parser.old.bytes.now }
     ensures moves { Moves parser.old parser.new }
     ensures value { Reads (λ more. more) result parser.new.index
@@ -105,8 +105,8 @@ fn value_inside(parser: &mut Parser<'_>, shape: Shape) -> Result<bool, Fault>
         → parser.new.index < length parser.old.bytes.now) }
 {
     match shape {
-        Shape::Array => Ok(true),
-        Shape::Object => {
+        ContainerKind::Array => Ok(true),
+        ContainerKind::Object => {
             key(parser)?;
             Ok(true)
         }
@@ -115,7 +115,7 @@ fn value_inside(parser: &mut Parser<'_>, shape: Shape) -> Result<bool, Fault>
 
 // Returns `true` at the first value inside, and `false` after the closing bracket.
 #[inline(always)]
-fn first_inside(parser: &mut Parser<'_>, shape: Shape) -> Result<bool, Fault>
+fn first_inside(parser: &mut Parser<'_>, shape: ContainerKind) -> Result<bool, Fault>
     requires { parser.old.index < length parser.old.bytes.now }
     ensures moves { Moves parser.old parser.new }
     ensures value { Reads (λ more. more) result parser.new.index
@@ -133,7 +133,7 @@ fn first_inside(parser: &mut Parser<'_>, shape: Shape) -> Result<bool, Fault>
 
 // Returns `true` at the next value inside, and `false` after the closing bracket.
 #[inline(always)]
-fn next_inside(parser: &mut Parser<'_>, shape: Shape) -> Result<bool, Fault>
+fn next_inside(parser: &mut Parser<'_>, shape: ContainerKind) -> Result<bool, Fault>
     ensures moves { Moves parser.old parser.new }
     ensures value { Reads (λ more. more) result parser.new.index
         (next_inside shape parser.old.bytes.now parser.old.index) }
@@ -149,7 +149,7 @@ fn next_inside(parser: &mut Parser<'_>, shape: Shape) -> Result<bool, Fault>
 
 // Like `first_inside`, and adds the container to the table.
 #[inline(always)]
-fn begin(parser: &mut Parser<'_>, nest: &mut Nest, shape: Shape) -> Result<bool, Fault>
+fn begin(parser: &mut Parser<'_>, nest: &mut Nest, shape: ContainerKind) -> Result<bool, Fault>
     requires within { parser.old.index < length parser.old.bytes.now }
     requires bracket { start_of (slice_index parser.old.bytes.now parser.old.index)
         ≡ opening shape }
@@ -205,8 +205,8 @@ fn begin_value(parser: &mut Parser<'_>, nest: &mut Nest, allow_inf_nan: bool) ->
     ensures ahead { OnOk result (parser.old.index < parser.new.index) }
 {
     match start_of(parser.bytes[parser.index]) {
-        Start::Array => begin(parser, nest, Shape::Array),
-        Start::Object => begin(parser, nest, Shape::Object),
+        Start::Array => begin(parser, nest, ContainerKind::Array),
+        Start::Object => begin(parser, nest, ContainerKind::Object),
         _ => {
             skip_scalar(parser, allow_inf_nan)?;
             Ok(false)
@@ -228,7 +228,7 @@ fn end_value(parser: &mut Parser<'_>, nest: &mut Nest) -> Result<bool, Fault>
         if nest.depth == 0 {
             return Ok(false);
         }
-        match next_inside(parser, shape_of(nest.objects[nest.depth - 1])) {
+        match next_inside(parser, kind_of_container(nest.objects[nest.depth - 1])) {
             Ok(true) => return Ok(true),
             Ok(false) => nest.depth -= 1,
             Err(fault) => return Err(fault),
@@ -239,7 +239,7 @@ fn end_value(parser: &mut Parser<'_>, nest: &mut Nest) -> Result<bool, Fault>
 // The fast path after a value. Returns the index that it reaches, how many containers are open there, and whether a
 // value begins there. If none does, one has ended there.
 #[inline(always)]
-fn plain_after(bytes: &[u8], from: usize, nest: &Nest, depth: usize) -> (usize, usize, bool)
+fn fast_after(bytes: &[u8], from: usize, nest: &Nest, depth: usize) -> (usize, usize, bool)
     requires within { from ≤ length bytes.now }
     requires few { depth ≤ nesting_limit }
     ensures leads { (names : Bool) → Continues names bytes.now (open_frames nest.now.objects result.1)
@@ -254,14 +254,14 @@ fn plain_after(bytes: &[u8], from: usize, nest: &Nest, depth: usize) -> (usize, 
         if open == 0 {
             return (end, open, false);
         }
-        let shape = shape_of(nest.objects[open - 1]);
+        let shape = kind_of_container(nest.objects[open - 1]);
         let (place, more) = plain_run(bytes, end, shape);
         if more {
             return (place, open, true);
         }
-        match plain_end(bytes, place, shape) {
+        match fast_end(bytes, place, shape) {
             None => return (place, open, false),
-            Some(behind) => end = behind,
+            Some(after) => end = after,
         }
         open -= 1;
     }
@@ -269,7 +269,7 @@ fn plain_after(bytes: &[u8], from: usize, nest: &Nest, depth: usize) -> (usize, 
 
 // The fast path into a container. Returns the index of the first value inside.
 #[inline(always)]
-fn plain_open(bytes: &[u8], at: usize, nest: &mut Nest, depth: usize) -> Option<usize>
+fn fast_open(bytes: &[u8], at: usize, nest: &mut Nest, depth: usize) -> Option<usize>
     requires within { at < length bytes.now }
     requires few { depth ≤ nesting_limit }
     ensures leads { IfSome result (λ next. (names : Bool)
@@ -281,12 +281,12 @@ fn plain_open(bytes: &[u8], at: usize, nest: &mut Nest, depth: usize) -> Option<
 {
     match bytes[at] {
         b'[' if depth < NESTING_LIMIT => {
-            let next = plain_first_inside(bytes, at, Shape::Array)?;
+            let next = fast_first_inside(bytes, at, ContainerKind::Array)?;
             nest.objects[depth] = false;
             Some(next)
         }
         b'{' if depth < NESTING_LIMIT => {
-            let next = plain_first_inside(bytes, at, Shape::Object)?;
+            let next = fast_first_inside(bytes, at, ContainerKind::Object)?;
             nest.objects[depth] = true;
             Some(next)
         }
@@ -296,7 +296,7 @@ fn plain_open(bytes: &[u8], at: usize, nest: &mut Nest, depth: usize) -> Option<
 
 // The fast path. Returns `true` at a value that the slow path must read, and `false` after a value.
 #[inline(never)]
-fn plain_turns(bytes: &[u8], from: usize, nest: &mut Nest) -> (usize, bool)
+fn fast_turns(bytes: &[u8], from: usize, nest: &mut Nest) -> (usize, bool)
     requires { from < length bytes.now }
     ensures leads { (names : Bool) → Continues names bytes.now
         (open_frames nest.new.objects nest.new.depth) (Ok result.1) result.0 (value_from (only_ends names)
@@ -307,14 +307,14 @@ fn plain_turns(bytes: &[u8], from: usize, nest: &mut Nest) -> (usize, bool)
     let mut at = from;
     let mut depth = nest.depth;
     'turns: loop {
-        if let Some(next) = plain_open(bytes, at, nest, depth) {
+        if let Some(next) = fast_open(bytes, at, nest, depth) {
             at = next;
             depth += 1;
             continue 'turns;
         }
-        match plain_value_end(bytes, at) {
+        match fast_value_end(bytes, at) {
             Some(end) => {
-                let (next, open, more) = plain_after(bytes, end, nest, depth);
+                let (next, open, more) = fast_after(bytes, end, nest, depth);
                 if !more {
                     nest.depth = open;
                     return (next, false);
@@ -343,7 +343,7 @@ fn skip_container(parser: &mut Parser<'_>, allow_inf_nan: bool) -> Result<(), Fa
         depth: 0,
     };
     'skipping: loop {
-        let (at, more) = plain_turns(parser.bytes, parser.index, &mut nest);
+        let (at, more) = fast_turns(parser.bytes, parser.index, &mut nest);
         parser.index = at;
         if more && begin_value(parser, &mut nest, allow_inf_nan)? {
             continue 'skipping;

@@ -14,10 +14,10 @@ ghost use Rattle.jiter_steps.specs.StringReading.{body_at, text_form, text_in_fo
 ghost use Rattle.jiter_steps.specs.StringDecoder.{text_view, stop_view};
 ghost use Rattle.jiter_steps.specs.StringDecoder.{WantsMemory};
 
-use crate::escape::{AtStop, Ending, next_portion, sign_at};
+use crate::escape::{StringEnd, StringEvent, next_event, simple_escape_at};
 use crate::read_error::ReadError;
 use jiter_scan::errors::{Fault, FaultKind, fault_at};
-use jiter_scan::memory::{Refused, copy_text};
+use jiter_scan::memory::{AllocFailed, copy_text};
 use jiter_scan::simd::{both, copy_plain, scan_string};
 use jiter_scan::tape::put_char;
 use jiter_scan::text::utf8_text;
@@ -28,7 +28,11 @@ use std::borrow::CowStr;
 // Decodes to the beginning of the tape. Returns how many bytes that gives, whether they are known to be UTF-8, and how
 // the string ends.
 #[inline(always)]
-fn decode(tape: &mut Vec<u8>, bytes: &[u8], from: usize) -> Result<(usize, bool, Ending), Refused>
+fn decode(
+    tape: &mut Vec<u8>,
+    bytes: &[u8],
+    from: usize,
+) -> Result<(usize, bool, StringEnd), AllocFailed>
     requires { from ≤ length bytes.now }
     ensures text { IfOk result (λ r. take r.0 tape.new.items ≡ (body_at bytes.now from).bytes) }
     ensures utf8 { IfOk result (λ r. IsTrue r.1 → IsUtf8 (take r.0 tape.new.items)) }
@@ -41,19 +45,19 @@ fn decode(tape: &mut Vec<u8>, bytes: &[u8], from: usize) -> Result<(usize, bool,
     loop {
         let (stop, end, low) = copy_plain(tape, count, bytes, at)?;
         known = both(known, low);
-        let sign = sign_at(bytes, stop);
+        let sign = simple_escape_at(bytes, stop);
         if sign != 0 {
             tape[end] = sign;
             count = end + 1;
             at = stop + 2;
             continue;
         }
-        match next_portion(bytes, stop) {
-            AtStop::Escape(c, after) => {
+        match next_event(bytes, stop) {
+            StringEvent::Escape(c, after) => {
                 count = put_char(tape, end, c);
                 at = after;
             }
-            AtStop::End(ending) => return Ok((end, known, ending)),
+            StringEvent::End(ending) => return Ok((end, known, ending)),
         }
     }
 }
@@ -68,7 +72,7 @@ fn checked_count(content: &[u8], known: bool, keep: bool) -> Result<usize, usize
         ≡ taken (record { owned = owned; bytes = take n content.now }) e)
         (λ n. checked keep i owned content.now e ≡ failed invalid_code_point (i + n)) }
     ensures text { IfOk result (λ n. IsUtf8 (take n content.now)) }
-    ensures front { IfOk result (λ n. n ≤ length content.now) }
+    ensures prefix { IfOk result (λ n. n ≤ length content.now) }
     ensures within { IfErr result (λ n. n ≤ length content.now) }
 {
     if known {
@@ -121,19 +125,19 @@ pub(crate) fn cut_short(bytes: &[u8]) -> Fault
 
 // With `keep`, a string may end with the input.
 #[tactic(auto, using(crate::proofs::Calls::StringAnswers::string_closed))]
-fn text_end(bytes: &[u8], ending: Ending, keep: bool) -> Result<usize, Fault>
+fn text_end(bytes: &[u8], ending: StringEnd, keep: bool) -> Result<usize, Fault>
     ensures { (i : ℕ) → (bs : List ℕ) → (owned : Bool) → MatchResult result
         (λ e. text_in_form (text_form keep) bytes.now i bs owned (stop_view ending) ≡ checked keep i owned bs e)
         (λ f. text_in_form (text_form keep) bytes.now i bs owned (stop_view ending)
         ≡ failed (fault_kind f.kind) f.index) }
 {
     match ending {
-        Ending::Closed(end) => Ok(end),
-        Ending::Wrong(fault) => Err(fault),
-        Ending::Unclosed if keep => Ok(bytes.len()),
-        Ending::Unclosed => Err(cut_short(bytes)),
-        Ending::Cut if keep => Ok(bytes.len()),
-        Ending::Cut => Err(cut_short(bytes)),
+        StringEnd::Closed(end) => Ok(end),
+        StringEnd::Wrong(fault) => Err(fault),
+        StringEnd::Unclosed if keep => Ok(bytes.len()),
+        StringEnd::Unclosed => Err(cut_short(bytes)),
+        StringEnd::Cut if keep => Ok(bytes.len()),
+        StringEnd::Cut => Err(cut_short(bytes)),
     }
 }
 
@@ -152,7 +156,7 @@ pub fn decode_to(
         (with_end (λ n. record { owned = true; bytes = take n tape.new.items })) r
         (string_at (text_form keep) bytes.now at)) }
     ensures text { IfOk result (λ r. IsUtf8 (take r.0 tape.new.items)) }
-    ensures front { IfOk result (λ r. r.0 ≤ vec_len tape.new) }
+    ensures prefix { IfOk result (λ r. r.0 ≤ vec_len tape.new) }
 {
     let (count, known, ending) = decode(tape, bytes, at + 1)?;
     let end = text_end(bytes, ending, keep)?;
@@ -191,13 +195,13 @@ pub fn decode_whole(
     tape: &mut Vec<u8>,
     bytes: &[u8],
     at: usize,
-) -> Result<(usize, usize), Option<Refused>>
+) -> Result<(usize, usize), Option<AllocFailed>>
     requires within { at < length bytes.now }
     requires backslash { WantsMemory bytes.now at }
     ensures value { IfOk result (λ r. (keep : Bool) → string_at (text_form keep) bytes.now at
         ≡ taken (record { owned = true; bytes = take r.0 tape.new.items }) r.1) }
     ensures text { IfOk result (λ r. IsUtf8 (take r.0 tape.new.items)) }
-    ensures front { IfOk result (λ r. r.0 ≤ vec_len tape.new) }
+    ensures prefix { IfOk result (λ r. r.0 ≤ vec_len tape.new) }
     ensures advances { IfOk result (λ r. (at < r.1) × (r.1 ≤ length bytes.now)) }
 {
     match decode_to(tape, bytes, at, false) {

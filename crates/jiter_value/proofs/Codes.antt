@@ -32,27 +32,27 @@ mutual
   code_members-owned (member k v ms) = rw (code-owned v, code_members-owned ms) refl
 
 -- ---- no code begins another
-behind : {m n : ℕ} {xs ys : List ℕ} → m ∷ xs ≡ n ∷ ys → xs ≡ ys
-behind e = cc
+after : {m n : ℕ} {xs ys : List ℕ} → m ∷ xs ≡ n ∷ ys → xs ≡ ys
+after e = cc
 
 heads : {m n : ℕ} {xs ys : List ℕ} → m ∷ xs ≡ n ∷ ys → m ≡ n
 heads e = cc
 
 bool-tells : (b c : Bool) (x y : List ℕ) → code_bool b ++ x ≡ code_bool c ++ y → (b ≡ c) × (x ≡ y)
-bool-tells false false x y e = (refl, behind e)
-bool-tells true true x y e = (refl, behind e)
+bool-tells false false x y e = (refl, after e)
+bool-tells true true x y e = (refl, after e)
 bool-tells b c x y e = absurd (cc)
 
 int-tells : (z w : ℤ) (x y : List ℕ) → code_int z ++ x ≡ code_int w ++ y → (z ≡ w) × (x ≡ y)
-int-tells (pos m) (pos n) x y e = (ap pos (heads (behind e)), behind (behind e))
-int-tells (negsuc m) (negsuc n) x y e = (ap negsuc (heads (behind e)), behind (behind e))
+int-tells (pos m) (pos n) x y e = (ap pos (heads (after e)), after (after e))
+int-tells (negsuc m) (negsuc n) x y e = (ap negsuc (heads (after e)), after (after e))
 int-tells z w x y e = absurd (cc)
 
 text-tells : (s u : Text) (x y : List ℕ) → code_bytes s.bytes ++ x ≡ code_bytes u.bytes ++ y
     → (owned_text s ≡ owned_text u) × (x ≡ y)
 text-tells s u x y e =
     let long : length s.bytes ≡ length u.bytes = heads e in
-    let rest : s.bytes ++ x ≡ u.bytes ++ y = behind e in
+    let rest : s.bytes ++ x ≡ u.bytes ++ y = after e in
     let bytes : s.bytes ≡ u.bytes = sym (take-append_seam s.bytes x) ∙ ap₂ (λ n l. take n l) long rest
     ∙ take-append_seam u.bytes y in
     let more : x ≡ y = sym (drop-append_seam s.bytes x) ∙ ap₂ (λ n l. drop n l) long rest
@@ -61,32 +61,32 @@ text-tells s u x y e =
 
 mutual
   tells : (v w : Tree) (x y : List ℕ) → code v ++ x ≡ code w ++ y → HoldSame v w × (x ≡ y)
-  tells null null x y e = (refl, behind e)
-  tells (boolean b) (boolean c) x y e = let h = bool-tells b c x y (behind e) in (ap boolean h.0, h.1)
-  tells (int z) (int w) x y e = let h = int-tells z w x y (behind e) in (ap int h.0, h.1)
-  tells (big s) (big u) x y e = let h = text-tells s u x y (behind e) in (ap big h.0, h.1)
-  tells (float s) (float u) x y e = let h = text-tells s u x y (behind e) in (ap float h.0, h.1)
-  tells (string s) (string u) x y e = let h = text-tells s u x y (behind e) in (ap string h.0, h.1)
-  tells (array is) (array js) x y e = let h = items-tell is js x y (behind e) in (ap array h.0, h.1)
-  tells (object ms) (object ns) x y e = let h = members-tell ms ns x y (behind e) in (ap object h.0, h.1)
+  tells null null x y e = (refl, after e)
+  tells (boolean b) (boolean c) x y e = let h = bool-tells b c x y (after e) in (ap boolean h.0, h.1)
+  tells (int z) (int w) x y e = let h = int-tells z w x y (after e) in (ap int h.0, h.1)
+  tells (big s) (big u) x y e = let h = text-tells s u x y (after e) in (ap big h.0, h.1)
+  tells (float s) (float u) x y e = let h = text-tells s u x y (after e) in (ap float h.0, h.1)
+  tells (string s) (string u) x y e = let h = text-tells s u x y (after e) in (ap string h.0, h.1)
+  tells (array is) (array js) x y e = let h = items-tell is js x y (after e) in (ap array h.0, h.1)
+  tells (object ms) (object ns) x y e = let h = members-tell ms ns x y (after e) in (ap object h.0, h.1)
   tells v w x y e = absurd (cc)
 
   items-tell : (is js : Items) (x y : List ℕ) → code_items is ++ x ≡ code_items js ++ y
       → (owned_items is ≡ owned_items js) × (x ≡ y)
-  items-tell no_items no_items x y e = (refl, behind e)
+  items-tell no_items no_items x y e = (refl, after e)
   items-tell (item v is) (item w js) x y e =
       let first = tells v w (code_items is ++ x) (code_items js ++ y)
-      (sym (append_assoc (code v) (code_items is) x) ∙ behind e ∙ append_assoc (code w) (code_items js) y) in
+      (sym (append_assoc (code v) (code_items is) x) ∙ after e ∙ append_assoc (code w) (code_items js) y) in
       let more = items-tell is js x y first.1 in
       (rw (first.0, more.0) refl, more.1)
   items-tell is js x y e = absurd (cc)
 
   members-tell : (ms ns : Members) (x y : List ℕ) → code_members ms ++ x ≡ code_members ns ++ y
       → (owned_members ms ≡ owned_members ns) × (x ≡ y)
-  members-tell no_members no_members x y e = (refl, behind e)
+  members-tell no_members no_members x y e = (refl, after e)
   members-tell (member k v ms) (member l w ns) x y e =
       let key = text-tells k l ((code v ++ code_members ms) ++ x) ((code w ++ code_members ns) ++ y)
-      (sym (append_assoc (code_bytes k.bytes) (code v ++ code_members ms) x) ∙ behind e
+      (sym (append_assoc (code_bytes k.bytes) (code v ++ code_members ms) x) ∙ after e
       ∙ append_assoc (code_bytes l.bytes) (code w ++ code_members ns) y) in
       let first = tells v w (code_members ms ++ x) (code_members ns ++ y)
       (sym (append_assoc (code v) (code_members ms) x) ∙ key.1 ∙ append_assoc (code w) (code_members ns) y) in

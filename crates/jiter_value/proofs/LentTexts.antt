@@ -17,12 +17,12 @@ use Rattle.jiter_scan.proofs.Choices.{if_case, failed-taken, same_taken}
 use Rattle.jiter_scan.proofs.NumberLaws.{number_at-sound, number_at-within}
 use Rattle.jiter_scan.proofs.Standing.{slice_range-split, slice-one}
 use Rattle.jiter_steps.specs.StringReading.{Stop, closed, unclosed, cut, wrong, part, over, Body, before, join, body_at}
-use Rattle.jiter_steps.specs.StringReading.{text_form, valid_front_by, text_in_form, kept, content_at, string_at}
+use Rattle.jiter_steps.specs.StringReading.{text_form, valid_prefix_by, text_in_form, kept, content_at, string_at}
 use Rattle.jiter_steps.specs.Tree.{Text}
 use Rattle.jiter_steps.proofs.Grammar.Places.{Explains}
 use Rattle.jiter_steps.proofs.Grammar.StringSound.{closed-text}
 use Rattle.jiter_steps.proofs.Reading.Bodies.{part-ahead, each-body}
-use Rattle.jiter_value.specs.Texts.{LieAt, IsLentAt, IsNumberAt}
+use Rattle.jiter_value.specs.StringStorage.{LieAt, IsLentAt, IsNumberAt}
 
 length-range : (t : List ℕ) (i j : ℕ) → i ≤ j → j ≤ length t → length (slice_range t i j) ≡ j - i
 length-range t i j h le = length-take-le (j - i) (drop i t) (omega (arith, length-drop i t))
@@ -35,9 +35,9 @@ range-lies t i j w h le is =
     let ends : i + length w ≡ j = omega (arith, long, h) in
     record { within = omega (arith, ends, le); same = is ∙ ap (slice_range t i) (sym ends) }
 
--- the front of bytes that stand there
-front-lies : (t : List ℕ) (i : ℕ) (a b : List ℕ) → LieAt t i (a ++ b) → LieAt t i a
-front-lies t i a b h =
+-- the prefix of bytes that stand there
+prefix-lies : (t : List ℕ) (i : ℕ) (a b : List ℕ) → LieAt t i (a ++ b) → LieAt t i a
+prefix-lies t i a b h =
     let long = length-append a b in
     let split = slice_range-split t i (i + length a) (omega arith) (i + length (a ++ b)) (omega (arith, long)) in
     let range = length-range t i (i + length a) (omega arith) (omega (arith, h.within, long)) in
@@ -83,25 +83,25 @@ module _ (t : List ℕ) where
   body-lies = each-body t Lies part-lies over-lies
 
   -- as much of them as is kept
-  front-lent : (i : ℕ) (o : Bool) (bs : List ℕ) (e : ℕ) (x : Text) (y : ℕ) (error : Option ℕ)
-      → (o ≡ false → LieAt t i bs) → valid_front_by i o bs e error ≡ taken x y → IsLentAt t i x
-  front-lent i o bs e x y None lies h =
+  prefix-lent : (i : ℕ) (o : Bool) (bs : List ℕ) (e : ℕ) (x : Text) (y : ℕ) (error : Option ℕ)
+      → (o ≡ false → LieAt t i bs) → valid_prefix_by i o bs e error ≡ taken x y → IsLentAt t i x
+  prefix-lent i o bs e x y None lies h =
       let is = (same_taken _ x e y h).0 in
       λ mark.
       let k = utf8_valid_len bs in
       let at = lies (ap (λ (z : Text). z.owned) is ∙ mark) in
       subst (LieAt t i) (ap (λ (z : Text). z.bytes) is)
-      (front-lies t i (take k bs) (drop k bs) (subst (LieAt t i) (sym (take-append-drop k bs)) at))
-  front-lent i o bs e x y (Some m) lies h = absurd (failed-taken _ _ x y h)
+      (prefix-lies t i (take k bs) (drop k bs) (subst (LieAt t i) (sym (take-append-drop k bs)) at))
+  prefix-lent i o bs e x y (Some m) lies h = absurd (failed-taken _ _ x y h)
 
   kept-lent : (i : ℕ) (o : Bool) (bs : List ℕ) (s : Stop) (x : Text) (e : ℕ) → (o ≡ false → LieAt t i bs)
       → text_in_form kept t i bs o s ≡ taken x e → IsLentAt t i x
   kept-lent i o bs (closed f) x e lies h =
-      front-lent i o bs f x e (utf8_error_len (drop (utf8_valid_len bs) bs)) lies h
+      prefix-lent i o bs f x e (utf8_error_len (drop (utf8_valid_len bs) bs)) lies h
   kept-lent i o bs unclosed x e lies h =
-      front-lent i o bs (length t) x e (utf8_error_len (drop (utf8_valid_len bs) bs)) lies h
+      prefix-lent i o bs (length t) x e (utf8_error_len (drop (utf8_valid_len bs) bs)) lies h
   kept-lent i o bs cut x e lies h =
-      front-lent i o bs (length t) x e (utf8_error_len (drop (utf8_valid_len bs) bs)) lies h
+      prefix-lent i o bs (length t) x e (utf8_error_len (drop (utf8_valid_len bs) bs)) lies h
   kept-lent i o bs (wrong k j) x e lies h = absurd (failed-taken _ _ x e h)
 
   -- the text of a string whose opening quote is at i

@@ -23,4 +23,4 @@ pub mod Shapes
 pub mod Placed
 pub mod Repeats
 pub mod KeptKeys
-pub mod KeySets
+pub mod DuplicateKeys

@@ -14,7 +14,7 @@ use Rattle.jiter_steps.specs.Answer.{seen_as, value_form, whole_trees, nothing_f
 use Rattle.jiter_steps.specs.Blank.{past_blanks}
 use Rattle.jiter_steps.specs.Literal.{literal_at, literal_tree}
 use Rattle.jiter_steps.specs.Read.{Reading, Rules, done, fault, value_at, if_begun, if_last, to_end}
-use Rattle.jiter_steps.specs.Read.{front_answer, whole_answer}
+use Rattle.jiter_steps.specs.Read.{prefix_answer, whole_answer}
 use Rattle.jiter_steps.specs.StringReading.{whole, string_at}
 use Rattle.jiter_steps.specs.Tree.{Text, Tree, Items, no_items, item, Members, no_members, member, items_of, members_of}
 use Rattle.jiter_steps.specs.Tree as tree
@@ -79,13 +79,13 @@ rules_refusing f p = record {
 }
 
 module _ (made : Keeping) (p : Settings) (t : List ℕ) where
-  abbrev Refused : ℕ → Option (Kind × ℕ) → Type 0
-  Refused i o = (j : ℕ) (k : Kind) → o ≡ Some (k, j) → (i < j) × FaultAt t k j
+  abbrev AllocFailed : ℕ → Option (Kind × ℕ) → Type 0
+  AllocFailed i o = (j : ℕ) (k : Kind) → o ≡ Some (k, j) → (i < j) × FaultAt t k j
 
   -- a key that is refused
-  refused-behind : (members : List (Text × Tree)) (i : ℕ) → i < length t → Refused i (refused_as made members t i)
-  refused-behind members i lt =
-      either (Refused i) made.unique
+  refused-after : (members : List (Text × Tree)) (i : ℕ) → i < length t → AllocFailed i (refused_as made members t i)
+  refused-after members i lt =
+      either (AllocFailed i) made.unique
       (repeated_key own_bytes (map (λ m. own_bytes m.0) members) t (string_at whole t i)) None
       (λ j k h. (repeats-advance t own_bytes (whole_trees false)
       (trees-advances t nothing_forgiven whole false)).refuses members i j k lt h)
@@ -97,7 +97,7 @@ module _ (made : Keeping) (p : Settings) (t : List ℕ) where
     number = λ i h. seen-within _ t i (number_at p.allow_inf_nan t i) (number_at-within p.allow_inf_nan t i h);
     text = λ i h. seen-within _ t i (string_at (value_form p.mode) t i) (string_at-within (value_form p.mode) t i h);
     key = λ i h. seen-within _ t i (string_at whole t i) (string_at-within whole t i h);
-    refuses = λ members i j k lt h. refused-behind members i lt j k h;
+    refuses = λ members i j k lt h. refused-after members i lt j k h;
   }
 
   abbrev Made : Reading Tree → Reading Tree
@@ -137,26 +137,26 @@ module _ (made : Keeping) (p : Settings) (t : List ℕ) where
         sym (value_at-mapped (rules_refusing f p) (rules_as made p) made.text (tree_as made.text) t made-leads levels i)
         ∙ mapped-is made.text (value_at (rules_refusing f p) t levels i)
 
-    front-begun : (i : ℕ) (o : Option ℕ)
+    prefix-begun : (i : ℕ) (o : Option ℕ)
         → if_begun (rules_as made p) t i o ≡ Made (if_begun (rules_refusing f p) t i o)
-    front-begun i None = refl
-    front-begun i (Some c) = value_at-given 200 i
+    prefix-begun i None = refl
+    prefix-begun i (Some c) = value_at-given 200 i
 
-    front-given : front_answer (rules_as made p) t ≡ Made (front_answer (rules_refusing f p) t)
-    unfolding front_answer
-    front-given = front-begun (past_blanks t 0) (slice_get t (past_blanks t 0))
+    prefix-given : prefix_answer (rules_as made p) t ≡ Made (prefix_answer (rules_refusing f p) t)
+    unfolding prefix_answer
+    prefix-given = prefix-begun (past_blanks t 0) (slice_get t (past_blanks t 0))
 
     whole-given : whole_answer (rules_as made p) t ≡ Made (whole_answer (rules_refusing f p) t)
     whole-given =
-        whole-is (rules_as made p) t ∙ ap (to_end t) front-given
-        ∙ to_end-as (front_answer (rules_refusing f p) t)
+        whole-is (rules_as made p) t ∙ ap (to_end t) prefix-given
+        ∙ to_end-as (prefix_answer (rules_refusing f p) t)
         ∙ ap Made (sym (whole-is (rules_refusing f p) t))
 
     answer-given : answer_as made p t ≡ Made (answer_with p.mode (rules_refusing f p) t)
     answer-given =
-        if_both (λ x y. x ≡ Made y) (is_active p.mode) (front_answer (rules_as made p) t)
-        (whole_answer (rules_as made p) t) (front_answer (rules_refusing f p) t)
-        (whole_answer (rules_refusing f p) t) (λ on. front-given) (λ off. whole-given)
+        if_both (λ x y. x ≡ Made y) (is_active p.mode) (prefix_answer (rules_as made p) t)
+        (whole_answer (rules_as made p) t) (prefix_answer (rules_refusing f p) t)
+        (whole_answer (rules_refusing f p) t) (λ on. prefix-given) (λ off. whole-given)
 
 -- Where repeated keys are kept,
 abbrev none_refused : Refusing

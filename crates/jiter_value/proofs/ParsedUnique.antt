@@ -12,7 +12,7 @@ use Rattle.jiter_steps.specs.Blank.{past_blanks}
 use Rattle.jiter_steps.specs.Cut.{cut, IsBegunContainer}
 use Rattle.jiter_steps.specs.FirstFault.{can_go_on, CanBeCompleted}
 use Rattle.jiter_steps.specs.Node.{Node, end, value_of, IsCutContainer}
-use Rattle.jiter_steps.specs.Read.{Reading, done, fault, if_last, to_end, front_answer}
+use Rattle.jiter_steps.specs.Read.{Reading, done, fault, if_last, to_end, prefix_answer}
 use Rattle.jiter_steps.specs.Tree.{Tree}
 use Rattle.jiter_steps.specs.Unique.{HasUniqueKeys, IsUniqueDocument, own_bytes, unique_answer, unique_answer_in}
 use Rattle.jiter_steps.specs.declared.read_error.ReadError.{ReadError}
@@ -26,7 +26,7 @@ use Rattle.jiter_steps.proofs.Unique.Agreeing.{IsOfRepeat, IsRepeat, whole_answe
 use Rattle.jiter_steps.proofs.Unique.Cuts.{unique-cut, unique-prefix_refused}
 use Rattle.jiter_steps.proofs.Unique.Dead.{unique-dead}
 use Rattle.jiter_steps.proofs.Unique.Documents.{unique-complete, unique-sound}
-use Rattle.jiter_steps.proofs.Unique.Tracking.{Tracks, strict, partial, front_answer-tracks}
+use Rattle.jiter_steps.proofs.Unique.Tracking.{Tracks, strict, partial, prefix_answer-tracks}
 use Rattle.jiter_steps.proofs.Unique.Within.{unique_answer-within, unique_partial-within}
 use Rattle.jiter_value.specs.Parses.{AnswersBy, as_read, reading_as}
 use Rattle.jiter_value.specs.ParsesUnique.{ParsesUnique, refusing_repeats}
@@ -63,18 +63,18 @@ module _ (names : Bool) (t : List ℕ) where
   last-is v w d e j None is = is
   last-is v w d e j (Some c) is = absurd (cc)
 
-  front-is : (x : Reading Tree) (w : Tree) (e : ℕ) → to_end t x ≡ done w e → x ≡ done w e
-  front-is (done v d) w e is = last-is v w d e (past_blanks t d) (slice_get t (past_blanks t d)) is
-  front-is (fault k i stop) w e is = absurd (cc)
+  prefix-is : (x : Reading Tree) (w : Tree) (e : ℕ) → to_end t x ≡ done w e → x ≡ done w e
+  prefix-is (done v d) w e is = last-is v w d e (past_blanks t d) (slice_get t (past_blanks t d)) is
+  prefix-is (fault k i stop) w e is = absurd (cc)
 
   -- A document with unique keys is answered in a partial mode too.
   partial-of : (mode : PartialMode) (n : Node) → IsUniqueDocument names t n
-      → front_answer (partial names mode t) t ≡ done (value_of t n) (end n)
+      → prefix_answer (partial names mode t) t ≡ done (value_of t n) (end n)
   partial-of mode n d =
-      let whole : to_end t (front_answer (strict names mode t) t) ≡ done (value_of t n) (end n) =
+      let whole : to_end t (prefix_answer (strict names mode t) t) ≡ done (value_of t n) (end n) =
       sym (whole-is (strict names mode t) t) ∙ unique-complete names t n d in
-      let front = front-is (front_answer (strict names mode t) t) (value_of t n) (end n) whole in
-      subst (Tracks t (front_answer (partial names mode t) t)) front (front_answer-tracks names mode t)
+      let prefix = prefix-is (prefix_answer (strict names mode t) t) (value_of t n) (end n) whole in
+      subst (Tracks t (prefix_answer (partial names mode t) t)) prefix (prefix_answer-tracks names mode t)
 
   unique-of : (mode : PartialMode) (n : Node) → IsUniqueDocument names t n
       → unique_answer_in names mode t ≡ done (value_of t n) (end n)
@@ -82,30 +82,30 @@ module _ (names : Bool) (t : List ℕ) where
   unique-of On n d = partial-of On n d
   unique-of TrailingStrings n d = partial-of TrailingStrings n d
 
-  -- So is a front of one.
-  front-plain : (mode : PartialMode) (f : IsBegunContainer names t) → HasUniqueKeys f.node
-      → front_answer (partial names mode t) t ≡ partial_answer names mode t
-  front-plain mode f keys =
-      subst (λ u. front_answer (partial names mode u) u ≡ partial_answer names mode u) (sym f.is)
+  -- So is a prefix of one.
+  prefix-plain : (mode : PartialMode) (f : IsBegunContainer names t) → HasUniqueKeys f.node
+      → prefix_answer (partial names mode t) t ≡ partial_answer names mode t
+  prefix-plain mode f keys =
+      subst (λ u. prefix_answer (partial names mode u) u ≡ partial_answer names mode u) (sym f.is)
       (unique-cut names f.text f.node f.place (record { document = f.document; unique = keys }) f.container f.within
       mode)
 
   abbrev LeavesCut : PartialMode → IsBegunContainer names t → Reading Tree → Type 0
   LeavesCut mode f x = parsed.AnswersLeft (cut names f.text f.node f.place mode) x
 
-  front-left : (mode : PartialMode) (f : IsBegunContainer names t) → HasUniqueKeys f.node
+  prefix-left : (mode : PartialMode) (f : IsBegunContainer names t) → HasUniqueKeys f.node
       → LeavesCut mode f (partial_answer names mode t)
-      → LeavesCut mode f (front_answer (partial names mode t) t)
-  front-left mode f keys h = subst (LeavesCut mode f) (sym (front-plain mode f keys)) h
+      → LeavesCut mode f (prefix_answer (partial names mode t) t)
+  prefix-left mode f keys h = subst (LeavesCut mode f) (sym (prefix-plain mode f keys)) h
 
   unique-left : (mode : PartialMode) (f : IsBegunContainer names t) → HasUniqueKeys f.node → is_active mode ≡ true
       → LeavesCut mode f (unique_answer_in names mode t)
   unique-left Off f keys on = absurd (cc)
   unique-left On f keys on =
-      front-left On f keys
+      prefix-left On f keys
       (cut-left names t On f (partial_answer names On t) (answer_in-cut names t On f on))
   unique-left TrailingStrings f keys on =
-      front-left TrailingStrings f keys
+      prefix-left TrailingStrings f keys
       (cut-left names t TrailingStrings f (partial_answer names TrailingStrings t)
       (answer_in-cut names t TrailingStrings f on))
 

@@ -17,8 +17,8 @@ use Rattle.jiter_steps.specs.declared.parse.Start.{Start}
 use Rattle.jiter_steps.specs.declared.parse.Start.TheVariants as start
 use Rattle.jiter_value.specs.Owned.{tree_as}
 use Rattle.jiter_value.specs.Settings.{Keeping, rules_as}
-use Rattle.jiter_value.specs.Size.{size, value_size, behind_size}
-use Rattle.jiter_value.specs.Stacks.{Member, resume_with, behind, Stands, StandsAtKey, IsFree}
+use Rattle.jiter_value.specs.Size.{size, value_size, after_size}
+use Rattle.jiter_value.specs.Stacks.{Member, resume_with, after, Stands, StandsAtKey, IsFree}
 use Rattle.jiter_value.specs.Turns.{IsPutAt, IsKeyAt}
 use Rattle.jiter_value.specs.Value.{view}
 use Rattle.jiter_value.specs.declared.settings.Settings.{Settings}
@@ -60,8 +60,8 @@ module _ (made : Keeping) (p : Settings) (t : List ℕ) (i e levels : ℕ) where
 module _ {made : Keeping} {t : List ℕ} {old new : Stacks} {a : Slot} {i e : ℕ} (v : JsonValue) (x : Tree) where
   pub put-at : view v ≡ x → Stands old a → length old.nest.items ≤ 200
       → ((made : Keeping) (p : Settings) (u : List ℕ) (j : ℕ)
-      → resume_with made p u old a (done (view v) j) ≡ behind made p u new a j)
-      → Stands new a → new.nest ≡ old.nest → behind_size new a ≡ value_size old a + size (view v) → size x ≡ 1
+      → resume_with made p u old a (done (view v) j) ≡ after made p u new a j)
+      → Stands new a → new.nest ≡ old.nest → after_size new a ≡ value_size old a + size (view v) → size x ≡ 1
       → i < e → e ≤ length t → ((p : Settings) (levels : ℕ) → value_at (rules_as made p) t levels i ≡ done x e)
       → IsPutAt made t old i a new e
   put-at seen b few put stands nest held one ahead within read =

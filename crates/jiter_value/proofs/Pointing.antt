@@ -36,9 +36,9 @@ last_token (x ∷ xs) h =
     slice_split-cons_no is_slash x xs (ne_eqb x 47 (h 0 (omega arith)))
     ∙ ap (onto_first x) (last_token xs (λ i less. h (suc i) (omega arith)))
 
-pub nothing_behind : (o : Option Tree) → option_and_then (pointed []) o ≡ o
-nothing_behind None = refl
-nothing_behind (Some v) = refl
+pub nothing_after : (o : Option Tree) → option_and_then (pointed []) o ≡ o
+nothing_after None = refl
+nothing_after (Some v) = refl
 
 pub no_slash_first : (path : List ℕ) (v : Tree) → 0 < length path → ((rest : List ℕ) → path ≢ 47 ∷ rest)
     → pointed_by path v ≡ None

@@ -13,7 +13,7 @@ use Rattle.jiter_steps.specs.Step.{step, colon, value_first}
 use Rattle.jiter_steps.specs.StringDecoder.{text_view}
 use Rattle.jiter_steps.specs.StringReading.{string_at, whole}
 use Rattle.jiter_steps.specs.Tree.{Text, Tree}
-use Rattle.jiter_steps.specs.Unique.{own_bytes, is_among, behind_its_colon}
+use Rattle.jiter_steps.specs.Unique.{own_bytes, is_among, after_its_colon}
 use Rattle.jiter_steps.proofs.Calls.Resumed.{if_forgiven-no, resume-fault}
 use Rattle.jiter_value.specs.Settings.{Keeping, lent_unique, forgives, rules_as, answer_as}
 use Rattle.jiter_value.specs.Stacks.{Member, member_view, frames, HaveKeyBase, refused_in, key_in, meaning}
@@ -44,12 +44,12 @@ has_key-among key (m ∷ ms) = ap (λ b. bytes_eq key (text_view m.0).bytes || b
 
 -- The fault of a key, where this is read of it.
 module _ (t : List ℕ) (os : List Open) (n : ℕ) (ms : List Member) (i : ℕ) (stands : HaveKeyBase os n (length ms)) where
-  abbrev Refused : Option (Kind × ℕ)
-  Refused = refused_in lent_unique t os ms i
+  abbrev AllocFailed : Option (Kind × ℕ)
+  AllocFailed = refused_in lent_unique t os ms i
 
   refused-read : (os : List Open) → HaveKeyBase os n (length ms) → (k : Text) (e : ℕ) → string_at whole t i ≡ taken k e
       → refused_in lent_unique t os ms i
-      ≡ cond (has_key k.bytes (drop (innermost_base os) ms)) (behind_its_colon k.bytes (step t colon e)) None
+      ≡ cond (has_key k.bytes (drop (innermost_base os) ms)) (after_its_colon k.bytes (step t colon e)) None
   refused-read [] b k e is = absurd b
   refused-read (o ∷ os) b k e is =
       let among = has_key-among k.bytes (drop o.base ms) in
@@ -61,16 +61,16 @@ module _ (t : List ℕ) (os : List Open) (n : ℕ) (ms : List Member) (i : ℕ) 
   refused-failed [] b k j is = absurd b
   refused-failed (o ∷ os) b k j is = rw is refl
 
-  pub no-key : (k : Kind) (j : ℕ) → string_at whole t i ≡ failed k j → Refused ≡ None
+  pub no-key : (k : Kind) (j : ℕ) → string_at whole t i ≡ failed k j → AllocFailed ≡ None
   no-key k j is = refused-failed os stands k j is
 
   pub new-key : (k : Text) (e : ℕ) → string_at whole t i ≡ taken k e
-      → has_key k.bytes (drop (innermost_base os) ms) ≡ false → Refused ≡ None
+      → has_key k.bytes (drop (innermost_base os) ms) ≡ false → AllocFailed ≡ None
   new-key k e is other = refused-read os stands k e is ∙ (rw other refl)
 
   pub old-key : (k : Text) (e : ℕ) → string_at whole t i ≡ taken k e
       → has_key k.bytes (drop (innermost_base os) ms) ≡ true
-      → Refused ≡ behind_its_colon k.bytes (step t colon e)
+      → AllocFailed ≡ after_its_colon k.bytes (step t colon e)
   old-key k e is same = refused-read os stands k e is ∙ (rw same refl)
 
 -- A repeated key's fault is that of the reading: no container forgives it.

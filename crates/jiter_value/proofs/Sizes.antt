@@ -5,8 +5,8 @@ use Rattle.std.proofs.lemmas.List.{reverse-append, take-append-le}
 use Rattle.jiter_steps.specs.Frames.{Frame}
 use Rattle.jiter_steps.specs.Tree.{Text, Tree}
 use Rattle.jiter_steps.specs.StringDecoder.{text_view}
-use Rattle.jiter_steps.specs.declared.parse.Shape.{Shape}
-use Rattle.jiter_steps.specs.declared.parse.Shape.TheVariants as shape
+use Rattle.jiter_steps.specs.declared.parse.ContainerKind.{ContainerKind}
+use Rattle.jiter_steps.specs.declared.parse.ContainerKind.TheVariants as shape
 use Rattle.jiter_value.specs.Value.{view}
 use Rattle.jiter_value.specs.declared.value.JsonValue.{JsonValue}
 use Rattle.jiter_value.specs.declared.stacks.Open.{Open}
@@ -14,7 +14,7 @@ use Rattle.jiter_value.specs.declared.stacks.Slot.TheVariants as slot
 use Rattle.jiter_value.specs.Stacks.{Member, member_view, frames, PartTree, built, parts_above, frames_below, HaveBases}
 use Rattle.jiter_value.specs.Stacks.{HaveKeyBase, slot_in}
 use Rattle.jiter_value.specs.Size.{size, items_size, members_size, parts_size, frames_size, inside_size_in}
-use Rattle.jiter_value.specs.Size.{behind_size_in}
+use Rattle.jiter_value.specs.Size.{after_size_in}
 use Rattle.jiter_value.proofs.StackTurns.{value-frames, above-more}
 
 items_size-push : (xs : List Tree) (x : Tree) → items_size (xs ++ x ∷ []) ≡ items_size xs + size x
@@ -28,7 +28,7 @@ members_size-push (y ∷ ys) m = let rest = members_size-push ys m in omega arit
 
 pub put-item-size : (os : List Open) (es : List JsonValue) (ms : List Member) (root v : JsonValue)
     → HaveBases slot.Item os (length es) (length ms)
-    → behind_size_in slot.Item os (es ++ v ∷ []) ms root ≡ frames_size (frames slot.Item os es ms) + size (view v)
+    → after_size_in slot.Item os (es ++ v ∷ []) ms root ≡ frames_size (frames slot.Item os es ms) + size (view v)
 put-item-size [] es ms root v h = absurd h
 put-item-size (o ∷ os) es ms root v h =
     let grown = items_size-push (map view (drop o.base es)) (view v) in
@@ -36,7 +36,7 @@ put-item-size (o ∷ os) es ms root v h =
 
 pub put-value-size : (os : List Open) (es : List JsonValue) (before : List Member) (m : Member) (root v : JsonValue)
     → HaveKeyBase os (length es) (length before)
-    → behind_size_in slot.Member os es (before ++ (m.0, v) ∷ []) root ≡ frames_size
+    → after_size_in slot.Member os es (before ++ (m.0, v) ∷ []) root ≡ frames_size
     (frames slot.Member os es (before ++ m ∷ [])) + size (view v)
 put-value-size [] es before m root v h = absurd h
 put-value-size (o ∷ os) es before m root v h =
@@ -46,11 +46,11 @@ put-value-size (o ∷ os) es before m root v h =
     (omega (arith, grown, was))
 
 -- a container that ends holds what it held
-built-size : (h : Shape) (xs : List (PartTree h)) → size (built h xs) ≡ suc (parts_size h xs)
+built-size : (h : ContainerKind) (xs : List (PartTree h)) → size (built h xs) ≡ suc (parts_size h xs)
 built-size shape.Array xs = refl
 built-size shape.Object xs = refl
 
-pub container-size : (h : Shape) (nest init : List Open) (o : Open) (es : List JsonValue) (ms : List Member)
+pub container-size : (h : ContainerKind) (nest init : List Open) (o : Open) (es : List JsonValue) (ms : List Member)
     (fs : List (Frame Text Tree)) (x : Tree)
     → nest ≡ init ++ o ∷ [] → fs ≡ frames_below h o (reverse init) es ms → x ≡ built h (parts_above h o.base es ms)
     → inside_size_in h (reverse nest) es ms ≡ frames_size fs + size x
@@ -58,14 +58,14 @@ container-size h nest init o es ms fs x is below made =
     let counts = built-size h (parts_above h o.base es ms) in
     rw (is, reverse-append init (o ∷ []), below, made) (omega (arith, counts))
 
--- a container behind a value holds what it holds where it awaits none
-pub behind-part-size : (h : Shape) (os : List Open) (es : List JsonValue) (ms : List Member) (root : JsonValue)
+-- a container after a value holds what it holds where it awaits none
+pub after-part-size : (h : ContainerKind) (os : List Open) (es : List JsonValue) (ms : List Member) (root : JsonValue)
     → HaveBases (slot_in h) os (length es) (length ms)
-    → behind_size_in (slot_in h) os es ms root ≡ inside_size_in h os es ms
-behind-part-size shape.Array [] es ms root b = absurd b
-behind-part-size shape.Array (o ∷ os) es ms root b = refl
-behind-part-size shape.Object [] es ms root b = absurd b
-behind-part-size shape.Object (o ∷ os) es ms root b = refl
+    → after_size_in (slot_in h) os es ms root ≡ inside_size_in h os es ms
+after-part-size shape.Array [] es ms root b = absurd b
+after-part-size shape.Array (o ∷ os) es ms root b = refl
+after-part-size shape.Object [] es ms root b = absurd b
+after-part-size shape.Object (o ∷ os) es ms root b = refl
 
 -- a key that awaits its value counts one
 pub key-size : (os : List Open) (es : List JsonValue) (before : List Member) (m : Member)

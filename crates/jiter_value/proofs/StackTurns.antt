@@ -22,8 +22,8 @@ use Rattle.jiter_steps.specs.Read.{Reading, Container, done, fault, value_at, sc
 use Rattle.jiter_steps.specs.declared.read_error.ReadError.{ReadError}
 use Rattle.jiter_steps.specs.Frames.{Frame, members_frame, resolve_step, resume, parts_from, parts_step, value_in}
 use Rattle.jiter_steps.specs.Frames.{array_in, object_in, value_from}
-use Rattle.jiter_steps.specs.declared.parse.Shape.{Shape}
-use Rattle.jiter_steps.specs.declared.parse.Shape.TheVariants as shape
+use Rattle.jiter_steps.specs.declared.parse.ContainerKind.{ContainerKind}
+use Rattle.jiter_steps.specs.declared.parse.ContainerKind.TheVariants as shape
 use Rattle.jiter_steps.proofs.Reading.Values.{Advances}
 use Rattle.jiter_steps.proofs.Calls.Resumed.{IgnoresBegin, value_in-levels, value_in-limit, if_forgiven-no}
 use Rattle.jiter_steps.proofs.Calls.Resumed.{resume-fault}
@@ -34,7 +34,7 @@ use Rattle.jiter_value.specs.Settings.{Keeping, forgives, rules_as}
 use Rattle.jiter_value.specs.Stacks.{Member, member_view, last_key_of, last_key, but_last, frames, PartTree, built}
 use Rattle.jiter_value.specs.Stacks.{parts_above, frames_below, HaveBases, HaveKeyBase, key_in, key_fault_in}
 use Rattle.jiter_value.specs.Stacks.{refused_in}
-use Rattle.jiter_value.specs.Stacks.{behind_in, container_in, slot_in, empty_tree, Stands}
+use Rattle.jiter_value.specs.Stacks.{after_in, container_in, slot_in, empty_tree, Stands}
 use Rattle.jiter_value.specs.Turns.{Fails, IsResolved}
 use Rattle.jiter_value.specs.Value.{view}
 use Rattle.jiter_value.specs.declared.settings.Settings.{Settings}
@@ -104,7 +104,7 @@ length-frames slot.Item (o ∷ os) n m es ms h = ap suc (length-frames o.outer o
 length-frames slot.Member (o ∷ os) n m es ms h = ap suc (length-frames o.outer os n o.base es (take o.base ms) h.1)
 length-frames _ (o ∷ os) n m es ms h = absurd h
 
--- A value that is awaited stands behind the last key.
+-- A value that is awaited stands after the last key.
 pub last-member : (os : List Open) (n : ℕ) (ms : List Member) → HaveBases slot.Member os n (length ms)
     → (m : Member) × (ms ≡ take (length ms - 1) ms ++ m ∷ []) × HaveKeyBase os n (length (take (length ms - 1) ms))
 last-member [] n ms h = absurd h
@@ -138,7 +138,7 @@ module _ (made : Keeping) (p : Settings) (t : List ℕ) where
   -- A value goes where it belongs.
   pub put-item : (os : List Open) (es : List JsonValue) (ms : List Member) (root v : JsonValue) (e : ℕ)
       → HaveBases slot.Item os (length es) (length ms)
-      → resume (rules_as made p) t (frames slot.Item os es ms) (done (view v) e) ≡ behind_in made p t slot.Item os
+      → resume (rules_as made p) t (frames slot.Item os es ms) (done (view v) e) ≡ after_in made p t slot.Item os
       (es ++ v ∷ [])
       ms root e
   put-item [] es ms root v e h = absurd h
@@ -146,7 +146,7 @@ module _ (made : Keeping) (p : Settings) (t : List ℕ) where
 
   pub put-value : (os : List Open) (es : List JsonValue) (before : List Member) (m : Member) (root v : JsonValue)
       (e : ℕ) → HaveKeyBase os (length es) (length before)
-      → resume (rules_as made p) t (frames slot.Member os es (before ++ m ∷ [])) (done (view v) e) ≡ behind_in made p t
+      → resume (rules_as made p) t (frames slot.Member os es (before ++ m ∷ [])) (done (view v) e) ≡ after_in made p t
       slot.Member os es (before ++ (m.0, v) ∷ []) root e
   put-value [] es before m root v e h = absurd h
   put-value (o ∷ os) es before m root v e h =
@@ -157,41 +157,41 @@ module _ (made : Keeping) (p : Settings) (t : List ℕ) where
       ) refl
 
   -- A container ends.
-  pub container-closes : (h : Shape) (nest init : List Open) (o : Open) (es : List JsonValue) (ms : List Member)
+  pub container-closes : (h : ContainerKind) (nest init : List Open) (o : Open) (es : List JsonValue) (ms : List Member)
       (fs : List (Frame Text Tree)) (x : Tree) (e : ℕ)
       → nest ≡ init ++ o ∷ [] → fs ≡ frames_below h o (reverse init) es ms → x ≡ built h (parts_above h o.base es ms)
       → container_in made p t h (reverse nest) es ms e ≡ resume (rules_as made p) t fs (done x e)
   container-closes h nest init o es ms fs x e is below made =
       rw (is, reverse-append init (o ∷ []), below, made) refl
 
-  -- Behind a part: the step that is taken there, inside what stands below.
-  abbrev pub container_of : (h : Shape) → ℕ → Container (PartTree h) Tree
+  -- After a part: the step that is taken there, inside what stands below.
+  abbrev pub container_of : (h : ContainerKind) → ℕ → Container (PartTree h) Tree
   container_of shape.Array depth = array_in (rules_as made p) t depth
   container_of shape.Object depth = object_in (rules_as made p) t depth
 
-  -- where a step behind a part of it leads
-  behind-to : (h : Shape) (o : Open) (os : List Open) (es : List JsonValue) (ms : List Member) (root : JsonValue)
+  -- where a step after a part of it leads
+  after-to : (h : ContainerKind) (o : Open) (os : List Open) (es : List JsonValue) (ms : List Member) (root : JsonValue)
       (e : ℕ) (u : Step) → resolve_step (forgives p.mode) (step t (container_step h t) e) ≡ u
-      → behind_in made p t (slot_in h) (o ∷ os) es ms root e ≡ resume (rules_as made p) t (frames_below h o os es ms)
+      → after_in made p t (slot_in h) (o ∷ os) es ms root e ≡ resume (rules_as made p) t (frames_below h o os es ms)
       (parts_step (rules_as made p) t (container_of h (length (frames_below h o os es ms)))
       (parts_above h o.base es ms) u)
-  behind-to shape.Array o os es ms root e u is =
+  after-to shape.Array o os es ms root e u is =
       let fs = frames o.outer os (take o.base es) ms in
       step-to (rules_as made p) t (array_in (rules_as made p) t (length fs)) fs (map view (drop o.base es)) _ u is
-  behind-to shape.Object o os es ms root e u is =
+  after-to shape.Object o os es ms root e u is =
       let fs = frames o.outer os es (take o.base ms) in
       step-to (rules_as made p) t (object_in (rules_as made p) t (length fs)) fs (map member_view (drop o.base ms)) _
       u is
 
   -- what a container of these parts ends as
-  built-to : (h : Shape) (fs : List (Frame Text Tree)) (xs : List (PartTree h)) (c : ℕ)
+  built-to : (h : ContainerKind) (fs : List (Frame Text Tree)) (xs : List (PartTree h)) (c : ℕ)
       → resume (rules_as made p) t fs (parts_step (rules_as made p) t (container_of h (length fs)) xs (closed c))
       ≡ resume (rules_as made p) t fs (done (built h xs) c)
   built-to shape.Array fs xs c = refl
   built-to shape.Object fs xs c = refl
 
   -- and a fault in it that is not forgiven
-  stuck-to : (h : Shape) (fs : List (Frame Text Tree)) (xs : List (PartTree h)) (k : Kind) (j : ℕ)
+  stuck-to : (h : ContainerKind) (fs : List (Frame Text Tree)) (xs : List (PartTree h)) (k : Kind) (j : ℕ)
       → forgives p.mode k ≡ false
       → resume (rules_as made p) t fs (parts_step (rules_as made p) t (container_of h (length fs)) xs (stuck k j)) ≡
       fault k j j
@@ -199,16 +199,16 @@ module _ (made : Keeping) (p : Settings) (t : List ℕ) where
       step-stuck (rules_as made p) t (container_of h (length fs)) fs xs (stuck k j) k j
       (ap (λ y. cond y (closed j) (stuck k j)) bad) bad
 
-  outermost : (h : Shape) (n m : ℕ) → HaveBases (slot_in h) [] n m → ⊥
+  outermost : (h : ContainerKind) (n m : ℕ) → HaveBases (slot_in h) [] n m → ⊥
   outermost shape.Array n m b = b
   outermost shape.Object n m b = b
 
   -- a part of the innermost container is awaited at j
-  abbrev pub part_in : Shape → List Open → List JsonValue → List Member → ℕ → Reading Tree
+  abbrev pub part_in : ContainerKind → List Open → List JsonValue → List Member → ℕ → Reading Tree
   part_in shape.Array os es ms j = value_from (rules_as made p) t (frames slot.Item os es ms) j
   part_in shape.Object os es ms j = key_in made p t os es ms j
 
-  pub next-part : (h : Shape) (o : Open) (os : List Open) (es : List JsonValue) (ms : List Member) (j : ℕ)
+  pub next-part : (h : ContainerKind) (o : Open) (os : List Open) (es : List JsonValue) (ms : List Member) (j : ℕ)
       → j < length t
       → resume (rules_as made p) t (frames_below h o os es ms)
       (parts_from (rules_as made p) t (container_of h (length (frames_below h o os es ms)))
@@ -218,31 +218,31 @@ module _ (made : Keeping) (p : Settings) (t : List ℕ) where
       items-value (rules_as made p) t good (frames o.outer os (take o.base es) ms) (map view (drop o.base es)) j h
   next-part shape.Object o os es ms j h = refl
 
-  module _ (h : Shape) (es : List JsonValue) (ms : List Member) (root : JsonValue) (e : ℕ) where
-    pub behind-more : (os : List Open) (j : ℕ) → HaveBases (slot_in h) os (length es) (length ms)
+  module _ (h : ContainerKind) (es : List JsonValue) (ms : List Member) (root : JsonValue) (e : ℕ) where
+    pub after-more : (os : List Open) (j : ℕ) → HaveBases (slot_in h) os (length es) (length ms)
         → step t (container_step h t) e ≡ more j → j < length t
-        → behind_in made p t (slot_in h) os es ms root e ≡ part_in h os es ms j
-    behind-more [] j b s lt = absurd (outermost h (length es) (length ms) b)
-    behind-more (o ∷ os) j b s lt =
-        behind-to h o os es ms root e (more j) (ap (resolve_step (forgives p.mode)) s) ∙ next-part h o os es ms j lt
+        → after_in made p t (slot_in h) os es ms root e ≡ part_in h os es ms j
+    after-more [] j b s lt = absurd (outermost h (length es) (length ms) b)
+    after-more (o ∷ os) j b s lt =
+        after-to h o os es ms root e (more j) (ap (resolve_step (forgives p.mode)) s) ∙ next-part h o os es ms j lt
 
-    pub behind-closed : (os : List Open) (c : ℕ) → HaveBases (slot_in h) os (length es) (length ms)
+    pub after-closed : (os : List Open) (c : ℕ) → HaveBases (slot_in h) os (length es) (length ms)
         → resolve_step (forgives p.mode) (step t (container_step h t) e) ≡ closed c
-        → behind_in made p t (slot_in h) os es ms root e ≡ container_in made p t h os es ms c
-    behind-closed [] c b s = absurd (outermost h (length es) (length ms) b)
-    behind-closed (o ∷ os) c b s =
-        behind-to h o os es ms root e (closed c) s
+        → after_in made p t (slot_in h) os es ms root e ≡ container_in made p t h os es ms c
+    after-closed [] c b s = absurd (outermost h (length es) (length ms) b)
+    after-closed (o ∷ os) c b s =
+        after-to h o os es ms root e (closed c) s
         ∙ built-to h (frames_below h o os es ms) (parts_above h o.base es ms) c
 
     -- a fault that is not forgiven
-    pub behind-fails : (os : List Open) (j : ℕ) (error : ReadError)
+    pub after-fails : (os : List Open) (j : ℕ) (error : ReadError)
         → HaveBases (slot_in h) os (length es) (length ms)
         → IsResolved p false error j (step t (container_step h t) e)
-        → Fails error j (behind_in made p t (slot_in h) os es ms root e)
-    behind-fails [] j error b r = absurd (outermost h (length es) (length ms) b)
-    behind-fails (o ∷ os) j error b r =
+        → Fails error j (after_in made p t (slot_in h) os es ms root e)
+    after-fails [] j error b r = absurd (outermost h (length es) (length ms) b)
+    after-fails (o ∷ os) j error b r =
         rw (r.1, r.2)
-        (behind-to h o os es ms root e (stuck (fault_kind r.0.kind) j) r.3
+        (after-to h o os es ms root e (stuck (fault_kind r.0.kind) j) r.3
         ∙ stuck-to h (frames_below h o os es ms) (parts_above h o.base es ms) (fault_kind r.0.kind) j r.4)
 
   -- A fault where a value is awaited.
@@ -274,22 +274,22 @@ module _ (made : Keeping) (p : Settings) (t : List ℕ) where
     value-read x is = ap (resume (rules_as made p) t fs) (value_in-levels (rules_as made p) t (length fs) i low ∙ is
         (200 - length fs))
 
-    -- a container begins, by where the step behind its bracket leads
-    pub begins : (h : Shape) (u : Step) → start_of (slice_index t i) ≡ opening h
+    -- a container begins, by where the step after its bracket leads
+    pub begins : (h : ContainerKind) (u : Step) → start_of (slice_index t i) ≡ opening h
         → resolve_step (forgives p.mode) (step t (container_first h) (i + 1)) ≡ u
         → value_from (rules_as made p) t fs i ≡ resume (rules_as made p) t fs
         (parts_step (rules_as made p) t (container_of h (length fs)) [] u)
     begins shape.Array u is s = container-begins (rules_as made p) t good any fs i u low shape.Array is s
     begins shape.Object u is s = container-begins (rules_as made p) t good any fs i u low shape.Object is s
 
-    pub begins-closed : (h : Shape) (c : ℕ) → start_of (slice_index t i) ≡ opening h
+    pub begins-closed : (h : ContainerKind) (c : ℕ) → start_of (slice_index t i) ≡ opening h
         → resolve_step (forgives p.mode) (step t (container_first h) (i + 1)) ≡ closed c
         → value_from (rules_as made p) t fs i ≡ resume (rules_as made p) t fs (done (empty_tree h) c)
     begins-closed shape.Array c is s = begins shape.Array (closed c) is s
     begins-closed shape.Object c is s = begins shape.Object (closed c) is s
 
-    -- a fault behind its bracket that is not forgiven
-    pub begins-fails : (h : Shape) (j : ℕ) (error : ReadError) → start_of (slice_index t i) ≡ opening h
+    -- a fault after its bracket that is not forgiven
+    pub begins-fails : (h : ContainerKind) (j : ℕ) (error : ReadError) → start_of (slice_index t i) ≡ opening h
         → IsResolved p false error j (step t (container_first h) (i + 1))
         → Fails error j (value_from (rules_as made p) t fs i)
     begins-fails h j error is r =
@@ -310,7 +310,7 @@ module _ (made : Keeping) (p : Settings) (t : List ℕ) where
   limit-reached a os es ms j b full =
       limit-in (frames a os es ms) j (length-frames a os (length es) (length ms) es ms b ∙ full)
 
-  -- the same behind a key
+  -- the same after a key
   pub key-limit : (k : Text) (os : List Open) (es : List JsonValue) (ms : List Member) (j : ℕ)
       → HaveKeyBase os (length es) (length ms) → length os ≡ 201
       → value_from (rules_as made p) t (frames_at_key k os es ms) j ≡ fault recursion_limit j j
@@ -383,7 +383,7 @@ pub key-base : (os : List Open) (n m : ℕ) → HaveBases slot.Member os n m →
 key-base [] n m h = absurd h
 key-base (o ∷ os) n m h = (omega (arith, h.0), h.1)
 
--- and behind a key one is awaited
+-- and after a key one is awaited
 pub key-above : (os : List Open) (n : ℕ) (ms : List Member) (m : Member) → HaveKeyBase os n (length ms)
     → HaveBases slot.Member os n (length (ms ++ m ∷ []))
 key-above [] n ms m h = absurd h
@@ -410,7 +410,7 @@ pub root-alone : (os : List Open) (n m : ℕ) → HaveBases slot.Root os n m →
 root-alone [] n m h = refl
 root-alone (o ∷ os) n m h = absurd h
 
--- Behind the document's value nothing is held.
+-- After the document's value nothing is held.
 pub root-holds-nothing : (s : Stacks) → Stands s slot.Root → HoldsNothing s
 root-holds-nothing s h =
     let none : s.nest.items ≡ [] = nil_from_length s.nest.items

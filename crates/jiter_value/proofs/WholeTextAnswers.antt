@@ -13,13 +13,13 @@ use Rattle.jiter_scan.specs.declared.partial_mode.PartialMode.TheVariants.{Off, 
 use Rattle.jiter_steps.specs.Answer.{answer_in}
 use Rattle.jiter_steps.specs.Blank.{past_blanks}
 use Rattle.jiter_steps.specs.Parse.{Gives}
-use Rattle.jiter_steps.specs.Read.{Reading, done, fault, Rules, value_at, if_begun, if_last, to_end, front_answer}
+use Rattle.jiter_steps.specs.Read.{Reading, done, fault, Rules, value_at, if_begun, if_last, to_end, prefix_answer}
 use Rattle.jiter_steps.specs.Read.{whole_answer}
 use Rattle.jiter_steps.specs.Step.{step, value_first, document_end}
 use Rattle.jiter_steps.specs.Tree.{Text, Tree}
 use Rattle.jiter_steps.specs.declared.read_error.ReadError.{ReadError}
 use Rattle.jiter_steps.specs.declared.read_error.ReadError.TheVariants as error
-use Rattle.jiter_steps.proofs.Reading.WholeTexts.{front-begins, whole-is}
+use Rattle.jiter_steps.proofs.Reading.WholeTexts.{prefix-begins, whole-is}
 use Rattle.jiter_steps.proofs.Reading.Bounds.{Within}
 use Rattle.jiter_steps.proofs.Reading.Instances.{answer-within, partial_answer-within}
 use Rattle.jiter_value.specs.Reading.{GivesWhole, IsErrorOf}
@@ -35,7 +35,7 @@ use Rattle.jiter_value.specs.declared.stacks.State.{State}
 use Rattle.jiter_value.specs.declared.stacks.State.TheVariants as state
 use Rattle.jiter_value.proofs.StackTurns.{root-from, root-alone}
 
--- where a value begins, a byte stands behind blanks
+-- where a value begins, a byte stands after blanks
 begins-at : (i j : ℕ) (o : Option ℕ) → value_first j o ≡ taken tt i → j ≡ i
 begins-at i j None h = absurd (cc)
 begins-at i j (Some c) h = cc
@@ -48,12 +48,12 @@ no-value : (r : Rules Text Tree) (t : List ℕ) (i : ℕ) (o : Option ℕ) (k : 
 no-value r t i None k j h = cc
 no-value r t i (Some c) k j h = absurd (cc)
 
-front-none : (r : Rules Text Tree) (t : List ℕ) (k : Kind) (j : ℕ) → step t value_first 0 ≡ failed k j
-    → front_answer r t ≡ fault k j j
-unfolding front_answer
-front-none r t k j h = no-value r t (past_blanks t 0) (slice_get t (past_blanks t 0)) k j h
+prefix-none : (r : Rules Text Tree) (t : List ℕ) (k : Kind) (j : ℕ) → step t value_first 0 ≡ failed k j
+    → prefix_answer r t ≡ fault k j j
+unfolding prefix_answer
+prefix-none r t k j h = no-value r t (past_blanks t 0) (slice_get t (past_blanks t 0)) k j h
 
--- behind a value, nothing or a fault
+-- after a value, nothing or a fault
 nothing-left : (a : Tree) (e i j : ℕ) (o : Option ℕ) → document_end j o ≡ taken tt i → if_last a e j o ≡ done a e
 nothing-left a e i j None h = refl
 nothing-left a e i j (Some c) h = absurd (cc)
@@ -71,27 +71,27 @@ answer_in-within names t TrailingStrings = partial_answer-within t names Trailin
 
 -- by any rules
 module _ (r : Rules Text Tree) (mode : PartialMode) (t : List ℕ) where
-  answer-is : (x : Reading Tree) → front_answer r t ≡ x
+  answer-is : (x : Reading Tree) → prefix_answer r t ≡ x
       → answer_with mode r t ≡ (if is_active mode then x else to_end t x)
   answer-is x is =
-      if_both (λ x y. x ≡ y) (is_active mode) (front_answer r t) (whole_answer r t) x (to_end t x) (λ on. is)
+      if_both (λ x y. x ≡ y) (is_active mode) (prefix_answer r t) (whole_answer r t) x (to_end t x) (λ on. is)
       (λ off. whole-is r t ∙ ap (to_end t) is)
 
-  fault-is : (k : Kind) (x i : ℕ) → front_answer r t ≡ fault k x i → answer_with mode r t ≡ fault k x i
+  fault-is : (k : Kind) (x i : ℕ) → prefix_answer r t ≡ fault k x i → answer_with mode r t ≡ fault k x i
   fault-is k x i is =
       answer-is (fault k x i) is ∙ if_case (λ y. y ≡ fault k x i) (is_active mode) _ _ (λ on. refl) (λ off. refl)
 
   -- where no value begins
   pub answer-none : (k : Kind) (x i : ℕ) → (step t value_first 0 ≡ failed k x) × (i ≡ x)
       → answer_with mode r t ≡ fault k x i
-  answer-none k x i h = fault-is k x i (front-none r t k x h.0 ∙ ap (fault k x) (sym h.1))
+  answer-none k x i h = fault-is k x i (prefix-none r t k x h.0 ∙ ap (fault k x) (sym h.1))
 
   module _ (begun : past_blanks t 0 < length t) where
     abbrev pub value_here : Reading Tree
     value_here = value_at r t 200 (past_blanks t 0)
 
-    begins : front_answer r t ≡ value_here
-    begins = front-begins r t (past_blanks t 0) refl begun
+    begins : prefix_answer r t ≡ value_here
+    begins = prefix-begins r t (past_blanks t 0) refl begun
 
     -- where the value is refused
     pub answer-fault : (k : Kind) (x i : ℕ) → value_here ≡ fault k x i → answer_with mode r t ≡ fault k x i
@@ -106,8 +106,8 @@ module _ (r : Rules Text Tree) (mode : PartialMode) (t : List ℕ) where
       value-is : answer_with mode r t ≡ (if is_active mode then done v e else to_end t (done v e))
       value-is = answer-is (done v e) (begins ∙ is)
 
-      pub answer-front : is_active mode ≡ true → answer_with mode r t ≡ done v e
-      answer-front on = value-is ∙ if-true (is_active mode) (done v e) (to_end t (done v e)) on
+      pub answer-prefix : is_active mode ≡ true → answer_with mode r t ≡ done v e
+      answer-prefix on = value-is ∙ if-true (is_active mode) (done v e) (to_end t (done v e)) on
 
       whole-value : is_active mode ≡ false → answer_with mode r t ≡ to_end t (done v e)
       whole-value off = value-is ∙ if-false (is_active mode) (done v e) (to_end t (done v e)) off

@@ -14,8 +14,8 @@ pub mod Machine
 pub mod TurnsTo
 pub mod Owned
 pub mod Pointer
-pub mod Texts
+pub mod StringStorage
 pub mod Scratch
 pub mod Equality
 pub mod ValueCode
-pub mod KeySets
+pub mod DuplicateKeys

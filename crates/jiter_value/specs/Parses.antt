@@ -35,7 +35,7 @@ pub record Manner (E : Type 0) : Type 1 where
   pub IsMemory : E → Type 0
   -- the text is a document, spelled by the node
   pub Spells : List ℕ → Node → Type 0
-  -- the text is a front of a document that is an array or an object: with its first bracket, and what the cut leaves
+  -- the text is a prefix of a document that is an array or an object: with its first bracket, and what the cut leaves
   -- of the document then; and without its last bracket
   pub Begun : List ℕ → Type 0
   pub left : PartialMode → (t : List ℕ) → Begun t → Option Tree
@@ -45,7 +45,7 @@ pub record Manner (E : Type 0) : Type 1 where
 
 -- no document begins with these bytes
 abbrev pub BeginsNone : (List ℕ → Node → Type 0) → List ℕ → Type 0
-BeginsNone Spells front = (rest : List ℕ) (n : Node) → Spells (front ++ rest) n → ⊥
+BeginsNone Spells prefix = (rest : List ℕ) (n : Node) → Spells (prefix ++ rest) n → ⊥
 
 -- What a parse returns: the value that was read, or the fault's kind and index, unless memory was refused.
 abbrev pub AnswersBy : {E : Type 0} → Manner E → Result JsonValue E → Reading Tree → Type 0
@@ -61,7 +61,7 @@ pub record ParsesBy {E : Type 0} (by : Manner E) (made : Tree → Tree) (Grows :
   -- In every mode a document is answered with its value, unless memory is refused.
   pub accepts : (n : Node) → by.Spells t n
       → MatchResult result (λ v. view v ≡ made (value_of t n)) (λ e. by.IsMemory e)
-  -- In a partial mode a front of an array or an object, its first bracket in it, is answered with exactly the
+  -- In a partial mode a prefix of an array or an object, its first bracket in it, is answered with exactly the
   -- document's cut there, unless memory is refused.
   pub cut : is_active mode ≡ true → (f : by.Begun t)
       → MatchResult result (λ v. option_map made (by.left mode t f) ≡ Some (view v)) (λ e. by.IsMemory e)

@@ -6,7 +6,7 @@ use Rattle.jiter_scan.specs.declared.partial_mode.PartialMode.{PartialMode}
 use Rattle.jiter_scan.specs.NumberReading.{number_at}
 use Rattle.jiter_steps.specs.Tree.{Text, Tree, items_of, members_of}
 use Rattle.jiter_steps.specs.Tree as tree
-use Rattle.jiter_steps.specs.Read.{Rules, Reading, front_answer, whole_answer}
+use Rattle.jiter_steps.specs.Read.{Rules, Reading, prefix_answer, whole_answer}
 use Rattle.jiter_steps.specs.Answer.{trees, seen_as, nothing_forgiven, value_form, answer_in}
 use Rattle.jiter_steps.specs.Literal.{literal_at, literal_tree}
 use Rattle.jiter_steps.specs.Node.{number_tree}
@@ -59,7 +59,7 @@ rules_as made p = record {
 
 -- what a text answers by these rules: in a partial mode its value, whatever follows it
 abbrev pub answer_with : PartialMode → Rules Text Tree → List ℕ → Reading Tree
-answer_with mode r t = if is_active mode then front_answer r t else whole_answer r t
+answer_with mode r t = if is_active mode then prefix_answer r t else whole_answer r t
 
 abbrev pub answer_as : Keeping → Settings → List ℕ → Reading Tree
 answer_as made p t = answer_with p.mode (rules_as made p) t

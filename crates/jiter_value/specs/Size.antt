@@ -2,8 +2,8 @@
 use Rattle.std.specs.Prelude.{ℕ, suc, ◌+◌, ◌*◌, ◌-◌, List, [], ◌∷◌, length, take, drop, reverse, map}
 use Rattle.jiter_steps.specs.Tree.{Text, Tree, null, boolean, int, big, float, string, array, object, Items, no_items}
 use Rattle.jiter_steps.specs.Tree.{item, Members, no_members, member, items_of, members_of}
-use Rattle.jiter_steps.specs.declared.parse.Shape.{Shape}
-use Rattle.jiter_steps.specs.declared.parse.Shape.TheVariants as shape
+use Rattle.jiter_steps.specs.declared.parse.ContainerKind.{ContainerKind}
+use Rattle.jiter_steps.specs.declared.parse.ContainerKind.TheVariants as shape
 use Rattle.jiter_value.specs.Value.{view}
 use Rattle.jiter_value.specs.declared.value.JsonValue.{JsonValue}
 use Rattle.jiter_value.specs.declared.stacks.Open.{Open}
@@ -46,24 +46,24 @@ frames_size [] = 0
 frames_size (items_frame xs ∷ fs) = suc (items_size xs) + frames_size fs
 frames_size (members_frame ms k ∷ fs) = suc (suc (members_size ms)) + frames_size fs
 
-abbrev pub parts_size : (h : Shape) → List (PartTree h) → ℕ
+abbrev pub parts_size : (h : ContainerKind) → List (PartTree h) → ℕ
 parts_size shape.Array xs = items_size xs
 parts_size shape.Object xs = members_size xs
 
 -- where the innermost container is of this shape, and awaits no value
-abbrev pub inside_size_in : Shape → List Open → List JsonValue → List Member → ℕ
+abbrev pub inside_size_in : ContainerKind → List Open → List JsonValue → List Member → ℕ
 inside_size_in h [] items members = 0
 inside_size_in h (o ∷ os) items members =
     suc (parts_size h (parts_above h o.base items members)) + frames_size (frames_below h o os items members)
 
-abbrev pub behind_size_in : Slot → List Open → List JsonValue → List Member → JsonValue → ℕ
-behind_size_in a [] items members root = size (view root)
-behind_size_in slot.Item (o ∷ os) items members root =
+abbrev pub after_size_in : Slot → List Open → List JsonValue → List Member → JsonValue → ℕ
+after_size_in a [] items members root = size (view root)
+after_size_in slot.Item (o ∷ os) items members root =
     suc (items_size (map view (drop o.base items))) + frames_size (frames o.outer os (take o.base items) members)
-behind_size_in slot.Member (o ∷ os) items members root =
+after_size_in slot.Member (o ∷ os) items members root =
     suc (members_size (map member_view (drop o.base members))) + frames_size
     (frames o.outer os items (take o.base members))
-behind_size_in slot.Root (o ∷ os) items members root = size (view root)
+after_size_in slot.Root (o ∷ os) items members root = size (view root)
 
 -- How many scalars, containers and keys are held, open containers and awaiting keys among them; at the end n.
 abbrev pub held_in : State → List Open → List JsonValue → List Member → ℕ → ℕ
@@ -74,18 +74,18 @@ held_in state.Key os items members n = inside_size_in shape.Object os items memb
 held_in state.Done os items members n = n
 held_in state.GivenUp os items members n = n
 
--- the same of all that is held: where a value is awaited, a key, and behind a value
+-- the same of all that is held: where a value is awaited, a key, and after a value
 abbrev pub value_size : Stacks → Slot → ℕ
 value_size s a = frames_size (frames a (reverse s.nest.items) s.items.items s.members.items)
 
 abbrev pub key_size : Stacks → ℕ
 key_size s = inside_size_in shape.Object (reverse s.nest.items) s.items.items s.members.items
 
-abbrev pub behind_size : Stacks → Slot → ℕ
-behind_size s a = behind_size_in a (reverse s.nest.items) s.items.items s.members.items s.root
+abbrev pub after_size : Stacks → Slot → ℕ
+after_size s a = after_size_in a (reverse s.nest.items) s.items.items s.members.items s.root
 
 -- the same where the innermost container is of this shape, and awaits no value
-abbrev pub inside_size : Shape → Stacks → ℕ
+abbrev pub inside_size : ContainerKind → Stacks → ℕ
 inside_size h s = inside_size_in h (reverse s.nest.items) s.items.items s.members.items
 
 -- the same of the stacks; at the end how many the value has

@@ -10,8 +10,8 @@ use Rattle.jiter_steps.specs.Tree.{Text, Tree, array, object, items_of, members_
 use Rattle.jiter_steps.specs.Read.{Reading, done, fault, if_forgiven}
 use Rattle.jiter_steps.specs.Step.{end_kind_of}
 use Rattle.jiter_steps.specs.StringDecoder.{text_view}
-use Rattle.jiter_steps.specs.declared.parse.Shape.{Shape}
-use Rattle.jiter_steps.specs.declared.parse.Shape.TheVariants as shape
+use Rattle.jiter_steps.specs.declared.parse.ContainerKind.{ContainerKind}
+use Rattle.jiter_steps.specs.declared.parse.ContainerKind.TheVariants as shape
 use Rattle.jiter_steps.specs.Frames.{Frame, items_frame, members_frame, resume, value_from, key_from, items_from}
 use Rattle.jiter_steps.specs.Frames.{members_from}
 use Rattle.jiter_value.specs.Settings.{Keeping, refused_as, rules_as}
@@ -89,21 +89,21 @@ frames slot.Member (o ∷ os) items members =
 frames slot.Root (o ∷ os) items members = []
 
 -- What arrays and objects have in common: the tree of a part, and that of a container of these parts,
-abbrev pub PartTree : Shape → Type 0
+abbrev pub PartTree : ContainerKind → Type 0
 PartTree shape.Array = Tree
 PartTree shape.Object = Text × Tree
 
-abbrev pub built : (h : Shape) → List (PartTree h) → Tree
+abbrev pub built : (h : ContainerKind) → List (PartTree h) → Tree
 built shape.Array xs = array (items_of xs)
 built shape.Object xs = object (members_of xs)
 
 -- the parts that stand above a base,
-abbrev pub parts_above : (h : Shape) → ℕ → List JsonValue → List Member → List (PartTree h)
+abbrev pub parts_above : (h : ContainerKind) → ℕ → List JsonValue → List Member → List (PartTree h)
 parts_above shape.Array n items members = map view (drop n items)
 parts_above shape.Object n items members = map member_view (drop n members)
 
 -- and what stands below an open container.
-abbrev pub frames_below : Shape → Open → List Open → List JsonValue → List Member → List (Frame Text Tree)
+abbrev pub frames_below : ContainerKind → Open → List Open → List JsonValue → List Member → List (Frame Text Tree)
 frames_below shape.Array o os items members = frames o.outer os (take o.base items) members
 frames_below shape.Object o os items members = frames o.outer os items (take o.base members)
 
@@ -127,7 +127,7 @@ HaveKeyBase [] n m = ⊥
 HaveKeyBase (o ∷ os) n m = (o.base ≤ m) × HaveBases o.outer os n o.base
 
 -- the same where the innermost is of this shape, and awaits no value
-abbrev pub HavePartBase : Shape → List Open → ℕ → ℕ → Type 0
+abbrev pub HavePartBase : ContainerKind → List Open → ℕ → ℕ → Type 0
 HavePartBase shape.Array os n m = HaveBases slot.Item os n m
 HavePartBase shape.Object os n m = HaveKeyBase os n m
 
@@ -148,17 +148,17 @@ module _ (made : Keeping) (p : Settings) (t : List ℕ) where
       stop)
 
   -- where the innermost container has a value that ends at e
-  abbrev pub behind_in : Slot → List Open → List JsonValue → List Member → JsonValue → ℕ → Reading Tree
-  behind_in a [] items members root e = done (view root) e
-  behind_in slot.Item (o ∷ os) items members root e =
+  abbrev pub after_in : Slot → List Open → List JsonValue → List Member → JsonValue → ℕ → Reading Tree
+  after_in a [] items members root e = done (view root) e
+  after_in slot.Item (o ∷ os) items members root e =
       items_from (rules_as made p) t (frames o.outer os (take o.base items) members) (map view (drop o.base items)) e
-  behind_in slot.Member (o ∷ os) items members root e =
+  after_in slot.Member (o ∷ os) items members root e =
       members_from (rules_as made p) t (frames o.outer os items (take o.base members))
       (map member_view (drop o.base members)) e
-  behind_in slot.Root (o ∷ os) items members root e = done (view root) e
+  after_in slot.Root (o ∷ os) items members root e = done (view root) e
 
   -- where the innermost container ends at e
-  abbrev pub container_in : Shape → List Open → List JsonValue → List Member → ℕ → Reading Tree
+  abbrev pub container_in : ContainerKind → List Open → List JsonValue → List Member → ℕ → Reading Tree
   container_in h [] items members e = fault (end_kind_of h) e e
   container_in h (o ∷ os) items members e =
       resume (rules_as made p) t (frames_below h o os items members)
@@ -177,10 +177,10 @@ module _ (made : Keeping) (p : Settings) (t : List ℕ) where
   abbrev pub key_fault : Stacks → Kind → ℕ → ℕ → Reading Tree
   key_fault s k x stop = key_fault_in (reverse s.nest.items) s.items.items s.members.items k x stop
 
-  abbrev pub behind : Stacks → Slot → ℕ → Reading Tree
-  behind s a e = behind_in a (reverse s.nest.items) s.items.items s.members.items s.root e
+  abbrev pub after : Stacks → Slot → ℕ → Reading Tree
+  after s a e = after_in a (reverse s.nest.items) s.items.items s.members.items s.root e
 
-  abbrev pub container_ends : Shape → Stacks → ℕ → Reading Tree
+  abbrev pub container_ends : ContainerKind → Stacks → ℕ → Reading Tree
   container_ends h s e = container_in h (reverse s.nest.items) s.items.items s.members.items e
 
   -- What the rest of the text completes the machine to.
@@ -203,7 +203,7 @@ abbrev pub without_root : Stacks → Stacks
 without_root s = record s { root = Null }
 
 -- the innermost container is of this shape, and awaits no value
-abbrev pub StandsInside : Shape → Stacks → Type 0
+abbrev pub StandsInside : ContainerKind → Stacks → Type 0
 StandsInside h s = HavePartBase h (reverse s.nest.items) (length s.items.items) (length s.members.items)
 
 -- the key at j is not refused for the members before it
@@ -211,11 +211,11 @@ abbrev pub IsFree : Keeping → List ℕ → Stacks → ℕ → Type 0
 IsFree made t s j = refused_in made t (reverse s.nest.items) s.members.items j ≡ None
 
 -- where a value of a container goes, and what is awaited where a part of it begins
-abbrev pub slot_in : Shape → Slot
+abbrev pub slot_in : ContainerKind → Slot
 slot_in shape.Array = slot.Item
 slot_in shape.Object = slot.Member
 
-abbrev pub part_of : Shape → State
+abbrev pub part_of : ContainerKind → State
 part_of shape.Array = state.Item
 part_of shape.Object = state.Key
 
@@ -226,12 +226,12 @@ slot_of state.Member = slot.Member
 slot_of _ = slot.Root
 
 -- how many parts lie below those of a container that begins
-abbrev pub base_of : Shape → Stacks → ℕ
+abbrev pub base_of : ContainerKind → Stacks → ℕ
 base_of shape.Array s = length s.items.items
 base_of shape.Object s = length s.members.items
 
 -- its tree where it has no part
-abbrev pub empty_tree : Shape → Tree
+abbrev pub empty_tree : ContainerKind → Tree
 empty_tree shape.Array = array (items_of [])
 empty_tree shape.Object = object (members_of [])
 

@@ -1,20 +1,20 @@
--- What a turn leads to, where each text that is read is made so, and how much is left behind it.
+-- What a turn leads to, where each text that is read is made so, and how much is left after it.
 use Rattle.std.specs.Prelude.{◌≡◌, ◌⊎◌, ℕ, ◌+◌, ◌≤◌, ◌<◌, Result, Ok, Err, OnOk, IfOk, Bool, true, false, List}
 use Rattle.std.specs.Prelude.{length}
 use Rattle.jiter_scan.specs.Kind.{fault_kind}
 use Rattle.jiter_scan.specs.declared.errors.Fault.{Fault}
-use Rattle.jiter_scan.specs.declared.memory.Refused.{Refused}
+use Rattle.jiter_scan.specs.declared.memory.AllocFailed.{AllocFailed}
 use Rattle.jiter_steps.specs.Frames.{resolve_step}
 use Rattle.jiter_steps.specs.Node.{nesting_limit}
 use Rattle.jiter_steps.specs.Read.{Reading as Answer, fault, value_at}
 use Rattle.jiter_steps.specs.Step.{Step, closed, stuck, step, container_first, container_step}
 use Rattle.jiter_steps.specs.Tree.{Tree}
 use Rattle.jiter_value.specs.Settings.{Keeping, forgives, rules_as}
-use Rattle.jiter_steps.specs.declared.parse.Shape.{Shape}
+use Rattle.jiter_steps.specs.declared.parse.ContainerKind.{ContainerKind}
 use Rattle.jiter_steps.specs.declared.read_error.ReadError.{ReadError}
 use Rattle.jiter_steps.specs.declared.read_error.ReadError.TheVariants as error
-use Rattle.jiter_value.specs.Size.{value_size, key_size, behind_size, held, left_at}
-use Rattle.jiter_value.specs.Stacks.{from_value, from_key, behind, meaning, Stands, StandsAtKey}
+use Rattle.jiter_value.specs.Size.{value_size, key_size, after_size, held, left_at}
+use Rattle.jiter_value.specs.Stacks.{from_value, from_key, after, meaning, Stands, StandsAtKey}
 use Rattle.jiter_value.specs.declared.settings.Settings.{Settings}
 use Rattle.jiter_value.specs.declared.stacks.Slot.{Slot}
 use Rattle.jiter_value.specs.declared.stacks.Slot.TheVariants as slot
@@ -23,8 +23,8 @@ use Rattle.jiter_value.specs.declared.stacks.State.{State}
 use Rattle.jiter_value.specs.declared.stacks.State.TheVariants as state
 use Rattle.jiter_value.specs.Value.{MayGrowBy}
 use Rattle.jiter_value.specs.declared.turns.Reading.{Reading}
-use Rattle.jiter_value.specs.declared.turns.containers.Behind.{Behind}
-use Rattle.jiter_value.specs.declared.turns.containers.Behind.TheVariants.{Bracket, Part}
+use Rattle.jiter_value.specs.declared.turns.containers.After.{After}
+use Rattle.jiter_value.specs.declared.turns.containers.After.TheVariants.{Bracket, Part}
 
 -- a value is awaited at j, within the limit
 abbrev pub IsAtValue : List ℕ → Stacks → Slot → ℕ → Type 0
@@ -109,10 +109,10 @@ pub record HasTurned (t : List ℕ) (old new : Reading) : Type 0 where
 -- The value that is awaited at i is put where it belongs, and ends at e: a scalar.
 pub record IsPutAt (made : Keeping) (t : List ℕ) (old : Stacks) (i : ℕ) (a : Slot) (new : Stacks) (e : ℕ) : Type 0
   where
-    pub value : (p : Settings) → from_value made p t old a i ≡ behind made p t new a e
+    pub value : (p : Settings) → from_value made p t old a i ≡ after made p t new a e
     pub stands : Stands new a
     pub nest : new.nest ≡ old.nest
-    pub held : behind_size new a ≡ value_size old a + 1
+    pub held : after_size new a ≡ value_size old a + 1
     pub ahead : i < e
     pub within : e ≤ length t
 
@@ -127,11 +127,11 @@ pub record IsKeyAt (made : Keeping) (t : List ℕ) (old : Stacks) (i : ℕ) (new
 
 -- From the place i on the reading is given up at e, since memory was refused.
 pub record IsRefusedAt (t : List ℕ) (i : ℕ) (s : Stacks) (e : ℕ) : Type 0 where
-  pub error : (m : Refused) × (s.error ≡ error.Memory m)
+  pub error : (m : AllocFailed) × (s.error ≡ error.Memory m)
   pub within : (i ≤ e) × (e ≤ length t)
 
--- the step of a container whose bracket is at j, and behind a part that ends at j
-abbrev pub container_goes : Behind → Shape → List ℕ → ℕ → Step
+-- the step of a container whose bracket is at j, and after a part that ends at j
+abbrev pub container_goes : After → ContainerKind → List ℕ → ℕ → Step
 container_goes Bracket h t j = step t (container_first h) (j + 1)
 container_goes Part h t j = step t (container_step h t) j
 

@@ -51,7 +51,7 @@ abbrev pub Answers : Result JsonValue JsonError → Reading Tree → Type 0
 Answers (Ok v) r = (e : ℕ) × (r ≡ done (view v) e)
 Answers (Err e) r = (e.error_type ≡ OutOfMemory) ⊎ ((stop : ℕ) × (r ≡ fault (kind_of e.error_type) e.index stop))
 
--- a part stands behind the container's bracket
+-- a part stands after the container's bracket
 abbrev pub LeadsOn : Step → Type 0
 LeadsOn (more j) = Unit {0}
 LeadsOn (closed e) = ⊥

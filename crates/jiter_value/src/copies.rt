@@ -8,7 +8,7 @@ ghost use Rattle.jiter_value.specs.Stacks.{member_view};
 ghost use Rattle.jiter_value.specs.Value.{view};
 
 use crate::value::{JsonArray, JsonObject, JsonValue};
-use jiter_scan::memory::{Refused, copy_text, push, with_capacity};
+use jiter_scan::memory::{AllocFailed, copy_text, push, with_capacity};
 use std::alloc::{AllocError, Global};
 use std::borrow::CowStr;
 use std::mem;
@@ -65,7 +65,7 @@ impl<'s> JsonValue<'s> {
 
 #[cycle(copy)]
 #[tactic(auto, using(crate::proofs::Owning::copied_array, crate::proofs::Owning::copied_object))]
-fn copy_value<'s>(alloc: Global, value: &JsonValue<'s>) -> Result<JsonValue<'s>, Refused>
+fn copy_value<'s>(alloc: Global, value: &JsonValue<'s>) -> Result<JsonValue<'s>, AllocFailed>
     ensures value { IfOk result (λ v. view v ≡ view value.now) }
     ensures memory { OnErr result (HoldsOwnedTextOrPart (view value.now)) }
 {
@@ -83,7 +83,7 @@ fn copy_value<'s>(alloc: Global, value: &JsonValue<'s>) -> Result<JsonValue<'s>,
 
 #[cycle(copy)]
 #[tactic(auto, using(crate::proofs::Owning::refused_array))]
-fn copy_items<'s>(alloc: Global, items: &JsonArray<'s>) -> Result<JsonArray<'s>, Refused>
+fn copy_items<'s>(alloc: Global, items: &JsonArray<'s>) -> Result<JsonArray<'s>, AllocFailed>
     ensures value { IfOk result (λ v. map view v.items ≡ map view items.now.items) }
     ensures memory { OnErr result (HoldsOwnedTextOrPart (view (JsonValue.Array items.now))) }
 {
@@ -97,7 +97,7 @@ fn copy_items<'s>(alloc: Global, items: &JsonArray<'s>) -> Result<JsonArray<'s>,
 
 #[cycle(copy)]
 #[tactic(auto, using(crate::proofs::Owning::refused_object))]
-fn copy_members<'s>(alloc: Global, members: &JsonObject<'s>) -> Result<JsonObject<'s>, Refused>
+fn copy_members<'s>(alloc: Global, members: &JsonObject<'s>) -> Result<JsonObject<'s>, AllocFailed>
     ensures value { IfOk result (λ v. map member_view v.items ≡ map member_view members.now.items) }
     ensures memory { OnErr result (HoldsOwnedTextOrPart (view (JsonValue.Object members.now))) }
 {
@@ -111,7 +111,7 @@ fn copy_members<'s>(alloc: Global, members: &JsonObject<'s>) -> Result<JsonObjec
     Ok(copies)
 }
 
-pub(crate) fn copy_cow<'s>(alloc: Global, text: &CowStr<'s>) -> Result<CowStr<'s>, Refused>
+pub(crate) fn copy_cow<'s>(alloc: Global, text: &CowStr<'s>) -> Result<CowStr<'s>, AllocFailed>
     ensures value { IfOk result (λ copy. text_view copy ≡ text_view text.now) }
     ensures memory { OnErr result ((text_view text.now).owned ≡ true) }
 {
@@ -125,7 +125,7 @@ pub(crate) fn copy_cow<'s>(alloc: Global, text: &CowStr<'s>) -> Result<CowStr<'s
 
 #[cycle(own)]
 #[tactic(auto, using(crate::proofs::Owning::owned_array, crate::proofs::Owning::owned_object))]
-fn own_value(alloc: Global, value: &JsonValue<'_>) -> Result<JsonValue<'static>, Refused>
+fn own_value(alloc: Global, value: &JsonValue<'_>) -> Result<JsonValue<'static>, AllocFailed>
     ensures value { IfOk result (λ v. view v ≡ owned_tree (view value.now)) }
     ensures memory { OnErr result (HoldsTextOrPart (view value.now)) }
 {
@@ -143,7 +143,7 @@ fn own_value(alloc: Global, value: &JsonValue<'_>) -> Result<JsonValue<'static>,
 
 #[cycle(own)]
 #[tactic(auto, using(crate::proofs::Owning::refused_array))]
-fn own_items(alloc: Global, items: &JsonArray<'_>) -> Result<JsonArray<'static>, Refused>
+fn own_items(alloc: Global, items: &JsonArray<'_>) -> Result<JsonArray<'static>, AllocFailed>
     ensures value { IfOk result (λ v. map view v.items
         ≡ map owned_tree (map view items.now.items)) }
     ensures memory { OnErr result (HoldsTextOrPart (view (JsonValue.Array items.now))) }
@@ -158,7 +158,7 @@ fn own_items(alloc: Global, items: &JsonArray<'_>) -> Result<JsonArray<'static>,
 
 #[cycle(own)]
 #[tactic(auto, using(crate::proofs::Owning::refused_object))]
-fn own_members(alloc: Global, members: &JsonObject<'_>) -> Result<JsonObject<'static>, Refused>
+fn own_members(alloc: Global, members: &JsonObject<'_>) -> Result<JsonObject<'static>, AllocFailed>
     ensures value { IfOk result (λ v. map member_view v.items
         ≡ map owned_member (map member_view members.now.items)) }
     ensures memory { OnErr result (HoldsTextOrPart (view (JsonValue.Object members.now))) }
@@ -173,7 +173,7 @@ fn own_members(alloc: Global, members: &JsonObject<'_>) -> Result<JsonObject<'st
     Ok(copies)
 }
 
-fn own_text(alloc: Global, text: &CowStr<'_>) -> Result<CowStr<'static>, Refused>
+fn own_text(alloc: Global, text: &CowStr<'_>) -> Result<CowStr<'static>, AllocFailed>
     ensures { IfOk result (λ copy. text_view copy ≡ owned_text (text_view text.now)) }
 {
     Ok(CowStr::Owned(copy_text(alloc, text.as_str())?))
@@ -187,7 +187,7 @@ fn own_text(alloc: Global, text: &CowStr<'_>) -> Result<CowStr<'static>, Refused
 pub(crate) fn move_value(
     alloc: Global,
     value: &mut JsonValue<'_>,
-) -> Result<JsonValue<'static>, Refused>
+) -> Result<JsonValue<'static>, AllocFailed>
     ensures value { IfOk result (λ v. view v ≡ owned_tree (view value.old)) }
     ensures memory { OnErr result (HoldsBorrowedTextOrPart (view value.old)) }
 {
@@ -205,7 +205,7 @@ pub(crate) fn move_value(
 
 #[cycle(move_out)]
 #[tactic(auto, using(crate::proofs::Owning::refused_array))]
-fn move_items(alloc: Global, items: &mut JsonArray<'_>) -> Result<JsonArray<'static>, Refused>
+fn move_items(alloc: Global, items: &mut JsonArray<'_>) -> Result<JsonArray<'static>, AllocFailed>
     ensures value { IfOk result (λ v. map view v.items
         ≡ map owned_tree (map view items.old.items)) }
     ensures memory { OnErr result (HoldsBorrowedTextOrPart (view (JsonValue.Array items.old))) }
@@ -220,7 +220,10 @@ fn move_items(alloc: Global, items: &mut JsonArray<'_>) -> Result<JsonArray<'sta
 
 #[cycle(move_out)]
 #[tactic(auto, using(crate::proofs::Owning::refused_object))]
-fn move_members(alloc: Global, members: &mut JsonObject<'_>) -> Result<JsonObject<'static>, Refused>
+fn move_members(
+    alloc: Global,
+    members: &mut JsonObject<'_>,
+) -> Result<JsonObject<'static>, AllocFailed>
     ensures value { IfOk result (λ v. map member_view v.items
         ≡ map owned_member (map member_view members.old.items)) }
     ensures memory { OnErr result (HoldsBorrowedTextOrPart (view (JsonValue.Object members.old))) }
@@ -235,7 +238,7 @@ fn move_members(alloc: Global, members: &mut JsonObject<'_>) -> Result<JsonObjec
     Ok(moved)
 }
 
-fn move_text(alloc: Global, text: &mut CowStr<'_>) -> Result<CowStr<'static>, Refused>
+fn move_text(alloc: Global, text: &mut CowStr<'_>) -> Result<CowStr<'static>, AllocFailed>
     ensures value { IfOk result (λ moved. text_view moved ≡ owned_text (text_view text.old)) }
     ensures memory { OnErr result ((text_view text.old).owned ≡ false) }
 {
@@ -244,7 +247,7 @@ fn move_text(alloc: Global, text: &mut CowStr<'_>) -> Result<CowStr<'static>, Re
 
 /// Returns an owned text itself, and a copy of a borrowed one.
 #[inline(always)]
-pub(crate) fn own_cow<'s>(alloc: Global, text: CowStr<'_>) -> Result<CowStr<'s>, Refused>
+pub(crate) fn own_cow<'s>(alloc: Global, text: CowStr<'_>) -> Result<CowStr<'s>, AllocFailed>
     ensures value { IfOk result (λ owned. text_view owned ≡ owned_text (text_view text.entry)) }
     ensures memory { OnErr result ((text_view text.entry).owned ≡ false) }
 {

@@ -98,7 +98,7 @@ fn spells(token: &[u8], name: &[u8]) -> bool
 {
     let mut rest = token;
     for i in 0..name.len() {
-        match behind_byte(rest, name[i]) {
+        match after_byte(rest, name[i]) {
             Some(more) => rest = more,
             None => return false,
         }
@@ -106,7 +106,7 @@ fn spells(token: &[u8], name: &[u8]) -> bool
     rest.is_empty()
 }
 
-fn behind_byte(token: &[u8], byte: u8) -> Option<&[u8]>
+fn after_byte(token: &[u8], byte: u8) -> Option<&[u8]>
     ensures { MatchOption result ((rest : List ℕ) → token.now ≢ token_byte byte ++ rest)
         (λ rest. token.now ≡ token_byte byte ++ rest.now) }
 {

@@ -6,7 +6,7 @@ ghost use Rattle.std.specs.Str.{IsCharBoundary};
 ghost use Rattle.jiter_scan.specs.Quoted.{quoted, quoted_byte};
 ghost use Rattle.jiter_value.specs.QuotedKeys.{quoted_from, EndsAtAscii};
 
-use jiter_scan::memory::{Refused, push_text};
+use jiter_scan::memory::{AllocFailed, push_text};
 use std::fmt;
 
 fn control_escape(byte: u8) -> &'static str
@@ -98,7 +98,7 @@ fn next_piece(key: &str, at: usize) -> (&str, usize)
 }
 
 /// Appends a key between quotes, with escapes.
-pub fn push_quoted(text: &mut String, key: &str) -> Result<(), Refused>
+pub fn push_quoted(text: &mut String, key: &str) -> Result<(), AllocFailed>
     ensures { OnOk result (string_bytes text.new ≡ string_bytes text.old ++ quoted key.now) }
 {
     push_text(text, "\"")?;

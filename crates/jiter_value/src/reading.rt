@@ -13,7 +13,7 @@ ghost use Rattle.jiter_value.specs.Settings.{answer_as, rules, rules_as};
 ghost use Rattle.jiter_value.specs.Value.{view, MayGrowAt, MayGrowBy, MayGrow};
 
 use crate::settings::Settings;
-use crate::texts::{Borrowing, Texts};
+use crate::texts::{Borrowing, StringStorage};
 use crate::turns::Reading;
 use crate::value::JsonValue;
 use jiter_scan::{JsonError, JsonErrorType};
@@ -37,7 +37,7 @@ pub fn error_at(error: ReadError, index: usize) -> JsonError
 }
 
 /// Returns the value, which ends at the reader's position. With partial reading off, only whitespace may follow it.
-pub(crate) fn finish_whole<'s, T: Texts<'s>>(
+pub(crate) fn finish_whole<'s, T: StringStorage<'s>>(
     parser: &mut Parser<'_>,
     settings: Settings,
     value: JsonValue<'s>,
@@ -79,7 +79,7 @@ pub fn read_value<'j>(
 
 /// Reads a document from index 0, with the buffers and settings of this reading. With partial reading off, only
 /// whitespace may follow the value.
-fn read_whole<'s, T: Texts<'s>>(
+fn read_whole<'s, T: StringStorage<'s>>(
     reading: &mut Reading<'s>,
     texts: T,
     parser: &mut Parser<'_>,
@@ -102,7 +102,7 @@ fn read_whole<'s, T: Texts<'s>>(
 }
 
 /// Parses a document with the buffers and settings of this reading. `texts` decides what becomes of each text.
-pub(crate) fn read_text_as<'s, T: Texts<'s>>(
+pub(crate) fn read_text_as<'s, T: StringStorage<'s>>(
     reading: &mut Reading<'s>,
     texts: T,
     bytes: &[u8],
@@ -121,7 +121,7 @@ pub(crate) fn read_text_as<'s, T: Texts<'s>>(
     }
 }
 
-/// Parses a document with the buffers and settings of this reading. Texts without a backslash are borrowed.
+/// Parses a document with the buffers and settings of this reading. StringStorage without a backslash are borrowed.
 pub(crate) fn read_text<'j>(
     reading: &mut Reading<'j>,
     bytes: &'j [u8],

@@ -7,18 +7,18 @@ ghost use Rattle.jiter_steps.specs.Read.{done};
 ghost use Rattle.jiter_steps.specs.Tree.{object, members_of};
 ghost use Rattle.jiter_steps.specs.declared.read_error.ReadError.TheVariants as error;
 ghost use Rattle.jiter_value.specs.Value.{view};
-ghost use Rattle.jiter_value.specs.Size.{size, value_size, inside_size, behind_size};
+ghost use Rattle.jiter_value.specs.Size.{size, value_size, inside_size, after_size};
 ghost use Rattle.jiter_value.specs.Settings.{Keeping};
 ghost use Rattle.jiter_value.specs.Scratch.{HoldsNothing, IsCleared};
-ghost use Rattle.jiter_value.specs.Stacks.{Member, member_view, resume_with, behind, container_ends, Stands};
+ghost use Rattle.jiter_value.specs.Stacks.{Member, member_view, resume_with, after, container_ends, Stands};
 ghost use Rattle.jiter_value.specs.Stacks.{StandsInside, HasRoom, LeavesKeys, without_root};
 ghost use Rattle.jiter_value.specs.declared.settings.Settings.{Settings as SettingsView};
 ghost use Rattle.jiter_value.specs.declared.value.JsonValue.{JsonValue as JsonValueView};
 
 use crate::value::{JsonObject, JsonValue};
 use jiter_scan::errors::{Fault, FaultKind};
-use jiter_scan::memory::{Refused, make_room, split_off};
-use jiter_steps::parse::Shape;
+use jiter_scan::memory::{AllocFailed, make_room, split_off};
+use jiter_steps::parse::ContainerKind;
 use jiter_steps::read_error::ReadError;
 use smallvec::SmallVec;
 use std::alloc::Global;
@@ -103,7 +103,7 @@ fn take_parts<T: Drop>(
     parts: &mut Vec<T>,
     container: Open,
     reused: bool,
-) -> Result<Vec<T>, Refused>
+) -> Result<Vec<T>, AllocFailed>
     requires { container.base ≤ vec_len parts.old }
     ensures rest { OnOk result (parts.new.items ≡ take container.base parts.old.items) }
     ensures value { IfOk result (λ v. v.items ≡ drop container.base parts.old.items) }
@@ -133,10 +133,10 @@ pub fn put_reserved<'j>(stacks: &mut Stacks<'j>, slot: Slot, value: JsonValue<'j
     requires stands { Stands stacks.old slot }
     requires room { HasRoom stacks.old slot }
     ensures value { (made : Keeping) → (p : SettingsView) → (t : List ℕ) → (e : ℕ)
-        → resume_with made p t stacks.old slot (done (view value.entry) e) ≡ behind made p t stacks.new slot e }
+        → resume_with made p t stacks.old slot (done (view value.entry) e) ≡ after made p t stacks.new slot e }
     ensures stands { Stands stacks.new slot }
     ensures nest { stacks.new.nest ≡ stacks.old.nest }
-    ensures held { behind_size stacks.new slot
+    ensures held { after_size stacks.new slot
         ≡ value_size stacks.old slot + size (view value.entry) }
     ensures keys { LeavesKeys stacks.old.members.items stacks.new.members.items }
 {
@@ -149,13 +149,13 @@ pub fn put_reserved<'j>(stacks: &mut Stacks<'j>, slot: Slot, value: JsonValue<'j
 
 /// Puts the expected value into its slot. Only an item may need an allocation.
 #[inline(always)]
-pub fn put<'j>(stacks: &mut Stacks<'j>, slot: Slot, value: JsonValue<'j>) -> Result<(), Refused>
+pub fn put<'j>(stacks: &mut Stacks<'j>, slot: Slot, value: JsonValue<'j>) -> Result<(), AllocFailed>
     requires { Stands stacks.old slot }
     ensures value { OnOk result ((made : Keeping) → (p : SettingsView) → (t : List ℕ) → (e : ℕ)
-        → resume_with made p t stacks.old slot (done (view value.entry) e) ≡ behind made p t stacks.new slot e) }
+        → resume_with made p t stacks.old slot (done (view value.entry) e) ≡ after made p t stacks.new slot e) }
     ensures stands { OnOk result (Stands stacks.new slot) }
     ensures nest { stacks.new.nest ≡ stacks.old.nest }
-    ensures held { OnOk result (behind_size stacks.new slot
+    ensures held { OnOk result (after_size stacks.new slot
         ≡ value_size stacks.old slot + size (view value.entry)) }
     ensures keys { OnOk result (LeavesKeys stacks.old.members.items stacks.new.members.items) }
     ensures refused { OnErr result (slot ≢ Slot.Root) }
@@ -177,24 +177,28 @@ pub fn object_of<'j>(members: JsonObject<'j>) -> JsonValue<'j>
 
 /// Closes the innermost container, puts it into its slot and returns that slot.
 #[inline(never)]
-pub fn close<'j>(alloc: Global, stacks: &mut Stacks<'j>, shape: Shape) -> Result<Slot, Refused>
+pub fn close<'j>(
+    alloc: Global,
+    stacks: &mut Stacks<'j>,
+    shape: ContainerKind,
+) -> Result<Slot, AllocFailed>
     requires { StandsInside shape stacks.old }
     ensures value { IfOk result (λ a. (made : Keeping) → (p : SettingsView) → (t : List ℕ) → (e : ℕ)
-        → container_ends made p t shape stacks.old e ≡ behind made p t stacks.new a e) }
+        → container_ends made p t shape stacks.old e ≡ after made p t stacks.new a e) }
     ensures stands { IfOk result (λ a. Stands stacks.new a) }
     ensures nest { length stacks.new.nest.items + 1 ≡ length stacks.old.nest.items }
-    ensures held { IfOk result (λ a. behind_size stacks.new a ≡ inside_size shape stacks.old) }
+    ensures held { IfOk result (λ a. after_size stacks.new a ≡ inside_size shape stacks.old) }
     ensures keys { OnOk result (LeavesKeys stacks.old.members.items stacks.new.members.items) }
 {
     match stacks.nest.pop() {
         None => unreachable!(),
         Some(container) => {
             match shape {
-                Shape::Array => {
+                ContainerKind::Array => {
                     let items = take_parts(alloc, &mut stacks.items, container, stacks.reused)?;
                     put(stacks, container.outer, JsonValue::Array(items))?;
                 }
-                Shape::Object => {
+                ContainerKind::Object => {
                     let members = take_parts(alloc, &mut stacks.members, container, stacks.reused)?;
                     put(stacks, container.outer, object_of(members))?;
                 }
@@ -218,7 +222,7 @@ pub fn give_up<'j>(stacks: &mut Stacks<'j>, fault: Fault, at: usize) -> (usize, 
 /// Stops the reading at `at` because an allocation failed.
 #[cold]
 #[inline(never)]
-pub fn no_memory<'j>(stacks: &mut Stacks<'j>, refused: Refused, at: usize) -> (usize, State)
+pub fn no_memory<'j>(stacks: &mut Stacks<'j>, refused: AllocFailed, at: usize) -> (usize, State)
     ensures place { result ≡ (at, State.GivenUp) }
     ensures error { stacks.new.error ≡ error.Memory refused }
 {

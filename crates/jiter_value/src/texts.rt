@@ -4,16 +4,16 @@ ghost use Rattle.std.specs.Prelude.{◌≡◌, ℕ, List, false, true, IfOk, OnE
 ghost use Rattle.jiter_steps.specs.StringDecoder.{text_view};
 ghost use Rattle.jiter_value.specs.Owned.{owned_text};
 ghost use Rattle.jiter_value.specs.Settings.{Keeping, each, lent, lent_unique};
-ghost use Rattle.jiter_value.specs.Texts.{IsLentAt, LieAt};
+ghost use Rattle.jiter_value.specs.StringStorage.{IsLentAt, LieAt};
 
 use crate::copies::own_cow;
-use jiter_scan::memory::{Refused, copy_text};
+use jiter_scan::memory::{AllocFailed, copy_text};
 use jiter_scan::text::utf8_text;
 use std::alloc::Global;
 use std::borrow::CowStr;
 
 /// Decides what becomes of each text that is read.
-pub trait Texts<'s>: Copy {
+pub trait StringStorage<'s>: Copy {
     // It may be used with these bytes.
     ghost of: { Self → List ℕ → Type 0 };
 
@@ -24,7 +24,7 @@ pub trait Texts<'s>: Copy {
     ghost wants: { Type 0 };
 
     /// Returns a text of the bytes as the value keeps it. A borrowed text begins at `from`.
-    fn keep(self, bytes: &[u8], from: usize, text: CowStr<'_>) -> Result<CowStr<'s>, Refused>
+    fn keep(self, bytes: &[u8], from: usize, text: CowStr<'_>) -> Result<CowStr<'s>, AllocFailed>
         requires of { of self bytes.now }
         requires lent { IsLentAt bytes.now from (text_view text) }
         ensures value { IfOk result (λ kept. text_view kept ≡ made.text (text_view text.entry)) }
@@ -47,7 +47,7 @@ fn lend<'s>(bytes: &'s [u8], from: usize, text: &str) -> &'s str
     utf8_text(&bytes[from..from + text.len()])
 }
 
-impl<'s> Texts<'s> for Borrowing<'s> {
+impl<'s> StringStorage<'s> for Borrowing<'s> {
     ghost of = { λ b t. b.bytes.now ≡ t };
 
     ghost made = { lent };
@@ -55,7 +55,7 @@ impl<'s> Texts<'s> for Borrowing<'s> {
     ghost wants = { ⊥ };
 
     #[inline(always)]
-    fn keep(self, _bytes: &[u8], from: usize, text: CowStr<'_>) -> Result<CowStr<'s>, Refused> {
+    fn keep(self, _bytes: &[u8], from: usize, text: CowStr<'_>) -> Result<CowStr<'s>, AllocFailed> {
         match text {
             CowStr::Borrowed(lent) => Ok(CowStr::Borrowed(lend(self.bytes, from, lent))),
             CowStr::Owned(owned) => Ok(CowStr::Owned(owned)),
@@ -65,12 +65,12 @@ impl<'s> Texts<'s> for Borrowing<'s> {
 
 /// Borrows as [`Borrowing`] does, for a parse that rejects duplicate keys.
 #[derive(Clone, Copy)]
-pub struct Distinct<'s> {
+pub struct BorrowingUnique<'s> {
     /// The bytes that are read.
     pub bytes: &'s [u8],
 }
 
-impl<'s> Texts<'s> for Distinct<'s> {
+impl<'s> StringStorage<'s> for BorrowingUnique<'s> {
     ghost of = { λ b t. b.bytes.now ≡ t };
 
     ghost made = { lent_unique };
@@ -78,7 +78,7 @@ impl<'s> Texts<'s> for Distinct<'s> {
     ghost wants = { ⊥ };
 
     #[inline(always)]
-    fn keep(self, bytes: &[u8], from: usize, text: CowStr<'_>) -> Result<CowStr<'s>, Refused> {
+    fn keep(self, bytes: &[u8], from: usize, text: CowStr<'_>) -> Result<CowStr<'s>, AllocFailed> {
         let lending = Borrowing { bytes: self.bytes };
         lending.keep(bytes, from, text)
     }
@@ -91,7 +91,7 @@ pub struct Owning {
     pub alloc: Global,
 }
 
-impl<'s> Texts<'s> for Owning {
+impl<'s> StringStorage<'s> for Owning {
     ghost of = { λ o t. Unit {0} };
 
     ghost made = { each owned_text };
@@ -99,19 +99,24 @@ impl<'s> Texts<'s> for Owning {
     ghost wants = { Unit {0} };
 
     #[inline(always)]
-    fn keep(self, _bytes: &[u8], _from: usize, text: CowStr<'_>) -> Result<CowStr<'s>, Refused> {
+    fn keep(
+        self,
+        _bytes: &[u8],
+        _from: usize,
+        text: CowStr<'_>,
+    ) -> Result<CowStr<'s>, AllocFailed> {
         own_cow(self.alloc, text)
     }
 }
 
 /// Returns the borrowed text that begins at `from` as the value keeps it.
 #[inline(always)]
-pub fn keep_lent<'s, T: Texts<'s>>(
+pub fn keep_lent<'s, T: StringStorage<'s>>(
     texts: T,
     bytes: &[u8],
     from: usize,
     text: &str,
-) -> Result<CowStr<'s>, Refused>
+) -> Result<CowStr<'s>, AllocFailed>
     requires of { T.of texts bytes.now }
     requires lent { LieAt bytes.now from text.now }
     ensures value { IfOk result (λ kept.
@@ -123,13 +128,13 @@ pub fn keep_lent<'s, T: Texts<'s>>(
 
 /// Returns a decoded text as the value keeps it: an owned copy, made by one allocation of its exact length.
 #[inline(always)]
-pub fn keep_decoded<'s, T: Texts<'s>>(
+pub fn keep_decoded<'s, T: StringStorage<'s>>(
     alloc: Global,
     texts: T,
     bytes: &[u8],
     from: usize,
     decoded: &str,
-) -> Result<CowStr<'s>, Refused>
+) -> Result<CowStr<'s>, AllocFailed>
     requires { T.of texts bytes.now }
     ensures { IfOk result (λ kept.
         text_view kept ≡ T.made.text (record { owned = true; bytes = decoded.now })) }

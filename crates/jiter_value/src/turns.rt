@@ -16,25 +16,25 @@ ghost use Rattle.jiter_value.specs.declared.stacks.Stacks.{Stacks as StacksView}
 
 use crate::settings::Settings;
 use crate::stacks::{Slot, Stacks, State, take_error, take_root};
-use crate::texts::Texts;
+use crate::texts::StringStorage;
 use crate::turns::containers::{after, begin};
-use crate::turns::general::{general_key, general_scalar};
-use crate::turns::plain::{Plain, put_plain_key, put_plain_scalar};
+use crate::turns::general::{slow_key, slow_scalar};
+use crate::turns::plain::{Plain, fast_put_key, fast_put_scalar};
 use crate::value::JsonValue;
-use jiter_steps::parse::{NESTING_LIMIT, Parser, Shape};
+use jiter_steps::parse::{ContainerKind, NESTING_LIMIT, Parser};
 use jiter_steps::read_error::ReadError;
 use std::alloc::Global;
 
 pub(crate) mod containers;
+pub(crate) mod duplicate_keys;
 pub(crate) mod general;
-pub(crate) mod key_sets;
 pub(crate) mod plain;
 pub(crate) mod scalar;
 pub(crate) mod unique;
 
 // One turn at a value. A scalar takes the fast path if that applies, and otherwise the slow path.
 #[inline(always)]
-fn value_turn<'s, T: Texts<'s>>(
+fn value_turn<'s, T: StringStorage<'s>>(
     reading: &mut Reading<'s>,
     texts: T,
     bytes: &[u8],
@@ -53,19 +53,19 @@ fn value_turn<'s, T: Texts<'s>>(
     ensures settings { reading.new.settings ≡ reading.old.settings }
 {
     match bytes[at] {
-        b'[' => begin::<T>(reading, bytes, at, slot, Shape::Array),
-        b'{' => begin::<T>(reading, bytes, at, slot, Shape::Object),
-        _ => match put_plain_scalar(reading, texts, bytes, at, slot) {
-            (end, Plain::Put) => after::<T>(reading, bytes, end, slot),
-            (end, Plain::Refused) => (end, State::GivenUp),
-            (_, Plain::Other) => { general_scalar(reading, texts, bytes, at, slot) }
+        b'[' => begin::<T>(reading, bytes, at, slot, ContainerKind::Array),
+        b'{' => begin::<T>(reading, bytes, at, slot, ContainerKind::Object),
+        _ => match fast_put_scalar(reading, texts, bytes, at, slot) {
+            (end, Plain::Put) => after_value::<T>(reading, bytes, end, slot),
+            (end, Plain::AllocFailed) => (end, State::GivenUp),
+            (_, Plain::Other) => { slow_scalar(reading, texts, bytes, at, slot) }
         },
     }
 }
 
 // One turn at a key: the fast path if the stack has capacity and the key is plain, otherwise the slow path.
 #[inline(always)]
-fn key_turn<'s, T: Texts<'s>>(
+fn key_turn<'s, T: StringStorage<'s>>(
     reading: &mut Reading<'s>,
     texts: T,
     bytes: &[u8],
@@ -86,13 +86,13 @@ fn key_turn<'s, T: Texts<'s>>(
     if reading.stacks.members.len() < reading.stacks.members.capacity()
         && reading.stacks.nest.len() <= NESTING_LIMIT
     {
-        match put_plain_key(texts, &mut reading.stacks, bytes, at) {
+        match fast_put_key(texts, &mut reading.stacks, bytes, at) {
             (next, Plain::Put) => return (next, State::Member),
-            (next, Plain::Refused) => return (next, State::GivenUp),
+            (next, Plain::AllocFailed) => return (next, State::GivenUp),
             (_, Plain::Other) => {}
         }
     }
-    general_key(reading, texts, bytes, at)
+    slow_key(reading, texts, bytes, at)
 }
 
 #[inline(always)]
@@ -201,7 +201,7 @@ impl<'s> Reading<'s> {
 
     /// Takes one turn if `once`, otherwise all turns. Stops before a key that `keys` doesn't allow.
     #[inline(never)]
-    pub fn go<T: Texts<'s>, K: Keys<'s>>(
+    pub fn go<T: StringStorage<'s>, K: Keys<'s>>(
         &mut self,
         texts: T,
         keys: &mut K,
@@ -248,7 +248,7 @@ impl<'s> Reading<'s> {
     }
 
     /// Reads the value at the reader's position. `texts` decides what becomes of its texts; duplicate keys are kept.
-    pub fn run<T: Texts<'s>>(
+    pub fn run<T: StringStorage<'s>>(
         &mut self,
         texts: T,
         parser: &mut Parser<'_>,

@@ -13,7 +13,7 @@ ghost use Rattle.jiter_value.specs.Value.{view, MayGrowBy};
 
 use crate::reading::{error_at, finish_whole};
 use crate::settings::Settings;
-use crate::texts::Distinct;
+use crate::texts::BorrowingUnique;
 use crate::turns::Reading;
 use crate::turns::unique::{Stopped, run_unique};
 use crate::unique_error::{UniqueError, UniqueErrorType};
@@ -40,12 +40,12 @@ pub(crate) fn read_unique<'j>(
     if let Err(fault) = parser.value_first() {
         return Err(Stopped::Read(ReadError::Fault(fault)));
     }
-    let texts = Distinct {
+    let texts = BorrowingUnique {
         bytes: parser.bytes,
     };
     match run_unique(reading, texts, parser) {
         Err(stopped) => Err(stopped),
-        Ok(value) => match finish_whole::<Distinct<'j>>(parser, reading.settings, value) {
+        Ok(value) => match finish_whole::<BorrowingUnique<'j>>(parser, reading.settings, value) {
             Ok(whole) => Ok(whole),
             Err(error) => Err(Stopped::Read(error)),
         },

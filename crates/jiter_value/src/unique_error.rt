@@ -6,7 +6,7 @@ ghost use Rattle.jiter_value.specs.UniqueErrors.{unique_kind, IsDuplicateKey};
 
 use crate::quoted::{push_quoted, write_quoted};
 use jiter_scan::errors::{kind_text, push_position};
-use jiter_scan::memory::{Refused, copy_text, push_text};
+use jiter_scan::memory::{AllocFailed, copy_text, push_text};
 use jiter_scan::{JsonError, JsonErrorType, LinePosition};
 use std::alloc::{AllocError, Global};
 use std::error::Error;
@@ -49,7 +49,7 @@ impl UniqueErrorType {
     }
 
     // As `Display` prints it.
-    fn describe(&self, alloc: Global) -> Result<String, Refused>
+    fn describe(&self, alloc: Global) -> Result<String, AllocFailed>
         ensures { IfOk result (λ text. string_bytes text ≡ kind_text (unique_kind self.now)) }
     {
         match self {
@@ -150,8 +150,8 @@ impl UniqueError {
         Ok(self.describe(alloc, bytes)?)
     }
 
-    // Only a failed allocation makes a `Refused`, but anyone can make an `AllocError`.
-    fn describe(&self, alloc: Global, bytes: &[u8]) -> Result<String, Refused>
+    // Only a failed allocation makes a `AllocFailed`, but anyone can make an `AllocError`.
+    fn describe(&self, alloc: Global, bytes: &[u8]) -> Result<String, AllocFailed>
         ensures { IfOk result (λ text. string_bytes text
             ≡ description_text (unique_kind self.now.error_type) self.now.index bytes.now) }
     {

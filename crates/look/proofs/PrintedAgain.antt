@@ -8,7 +8,7 @@ use Rattle.jiter_steps.specs.Answer.{answer_in, partial_trees, whole_trees}
 use Rattle.jiter_steps.specs.Read.{Reading, done, fault}
 use Rattle.jiter_steps.specs.Tree.{Tree}
 use Rattle.jiter_steps.specs.Unique.{own_bytes, unique_answer_in}
-use Rattle.jiter_steps.proofs.Unique.Agreeing.{Agrees, IsOfRepeat, front_answer-agrees, whole_answer-agrees}
+use Rattle.jiter_steps.proofs.Unique.Agreeing.{Agrees, IsOfRepeat, prefix_answer-agrees, whole_answer-agrees}
 use Rattle.jiter_print.specs.Printed.{PrintsAgain}
 use Rattle.jiter_print.proofs.PrintLaw.{prints_again}
 use Rattle.look.specs.Run.{reading_of}
@@ -27,9 +27,9 @@ not-forgiven k is = absurd is
 unique-agrees : (names : Bool) (mode : PartialMode) (t : List ℕ)
     → Agrees (unique_answer_in names mode t) (answer_in names mode t)
 unique-agrees names Off t = whole_answer-agrees own_bytes (whole_trees names) (λ ms u i. refl) (λ k h. refl) t
-unique-agrees names On t = front_answer-agrees own_bytes (partial_trees names On) (λ ms u i. refl) not-forgiven t
+unique-agrees names On t = prefix_answer-agrees own_bytes (partial_trees names On) (λ ms u i. refl) not-forgiven t
 unique-agrees names TrailingStrings t =
-    front_answer-agrees own_bytes (partial_trees names TrailingStrings) (λ ms u i. refl) not-forgiven t
+    prefix_answer-agrees own_bytes (partial_trees names TrailingStrings) (λ ms u i. refl) not-forgiven t
 
 reading-again : (names unique : Bool) (mode : PartialMode) (t : List ℕ)
     → PrintsAgain names (reading_of names unique mode t)

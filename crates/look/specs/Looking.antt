@@ -2,7 +2,7 @@
 use Rattle.std.specs.Prelude.{◌≡◌, ◌⊎◌, ℕ, List, codes, Option, Some, None, IfSome}
 use Rattle.std.specs.Io.KnownBytes.{Keeps, Appends}
 use Rattle.jiter_print.specs.Print.{with_line_feed}
-use Rattle.jiter_print.specs.Written.{AppendsFront}
+use Rattle.jiter_print.specs.Written.{AppendsPrefix}
 use Rattle.look.specs.Run.{Wrote, line_of, status_of}
 use Rattle.look.specs.declared.running.End.{End}
 use Rattle.look.specs.declared.words.Words.{Words}
@@ -11,10 +11,10 @@ use Rattle.look.specs.declared.words.Words.{Words}
 abbrev pub usage_line : List ℕ
 usage_line = with_line_feed (codes "usage: look off|on|trailing-strings [inf-nan] [unique]")
 
--- the usage line: all of it and status 2, or a front of it and status 3
+-- the usage line: all of it and status 2, or a prefix of it and status 3
 abbrev pub WroteUsage : ℕ → Option (List ℕ) → Option (List ℕ) → Type 0
 WroteUsage status err err' =
-    ((status ≡ 2) × Appends err err' usage_line) ⊎ ((status ≡ 3) × AppendsFront err err' usage_line)
+    ((status ≡ 2) × Appends err err' usage_line) ⊎ ((status ≡ 3) × AppendsPrefix err err' usage_line)
 
 -- a run over these bytes, and its status
 abbrev pub Ran : Words → List ℕ → ℕ → Option (List ℕ) → Option (List ℕ) → Option (List ℕ) → Option (List ℕ) → Type 0

@@ -9,9 +9,9 @@ use Rattle.jiter_steps.specs.Answer.{answer_in}
 use Rattle.jiter_steps.specs.Unique.{unique_answer_in}
 use Rattle.jiter_value.specs.UniqueErrors.{IsMemoryRefused}
 use Rattle.jiter_print.specs.Print.{print_of, with_line_feed}
-use Rattle.jiter_print.specs.Written.{AppendsFront}
+use Rattle.jiter_print.specs.Written.{AppendsPrefix}
 use Rattle.look.specs.declared.running.End.{End}
-use Rattle.look.specs.declared.running.End.TheVariants.{Shown, Refused, Failed}
+use Rattle.look.specs.declared.running.End.TheVariants.{Shown, AllocFailed, Failed}
 use Rattle.jiter_scan.specs.declared.errors.JsonErrorType.TheVariants.{OutOfMemory}
 use Rattle.look.specs.declared.running.NoMemory as refusal
 use Rattle.look.specs.declared.running.NoMemory.TheVariants as reason
@@ -47,15 +47,15 @@ IsUnread (Some left) = left ≢ []
 abbrev pub WroteNothing : End → Option (List ℕ) → Option (List ℕ) → Option (List ℕ) → Option (List ℕ) → Type 0
 WroteNothing end out out' err err' = (end ≡ Failed) × Keeps out out' × Keeps err err'
 
--- what the two writers hold after a run: the line in its own, a front of it where the run failed, nothing new in the
+-- what the two writers hold after a run: the line in its own, a prefix of it where the run failed, nothing new in the
 -- other
 abbrev pub Wrote : Line → End → Option (List ℕ) → Option (List ℕ) → Option (List ℕ) → Option (List ℕ) → Type 0
 Wrote (value_line bs) Shown out out' err err' = Appends out out' bs × Keeps err err'
-Wrote (value_line bs) Refused out out' err err' = ⊥
-Wrote (value_line bs) Failed out out' err err' = AppendsFront out out' bs × Keeps err err'
+Wrote (value_line bs) AllocFailed out out' err err' = ⊥
+Wrote (value_line bs) Failed out out' err err' = AppendsPrefix out out' bs × Keeps err err'
 Wrote (fault_line bs) Shown out out' err err' = ⊥
-Wrote (fault_line bs) Refused out out' err err' = Keeps out out' × Appends err err' bs
-Wrote (fault_line bs) Failed out out' err err' = Keeps out out' × AppendsFront err err' bs
+Wrote (fault_line bs) AllocFailed out out' err err' = Keeps out out' × Appends err err' bs
+Wrote (fault_line bs) Failed out out' err err' = Keeps out out' × AppendsPrefix err err' bs
 
 -- the same, where there may be no line
 abbrev pub WroteIfAny : Option Line → End → Option (List ℕ) → Option (List ℕ) → Option (List ℕ) → Option (List ℕ)
@@ -82,5 +82,5 @@ IsOfReadOrMemory (cause.Make m) = IsOfMemory m
 -- the program's exit status
 abbrev pub status_of : End → ℕ
 status_of Shown = 0
-status_of Refused = 1
+status_of AllocFailed = 1
 status_of Failed = 3

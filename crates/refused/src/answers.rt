@@ -14,7 +14,7 @@ impl Outcome {
 
     /// Memory was refused, by a call that tells no index.
     pub fn refused(alloc: Global) -> Result<Outcome, AllocError> {
-        Ok(Outcome::Refused(String::from_str(alloc, "out of memory")?))
+        Ok(Outcome::AllocFailed(String::from_str(alloc, "out of memory")?))
     }
 
     /// This does not hold.
@@ -31,7 +31,7 @@ impl Outcome {
     ) -> Result<Outcome, AllocError> {
         let line = format!(in alloc; "out of memory at {index}")?;
         if first <= index && index <= last {
-            Ok(Outcome::Refused(line))
+            Ok(Outcome::AllocFailed(line))
         } else {
             Ok(Outcome::Broken(line))
         }

@@ -1,4 +1,4 @@
-//! The words behind the program's name: a call and a mode.
+//! The words after the program's name: a call and a mode.
 use jiter::PartialMode;
 
 /// A call that reads a whole text.
@@ -81,12 +81,12 @@ pub enum Call {
     /// One that reads a whole value where a reader stands.
     Reading(Reading),
     /// The text and key reads of a reader: those of a caller that has looked, or the others.
-    Texts(bool),
+    StringStorage(bool),
     /// A reader's walk through a document of one form.
     Steps(Steps),
     /// One that copies or tells.
     Copy(Copying),
-    /// `Arriving::push`, of pieces of so many bytes.
+    /// `IncrementalParser::push`, of pieces of so many bytes.
     Pieces(usize),
 }
 
@@ -121,8 +121,8 @@ fn call_named(word: &str) -> Option<Call> {
         "scratch-owned" => Some(Call::Whole(Whole::OwnedByScratch)),
         "two-prefixes" => Some(Call::Whole(Whole::TwoPrefixes)),
         "half-prefix" => Some(Call::Whole(Whole::HalfPrefix)),
-        "next-str" => Some(Call::Texts(false)),
-        "known-str" => Some(Call::Texts(true)),
+        "next-str" => Some(Call::StringStorage(false)),
+        "known-str" => Some(Call::StringStorage(true)),
         "pieces" => Some(Call::Pieces(5)),
         "one-piece" => Some(Call::Pieces(usize::MAX)),
         "plain-walk" => Some(Call::Steps(Steps::Plain)),

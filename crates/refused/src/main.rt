@@ -24,7 +24,7 @@ use std::{env, io};
 
 const USAGE: &str = "usage: refused CALL off|on|trailing-strings";
 
-// The exit status where a request of the program itself was refused, before the call or behind it.
+// The exit status where a request of the program itself was refused, before the call or after it.
 const REFUSED: u8 = 3;
 
 fn main(rt: HostRuntime) -> ExitCode {
@@ -48,7 +48,7 @@ fn main(rt: HostRuntime) -> ExitCode {
     }
 }
 
-// The words behind the program's name.
+// The words after the program's name.
 fn words_given(rt: &HostRuntime) -> io::Result<Vec<String>> {
     let mut list = Vec::new(rt.alloc());
     for word in env::args(rt)?.skip(1) {
@@ -62,7 +62,7 @@ fn outcome_of(alloc: Global, bytes: &[u8], asked: Asked) -> Result<Outcome, Allo
     match asked.call {
         Call::Whole(call) => whole::outcome(alloc, bytes, asked.mode, call),
         Call::Reading(call) => reading::outcome(alloc, bytes, call),
-        Call::Texts(known) => walk::outcome(alloc, bytes, asked.mode, known),
+        Call::StringStorage(known) => walk::outcome(alloc, bytes, asked.mode, known),
         Call::Steps(call) => steps::outcome(alloc, bytes, call),
         Call::Copy(call) => copies::outcome(alloc, bytes, asked.mode, call),
         Call::Pieces(size) => pieces::outcome(alloc, bytes, asked.mode, size),

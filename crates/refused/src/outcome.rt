@@ -8,7 +8,7 @@ pub enum Outcome {
     /// It answered: a value, or a fault of the bytes.
     Answered(String),
     /// Memory was refused, and all that is promised of it holds.
-    Refused(String),
+    AllocFailed(String),
     /// Something that is promised does not hold.
     Broken(String),
 }
@@ -20,7 +20,7 @@ impl Outcome {
     {
         match self {
             Outcome::Answered(_) => 0,
-            Outcome::Refused(_) => 3,
+            Outcome::AllocFailed(_) => 3,
             Outcome::Broken(_) => 1,
         }
     }
@@ -28,7 +28,7 @@ impl Outcome {
     /// The line that tells it.
     pub fn line(&self) -> &str {
         match self {
-            Outcome::Answered(line) | Outcome::Refused(line) | Outcome::Broken(line) => {
+            Outcome::Answered(line) | Outcome::AllocFailed(line) | Outcome::Broken(line) => {
                 line.as_str()
             }
         }

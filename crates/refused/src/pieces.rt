@@ -3,7 +3,7 @@ use crate::answers::first_of;
 use crate::outcome::Outcome;
 use crate::stop::Stop;
 use jiter::{JsonError, JsonErrorType as Kind, JsonValue, PartialMode};
-use jiter_incremental::Arriving;
+use jiter_incremental::IncrementalParser;
 use std::alloc::{AllocError, Global};
 
 // What a parse answers.
@@ -14,7 +14,7 @@ type Answer = Result<JsonValue<'static>, JsonError>;
 struct Pushing<'b> {
     bytes: &'b [u8],
     mode: PartialMode,
-    arriving: Arriving,
+    incremental_parser: IncrementalParser,
     refused: Option<usize>,
 }
 
@@ -30,7 +30,7 @@ pub fn outcome(
     let pushing = Pushing {
         bytes,
         mode,
-        arriving: Arriving::new(alloc, true, mode),
+        incremental_parser: IncrementalParser::new(alloc, true, mode),
         refused: None,
     };
     match pushing.go_on(alloc, size) {
@@ -50,19 +50,19 @@ impl Pushing<'_> {
 
     // Pushes a piece; where memory is refused for it, the rest of it once more.
     fn push(&mut self, alloc: Global, piece: &[u8]) -> Result<(), Stop> {
-        let before = self.arriving.position();
-        if self.arriving.push(piece).is_err() {
+        let before = self.incremental_parser.position();
+        if self.incremental_parser.push(piece).is_err() {
             let rest = self.rest(before, piece)?;
-            self.refused = Some(self.arriving.position());
+            self.refused = Some(self.incremental_parser.position());
             self.expect_parsed(alloc)?;
-            if self.arriving.push(rest).is_err() {
+            if self.incremental_parser.push(rest).is_err() {
                 return Err(Stop::Broken("the rest of a piece is refused too"));
             }
         }
-        if self.arriving.position().checked_sub(before) == Some(piece.len()) {
+        if self.incremental_parser.position().checked_sub(before) == Some(piece.len()) {
             Ok(())
         } else {
-            Err(Stop::Broken("the reading does not stand behind the piece"))
+            Err(Stop::Broken("the reading does not stand after the piece"))
         }
     }
 
@@ -71,7 +71,7 @@ impl Pushing<'_> {
         if self.refused.is_some() {
             return Err(Stop::Broken("two pushes are refused"));
         }
-        let taken = self.arriving.position().checked_sub(before);
+        let taken = self.incremental_parser.position().checked_sub(before);
         match taken.and_then(|count| piece.get(count..)) {
             Some(rest) => Ok(rest),
             None => Err(Stop::Broken("a refused push took more than its piece")),
@@ -79,8 +79,8 @@ impl Pushing<'_> {
     }
 
     // What a parse answers. Where memory is refused for it, that is a request of the program itself, and no push's.
-    fn parsed(&self, alloc: Global, front: &[u8], mode: PartialMode) -> Result<Answer, Stop> {
-        match JsonValue::parse_owned(alloc, front, true, mode) {
+    fn parsed(&self, alloc: Global, prefix: &[u8], mode: PartialMode) -> Result<Answer, Stop> {
+        match JsonValue::parse_owned(alloc, prefix, true, mode) {
             Err(error) if error.error_type == Kind::OutOfMemory => Err(match self.refused {
                 None => Stop::Own(AllocError),
                 Some(_) => Stop::Broken("a parse is refused too"),
@@ -91,9 +91,12 @@ impl Pushing<'_> {
 
     // The value so far is what a parse answers of exactly the bytes that were taken.
     fn expect_parsed(&self, alloc: Global) -> Result<(), Stop> {
-        let front = self.bytes.get(..self.arriving.position()).unwrap_or(&[]);
-        let wanted = self.parsed(alloc, front, self.mode)?;
-        let is_parsed = match (self.arriving.value(), &wanted) {
+        let prefix = self
+            .bytes
+            .get(..self.incremental_parser.position())
+            .unwrap_or(&[]);
+        let wanted = self.parsed(alloc, prefix, self.mode)?;
+        let is_parsed = match (self.incremental_parser.value(), &wanted) {
             (Ok(value), Ok(other)) => value == other,
             (Err(error), Err(other)) => &error == other,
             _ => false,
@@ -107,7 +110,7 @@ impl Pushing<'_> {
 
     // What is told of the value so far, or of where memory was refused.
     fn told(&self, alloc: Global) -> Result<Outcome, AllocError> {
-        let told = match self.arriving.value() {
+        let told = match self.incremental_parser.value() {
             Ok(value) => Outcome::value(alloc, value)?,
             Err(error) => Outcome::of_text(alloc, self.bytes, &Err(error))?,
         };
@@ -126,8 +129,11 @@ impl Pushing<'_> {
         self.expect_parsed(alloc)?;
         let outcome = self.told(alloc)?;
         let whole = self.parsed(alloc, self.bytes, PartialMode::Off)?;
-        let Pushing { arriving, .. } = self;
-        if arriving.finish() == whole {
+        let Pushing {
+            incremental_parser,
+            ..
+        } = self;
+        if incremental_parser.finish() == whole {
             Ok(outcome)
         } else {
             Err(Stop::Broken("the end is not that of a parse"))

@@ -35,7 +35,7 @@ impl Readings {
     fn add(&mut self, outcome: Outcome) -> Result<(), Stop> {
         match outcome {
             Outcome::Answered(line) => self.answer(line),
-            Outcome::Refused(line) => self.refuse(line),
+            Outcome::AllocFailed(line) => self.refuse(line),
             Outcome::Broken(_) => Err(Stop::Broken("out of memory outside of the document")),
         }
     }
@@ -78,7 +78,7 @@ impl Readings {
     fn end(self, alloc: Global) -> Result<Outcome, AllocError> {
         let Readings { answer, refused } = self;
         match (answer, refused) {
-            (_, Some(line)) => Ok(Outcome::Refused(line)),
+            (_, Some(line)) => Ok(Outcome::AllocFailed(line)),
             (Some(line), None) => Ok(Outcome::Answered(line)),
             (None, None) => Outcome::broken(alloc, "nothing was read"),
         }

@@ -9,8 +9,8 @@ use std::alloc::{AllocError, Global};
 #[derive(Clone, Copy)]
 enum Next {
     Value,
-    // Behind a bracket or a part: nothing more, or what stands behind the part.
-    Behind,
+    // After a bracket or a part: nothing more, or what stands after the part.
+    After,
 }
 
 // A walk: the reader, the open containers, whether each is an array, what was read, and whether memory was refused.
@@ -49,7 +49,7 @@ pub fn outcome(
         Err(stop) => return stop.outcome(alloc),
     }
     if walk.refused {
-        Ok(Outcome::Refused(walk.line))
+        Ok(Outcome::AllocFailed(walk.line))
     } else {
         Ok(Outcome::Answered(walk.line))
     }
@@ -87,7 +87,7 @@ impl<'j> Walk<'j> {
         for _ in 0..self.bytes.len().saturating_add(1).saturating_mul(2) {
             next = match next {
                 Next::Value => self.begin(alloc)?,
-                Next::Behind => match self.arrays.last() {
+                Next::After => match self.arrays.last() {
                     None => return Ok(()),
                     Some(true) => self.item()?,
                     Some(false) => self.key(alloc)?,
@@ -105,7 +105,7 @@ impl<'j> Walk<'j> {
             b'"' => self.text(alloc),
             _ => {
                 self.jiter.next_skip()?;
-                Ok(Next::Behind)
+                Ok(Next::After)
             }
         }
     }
@@ -116,7 +116,7 @@ impl<'j> Walk<'j> {
                 self.enter(true)?;
                 Ok(Next::Value)
             }
-            None => Ok(Next::Behind),
+            None => Ok(Next::After),
         }
     }
 
@@ -129,7 +129,7 @@ impl<'j> Walk<'j> {
                 self.tell(text.as_str())?;
                 Ok(Next::Value)
             }
-            None => Ok(Next::Behind),
+            None => Ok(Next::After),
         }
     }
 
@@ -138,7 +138,7 @@ impl<'j> Walk<'j> {
             Some(_) => Ok(Next::Value),
             None => {
                 let _ = self.arrays.pop();
-                Ok(Next::Behind)
+                Ok(Next::After)
             }
         }
     }
@@ -154,7 +154,7 @@ impl<'j> Walk<'j> {
             }
             None => {
                 let _ = self.arrays.pop();
-                Ok(Next::Behind)
+                Ok(Next::After)
             }
         }
     }
@@ -176,7 +176,7 @@ impl<'j> Walk<'j> {
             Ok(text) => text,
         };
         self.tell(text.as_str())?;
-        Ok(Next::Behind)
+        Ok(Next::After)
     }
 
     // The text where the reader stands.
@@ -233,7 +233,7 @@ impl<'j> Walk<'j> {
         }
     }
 
-    // The index of the first quote at the reader's place or behind it, or the length.
+    // The index of the first quote at the reader's place or after it, or the length.
     fn first_quote(&self) -> usize {
         for index in self.jiter.current_index()..self.bytes.len() {
             if self.bytes[index] == b'"' {

@@ -44,7 +44,7 @@ fn answer(rt: &HostRuntime, alloc: Global, row: &Row<'_>) -> io::Result<()> {
         "end_at" if at < bytes.len() => numbers::answer_end_at(rt, bytes, at, names),
         "number_before" => numbers::answer_before(rt, alloc, bytes, names),
         "integer_at" if at < bytes.len() => numbers::answer_integer_at(rt, bytes, at),
-        "plain_number" if at <= bytes.len() => numbers::answer_plain(rt, bytes, at),
+        "fast_number" if at <= bytes.len() => numbers::answer_plain(rt, bytes, at),
         "plain_number_before" => numbers::answer_plain_before(rt, alloc, bytes),
         "word" if at <= bytes.len() => scans::answer_word(rt, bytes, at),
         "scan" if at <= bytes.len() => scans::answer_scan(rt, bytes, at),

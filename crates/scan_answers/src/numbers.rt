@@ -3,9 +3,9 @@ ghost use Rattle.std.specs.Prelude.{◌<◌, ◌≤◌, length};
 
 use crate::tell;
 use jiter_scan::errors::JsonResult;
+use jiter_scan::fast_number::fast_number_at;
 use jiter_scan::number_decoder::{NumberAny, NumberInt, int_at, number_at};
 use jiter_scan::number_extent::number_end;
-use jiter_scan::plain_number::plain_number_at;
 use std::alloc::{AllocError, Global};
 use std::fmt::Debug;
 use std::io;
@@ -18,7 +18,7 @@ fn tell_alone<T: Debug + Drop>(rt: &HostRuntime, answer: JsonResult<T>) -> io::R
     }
 }
 
-// The number that the bytes are, with nothing before or behind it.
+// The number that the bytes are, with nothing before or after it.
 pub fn answer_alone(rt: &HostRuntime, call: &str, bytes: &[u8], names: bool) -> io::Result<()> {
     match call {
         "number" => tell_alone(rt, NumberAny::from_bytes(bytes, names)),
@@ -36,13 +36,13 @@ fn form(number: NumberAny<'_>) -> (&'static str, usize) {
     }
 }
 
-// The number at a place and the index behind it, where `number_end` finds the same end or fault.
+// The number at a place and the index after it, where `number_end` finds the same end or fault.
 fn told_at(alloc: Global, bytes: &[u8], at: usize, names: bool) -> Result<String, AllocError>
     requires { at < length bytes.now }
 {
     let end = number_end(bytes, at, names);
     match number_at(bytes, at, names) {
-        Ok((number, behind)) if end == Ok(behind) => format!(in alloc; "{number:?} to {behind}"),
+        Ok((number, after)) if end == Ok(after) => format!(in alloc; "{number:?} to {after}"),
         Err(fault) if end == Err(fault) => {
             format!(in alloc; "{:?} at {}", fault.kind, fault.index)
         }
@@ -62,7 +62,7 @@ pub fn answer_at(
     println!(rt; "{}", told_at(alloc, bytes, at, names)?)
 }
 
-// The index behind the number at a place, where `number_at` finds the same.
+// The index after the number at a place, where `number_at` finds the same.
 pub fn answer_end_at(rt: &HostRuntime, bytes: &[u8], at: usize, names: bool) -> io::Result<()>
     requires { at < length bytes.now }
 {
@@ -73,7 +73,7 @@ pub fn answer_end_at(rt: &HostRuntime, bytes: &[u8], at: usize, names: bool) -> 
     tell(rt, end)
 }
 
-// How many blanks stand behind the number, and behind the comma after it.
+// How many blanks stand after the number, and after the comma after it.
 const FOLLOWERS: [(usize, bool); 10] = [
     (1, false),
     (15, false),
@@ -122,19 +122,19 @@ pub fn answer_integer_at(rt: &HostRuntime, bytes: &[u8], at: usize) -> io::Resul
 pub fn answer_plain(rt: &HostRuntime, bytes: &[u8], at: usize) -> io::Result<()>
     requires { at ≤ length bytes.now }
 {
-    println!(rt; "{:?}", plain_number_at(bytes, at))
+    println!(rt; "{:?}", fast_number_at(bytes, at))
 }
 
 // The short number that the bytes begin with, before each byte that may end it, far from the end of the input.
 pub fn answer_plain_before(rt: &HostRuntime, alloc: Global, text: &[u8]) -> io::Result<()> {
     let far = followed(alloc, text, true, 64)?;
-    let wanted = plain_number_at(far.as_slice(), 0);
+    let wanted = fast_number_at(far.as_slice(), 0);
     for end in [b',', b']', b'}', b' ', b'\n', 0x7f] {
         let mut bytes = Vec::new(alloc);
         bytes.extend_from_slice(text)?;
         bytes.push(end)?;
         let bytes = followed(alloc, bytes.as_slice(), true, 64)?;
-        if plain_number_at(bytes.as_slice(), 0) != wanted {
+        if fast_number_at(bytes.as_slice(), 0) != wanted {
             return println!(rt; "otherwise before the byte {end}");
         }
     }

@@ -132,7 +132,7 @@ pub fn clients<'j>(
     requires { jiter.old.partial_strings ≡ false }
 {
     let built: JiterResult<JsonValue<'static>> = jiter::client::value_by_steps(alloc, jiter);
-    let fronts: Result<(JsonValue<'j>, JsonValue<'j>), JsonError> = jiter::client::two_prefixes(
+    let prefixes: Result<(JsonValue<'j>, JsonValue<'j>), JsonError> = jiter::client::two_prefixes(
         alloc,
         bytes,
         0,
@@ -140,7 +140,7 @@ pub fn clients<'j>(
         false,
         PartialMode::On,
     );
-    match (built, fronts) {
+    match (built, prefixes) {
         (Ok(value), Ok(pair)) => Ok((value, pair)),
         _ => Err(false),
     }

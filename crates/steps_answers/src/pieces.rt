@@ -1,31 +1,31 @@
 //! Escapes, texts and strings that come in pieces.
 ghost use Rattle.std.specs.Prelude.{◌<◌};
 
-use jiter_scan::memory::Refused;
-use jiter_steps::open_escape::{OpenEscape, Spelled};
-use jiter_steps::open_string::{OpenString, Went};
-use jiter_steps::open_text::OpenText;
+use jiter_scan::memory::AllocFailed;
+use jiter_steps::partial_escape::{PartialEscape, Spelled};
+use jiter_steps::partial_string::{PartialString, Went};
+use jiter_steps::partial_text::PartialText;
 use std::alloc::{AllocError, Global};
 use std::io;
 use test_rows::bytes_of;
 
-/// How many bytes behind a backslash are taken before one is the last, or shows a fault, and what is told then.
+/// How many bytes after a backslash are taken before one is the last, or shows a fault, and what is told then.
 pub fn answer_escape(rt: &HostRuntime, bytes: &[u8]) -> io::Result<()> {
-    let mut escape = OpenEscape::new();
+    let mut escape = PartialEscape::new();
     for (count, byte) in bytes.iter().enumerate() {
         match escape.next(*byte) {
             Spelled::Part => {}
-            told => return println!(rt; "{told:?} behind {count}"),
+            told => return println!(rt; "{told:?} after {count}"),
         }
     }
     println!(rt; "Part")
 }
 
 // The text of the bytes, in parts of this size at most.
-fn in_parts(alloc: Global, bytes: &[u8], size: usize) -> Result<OpenText, Refused>
+fn in_parts(alloc: Global, bytes: &[u8], size: usize) -> Result<PartialText, AllocFailed>
     requires { 0 < size }
 {
-    let mut text = OpenText::new(alloc);
+    let mut text = PartialText::new(alloc);
     for part in bytes.chunks(size) {
         let count = text.add(part)?;
         text.add(&part[count..])?;
@@ -34,7 +34,7 @@ fn in_parts(alloc: Global, bytes: &[u8], size: usize) -> Result<OpenText, Refuse
 }
 
 // What a text holds, and whether it is one where the input may cut it and where it must be complete.
-fn told_text(alloc: Global, text: &OpenText) -> Result<String, AllocError> {
+fn told_text(alloc: Global, text: &PartialText) -> Result<String, AllocError> {
     let cut = text.is_text(true);
     let complete = text.is_text(false);
     format!(in alloc; "{:?}, cut {cut}, complete {complete}", text.text())
@@ -58,7 +58,7 @@ pub fn answer_text(rt: &HostRuntime, alloc: Global, bytes: &[u8]) -> io::Result<
 
 /// How many bytes of each piece a text takes, and what it holds then.
 pub fn answer_text_pieces(rt: &HostRuntime, alloc: Global, input: &str) -> io::Result<()> {
-    let mut text = OpenText::new(alloc);
+    let mut text = PartialText::new(alloc);
     for piece in input.split('|') {
         match text.add(bytes_of(alloc, piece)?.as_slice()) {
             Ok(count) => print!(rt; "{count} ")?,
@@ -69,7 +69,7 @@ pub fn answer_text_pieces(rt: &HostRuntime, alloc: Global, input: &str) -> io::R
 }
 
 // How many bytes of a piece a string takes, up to its quote or an error.
-fn take_piece(string: &mut OpenString, piece: &[u8]) -> Result<usize, Refused> {
+fn take_piece(string: &mut PartialString, piece: &[u8]) -> Result<usize, AllocFailed> {
     let mut at = 0;
     while at < piece.len() {
         match string.next(piece, at)? {
@@ -82,7 +82,7 @@ fn take_piece(string: &mut OpenString, piece: &[u8]) -> Result<usize, Refused> {
 
 /// How many bytes of each piece a string takes, up to its quote or an error, and what its text is then.
 pub fn answer_string_pieces(rt: &HostRuntime, alloc: Global, input: &str) -> io::Result<()> {
-    let mut string = OpenString::new(alloc);
+    let mut string = PartialString::new(alloc);
     for piece in input.split('|') {
         let piece = bytes_of(alloc, piece)?;
         match take_piece(&mut string, piece.as_slice()) {

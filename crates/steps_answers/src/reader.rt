@@ -3,8 +3,8 @@ ghost use Rattle.std.specs.Prelude.{◌<◌, ◌≤◌, length};
 
 use jiter_scan::errors::Fault;
 use jiter_steps::blank::past_blanks;
-use jiter_steps::parse::{Literal, Parser, Shape, Start, start_of};
-use jiter_steps::plain::{plain_colon, plain_literal_end};
+use jiter_steps::parse::{ContainerKind, Literal, Parser, Start, start_of};
+use jiter_steps::plain::{fast_colon, fast_literal_end};
 use jiter_steps::read_error::ReadError;
 use jiter_steps::skip::skip;
 use std::alloc::Global;
@@ -54,7 +54,7 @@ pub fn answer_start(rt: &HostRuntime, bytes: &[u8]) -> io::Result<()> {
     println!(rt; "{first:?}")
 }
 
-/// The index behind the blanks.
+/// The index after the blanks.
 pub fn answer_blanks(rt: &HostRuntime, bytes: &[u8], at: usize) -> io::Result<()>
     requires { at ≤ length bytes.now }
 {
@@ -64,7 +64,7 @@ pub fn answer_blanks(rt: &HostRuntime, bytes: &[u8], at: usize) -> io::Result<()
 pub fn answer_plain_colon(rt: &HostRuntime, bytes: &[u8], at: usize) -> io::Result<()>
     requires { at ≤ length bytes.now }
 {
-    println!(rt; "{:?}", plain_colon(bytes, at))
+    println!(rt; "{:?}", fast_colon(bytes, at))
 }
 
 pub fn answer_plain_literal(
@@ -75,7 +75,7 @@ pub fn answer_plain_literal(
 ) -> io::Result<()>
     requires { at < length bytes.now }
 {
-    println!(rt; "{:?}", plain_literal_end(bytes, at, literal))
+    println!(rt; "{:?}", fast_literal_end(bytes, at, literal))
 }
 
 pub fn answer_literal(rt: &HostRuntime, bytes: &[u8], at: usize, literal: Literal) -> io::Result<()>
@@ -91,9 +91,9 @@ pub fn answer_first(rt: &HostRuntime, call: &str, bytes: &[u8], at: usize) -> io
     requires { at < length bytes.now }
 {
     let shape = if call == "array_first" {
-        Shape::Array
+        ContainerKind::Array
     } else {
-        Shape::Object
+        ContainerKind::Object
     };
     let mut parser = Parser { bytes, index: at };
     let answer = parser.first(shape);
@@ -106,11 +106,11 @@ pub fn answer_step(rt: &HostRuntime, call: &str, bytes: &[u8], at: usize) -> io:
 {
     let mut parser = Parser { bytes, index: at };
     if call == "array_step" {
-        let answer = parser.step(Shape::Array);
+        let answer = parser.step(ContainerKind::Array);
         return tell(rt, answer, parser.index);
     }
     if call == "object_step" {
-        let answer = parser.step(Shape::Object);
+        let answer = parser.step(ContainerKind::Object);
         return tell(rt, answer, parser.index);
     }
     let answer = match call {

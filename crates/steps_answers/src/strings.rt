@@ -3,7 +3,7 @@ ghost use Rattle.std.specs.Prelude.{◌<◌, length};
 
 use jiter_scan::simd::scan_string;
 use jiter_scan::word::byte_at;
-use jiter_steps::plain::{plain_text_end, text_between};
+use jiter_steps::plain::{fast_string_end, text_between};
 use jiter_steps::raw_string::{raw_string_at, string_end};
 use jiter_steps::read_error::ReadError;
 use jiter_steps::string_decoder::string_at;
@@ -98,7 +98,7 @@ pub fn answer_raw(rt: &HostRuntime, alloc: Global, bytes: &[u8], at: usize) -> i
 pub fn answer_plain_text_end(rt: &HostRuntime, bytes: &[u8], at: usize) -> io::Result<()>
     requires { at < length bytes.now }
 {
-    println!(rt; "{:?}", plain_text_end(bytes, at))
+    println!(rt; "{:?}", fast_string_end(bytes, at))
 }
 
 /// The text between the quote at the mark and the next one, if nothing else stops it.

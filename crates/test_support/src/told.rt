@@ -3,7 +3,7 @@ use jiter::{JsonError, JsonErrorType as Kind, JsonValue, PartialMode};
 use std::alloc::{AllocError, Global};
 use std::borrow::CowStr;
 
-// A text in quotes, behind the word `owned` where it is not borrowed.
+// A text in quotes, after the word `owned` where it is not borrowed.
 fn append_quoted(text: &str, borrowed: bool, out: &mut String) -> Result<(), AllocError> {
     out.push_str(if borrowed { "'" } else { "owned '" })?;
     out.push_str(text)?;
@@ -14,7 +14,7 @@ fn append_text(text: &CowStr<'_>, out: &mut String) -> Result<(), AllocError> {
     append_quoted(text.as_str(), matches!(text, CowStr::Borrowed(_)), out)
 }
 
-// The value on one line; a number that is kept as its text stands behind a word.
+// The value on one line; a number that is kept as its text stands after a word.
 #[cycle(append)]
 fn append(value: &JsonValue<'_>, out: &mut String) -> Result<(), AllocError> {
     match value {
@@ -69,7 +69,7 @@ fn append_members(
     out.push_str("}")
 }
 
-/// The value on one line; a text that it owns stands behind the word `owned`.
+/// The value on one line; a text that it owns stands after the word `owned`.
 pub fn text_of(alloc: Global, value: &JsonValue<'_>) -> Result<String, AllocError> {
     let mut out = String::new(alloc);
     append(value, &mut out)?;

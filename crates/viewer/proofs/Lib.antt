@@ -1,4 +1,4 @@
 mod Lines
 mod Told
-mod Arriving
-mod Ending
+mod IncrementalParser
+mod StringEnd

@@ -7,7 +7,7 @@ use Rattle.std.specs.List.{concat, dedup, dedup_from, flat_map}
 use Rattle.std.proofs.lemmas.Grind.{flat_map-append}
 use Rattle.std.proofs.lemmas.List.Folds.{concat-append}
 use Rattle.std.proofs.lemmas.Slice.Eq.{bytes_eq-Decides}
-use Rattle.viewer.specs.Shown.{fronts, if_any, last_line, lines_at, lines_of, new_line}
+use Rattle.viewer.specs.Shown.{prefixes, if_any, last_line, lines_at, lines_of, new_line}
 use Rattle.viewer.specs.declared.words.Words.{Words}
 
 -- the last of some lines, where there is one
@@ -19,22 +19,22 @@ last_of d (x ∷ xs) = last_of x xs
 abbrev pub unless_same : List ℕ → List ℕ → List (List ℕ)
 unless_same last line = if bytes_eq line last then [] else line ∷ []
 
-fronts-more : (t : List ℕ) (ps : List (List ℕ)) (p : List ℕ)
-    → fronts t (ps ++ p ∷ []) ≡ fronts t ps ++ ((t ++ concat ps) ++ p) ∷ []
-fronts-more t [] p = ap (λ u. (u ++ p) ∷ []) (sym (append-nil t))
-fronts-more t (q ∷ ps) p =
-    ap (λ us. (t ++ q) ∷ us) (fronts-more (t ++ q) ps p
-    ∙ ap (λ u. fronts (t ++ q) ps ++ (u ++ p) ∷ []) (append_assoc t q (concat ps)))
+prefixes-more : (t : List ℕ) (ps : List (List ℕ)) (p : List ℕ)
+    → prefixes t (ps ++ p ∷ []) ≡ prefixes t ps ++ ((t ++ concat ps) ++ p) ∷ []
+prefixes-more t [] p = ap (λ u. (u ++ p) ∷ []) (sym (append-nil t))
+prefixes-more t (q ∷ ps) p =
+    ap (λ us. (t ++ q) ∷ us) (prefixes-more (t ++ q) ps p
+    ∙ ap (λ u. prefixes (t ++ q) ps ++ (u ++ p) ∷ []) (append_assoc t q (concat ps)))
 
 -- the lines of one piece more
 pub lines-more : (words : Words) (ps : List (List ℕ)) (p : List ℕ)
     → lines_of words (ps ++ p ∷ []) ≡ lines_of words ps ++ lines_at words (concat ps ++ p)
 lines-more words ps p =
-    ap (flat_map (lines_at words)) (fronts-more [] ps p)
-    ∙ flat_map-append (lines_at words) (fronts [] ps) _
+    ap (flat_map (lines_at words)) (prefixes-more [] ps p)
+    ∙ flat_map-append (lines_at words) (prefixes [] ps) _
     ∙ ap (λ l. lines_of words ps ++ l) (append-nil (lines_at words (concat ps ++ p)))
 
--- a line more behind k and the lines xs
+-- a line more after k and the lines xs
 dedup-more : (k : List ℕ) (xs : List (List ℕ)) (x : List ℕ)
     → dedup_from bytes_eq k (xs ++ x ∷ []) ≡ dedup_from bytes_eq k xs ++ unless_same (last_of k xs) x
 dedup-more k [] x = by (bytes_eq x k) refl where

@@ -7,7 +7,7 @@ use Rattle.std.specs.Io.KnownBytes.{Appends, Keeps}
 use Rattle.jiter.specs.Caller.{Reading, done, fault, Tree, answer, answer_in, cut, description_text}
 use Rattle.jiter.specs.Caller.{IsBegunContainer, IsDocument, Node}
 use Rattle.jiter_print.specs.Print.{print_of, with_line_feed}
-use Rattle.jiter_print.specs.Written.{AppendsFront}
+use Rattle.jiter_print.specs.Written.{AppendsPrefix}
 use Rattle.viewer.specs.declared.words.Words.{Words}
 
 -- the line of what was read, if it is a value
@@ -30,10 +30,10 @@ abbrev pub new_line : List ℕ → Option (List ℕ) → List ℕ
 new_line last None = []
 new_line last (Some line) = if bytes_eq line last then [] else line
 
--- what stands behind each piece
-abbrev pub fronts : List ℕ → List (List ℕ) → List (List ℕ)
-fronts t [] = []
-fronts t (p ∷ ps) = (t ++ p) ∷ fronts (t ++ p) ps
+-- what stands after each piece
+abbrev pub prefixes : List ℕ → List (List ℕ) → List (List ℕ)
+prefixes t [] = []
+prefixes t (p ∷ ps) = (t ++ p) ∷ prefixes (t ++ p) ps
 
 abbrev pub if_any : Option (List ℕ) → List (List ℕ)
 if_any None = []
@@ -43,9 +43,9 @@ if_any (Some line) = line ∷ []
 abbrev pub lines_at : Words → List ℕ → List (List ℕ)
 lines_at words t = if_any (value_line (answer_in words.inf_nan words.mode t))
 
--- the line of each front
+-- the line of each prefix
 abbrev pub lines_of : Words → List (List ℕ) → List (List ℕ)
-lines_of words pieces = flat_map (lines_at words) (fronts [] pieces)
+lines_of words pieces = flat_map (lines_at words) (prefixes [] pieces)
 
 -- what is shown of them: a line that is the one before it is left out
 abbrev pub shown : Words → List (List ℕ) → List ℕ
@@ -55,10 +55,10 @@ shown words pieces = concat (dedup bytes_eq (lines_of words pieces))
 abbrev pub ShowsAll : Words → List ℕ → Option (List ℕ) → Option (List ℕ) → Type 0
 ShowsAll words t out out' = (pieces : List (List ℕ)) × (concat pieces ≡ t) × Appends out out' (shown words pieces)
 
--- a front of what is shown of a front of a text
-abbrev pub ShowsFront : Words → List ℕ → Option (List ℕ) → Option (List ℕ) → Type 0
-ShowsFront words t out out' =
-    (pieces : List (List ℕ)) × StartsWith t (concat pieces) × AppendsFront out out' (shown words pieces)
+-- a prefix of what is shown of a prefix of a text
+abbrev pub ShowsPrefix : Words → List ℕ → Option (List ℕ) → Option (List ℕ) → Type 0
+ShowsPrefix words t out out' =
+    (pieces : List (List ℕ)) × StartsWith t (concat pieces) × AppendsPrefix out out' (shown words pieces)
 
 -- at the end of a run the line of a fault is written, if there is one: `Ok true` is a document, and `Ok false` none
 abbrev pub Tells : {E : Type 0} → Option (List ℕ) → Result Bool E → Option (List ℕ) → Option (List ℕ) → Type 0
@@ -67,7 +67,7 @@ Tells None (Ok false) err err' = ⊥
 Tells None (Err e) err err' = Keeps err err'
 Tells (Some line) (Ok true) err err' = ⊥
 Tells (Some line) (Ok false) err err' = Appends err err' line
-Tells (Some line) (Err e) err err' = AppendsFront err err' line
+Tells (Some line) (Err e) err err' = AppendsPrefix err err' line
 
 abbrev pub Finishes : {E : Type 0} → Bool → List ℕ → Result Bool E → Option (List ℕ) → Option (List ℕ) → Type 0
 Finishes names t end err err' = Tells (fault_line (answer names t) t) end err err'
@@ -82,7 +82,7 @@ abbrev pub Ran : {E : Type 0} → Words → List ℕ → Result Bool E → Optio
     → Option (List ℕ) → Option (List ℕ) → Type 0
 Ran {E = E} words t (Ok whole) out out' err err' = ShowsWhole {E = E} words t (Ok whole) out out' err err'
 Ran words t (Err e) out out' err err' =
-    ShowsWhole words t (Err e) out out' err err' ⊎ (ShowsFront words t out out' × Keeps err err')
+    ShowsWhole words t (Err e) out out' err err' ⊎ (ShowsPrefix words t out out' × Keeps err err')
 
 -- the end tells whether the text is a document
 abbrev pub EndsAs : {E : Type 0} → Bool → List ℕ → Result Bool E → Type 0
@@ -91,7 +91,7 @@ EndsAs names t (Ok false) = (n : Node) → IsDocument names t n → ⊥
 EndsAs names t (Err e) = Unit {0}
 
 -- a line that is that of a document's cut
-abbrev pub IsLineOfCut : (words : Words) {front : List ℕ} → IsBegunContainer words.inf_nan front → Option (List ℕ)
+abbrev pub IsLineOfCut : (words : Words) {prefix : List ℕ} → IsBegunContainer words.inf_nan prefix → Option (List ℕ)
     → Type 0
 IsLineOfCut words f line =
     (v : Tree) × (cut words.inf_nan f.text f.node f.place words.mode ≡ Some v)

@@ -1,4 +1,4 @@
--- The words behind the program's name.
+-- The words after the program's name.
 use Rattle.std.specs.Prelude.{ℕ, Bool, true, false, List, [], ◌∷◌, codes, bytes_eq, Option, Some, None, if◌then◌else◌}
 use Rattle.std.specs.Prelude.{option_map}
 use Rattle.jiter.specs.Caller.{PartialMode}

@@ -2,14 +2,14 @@
 ghost use Rattle.std.specs.Prelude.{◌≡◌, [], List, ℕ, true, IfOk, IfSome, OnErr, OnOk};
 ghost use Rattle.std.specs.Io.KnownBytes.{Appends};
 ghost use Rattle.jiter.specs.Caller.{answer_in, is_active, IsBegunContainer};
-ghost use Rattle.jiter_print.specs.Written.{AppendsFront};
+ghost use Rattle.jiter_print.specs.Written.{AppendsPrefix};
 ghost use Rattle.viewer.specs.Arrived.{HasArrived, ReadsAs};
 ghost use Rattle.viewer.specs.Shown.{EndsAs, Finishes, IsLineOfCut, last_line, new_line, Ran};
-ghost use Rattle.viewer.specs.Shown.{ShowsAll, ShowsFront, value_line};
+ghost use Rattle.viewer.specs.Shown.{ShowsAll, ShowsPrefix, value_line};
 ghost use Rattle.viewer.specs.declared.words.Words.{Words};
 
 use crate::words::Words;
-use jiter_incremental::{Arriving, LineFeeds};
+use jiter_incremental::{IncrementalParser, LineIndex};
 use jiter_print::{print, write_line};
 use std::alloc::Global;
 use std::io;
@@ -36,12 +36,12 @@ pub fn run<R: Read, O: Write, E: Write>(
     ensures wrote { IfSome (R.remaining reader.old) (λ t. Ran words t result
         (O.contents out.old) (O.contents out.new) (E.contents err.old) (E.contents err.new)) }
     ensures document { IfSome (R.remaining reader.old) (λ t. EndsAs words.inf_nan t result) }
-    ensures cut { is_active words.mode ≡ true → (front : List ℕ)
-        → (f : IsBegunContainer words.inf_nan front)
-        → IsLineOfCut words f (value_line (answer_in words.inf_nan words.mode front)) }
+    ensures cut { is_active words.mode ≡ true → (prefix : List ℕ)
+        → (f : IsBegunContainer words.inf_nan prefix)
+        → IsLineOfCut words f (value_line (answer_in words.inf_nan words.mode prefix)) }
 {
-    let mut document = Arriving::new(alloc, words.inf_nan, words.mode);
-    let mut lines = LineFeeds::new(alloc);
+    let mut document = IncrementalParser::new(alloc, words.inf_nan, words.mode);
+    let mut lines = LineIndex::new(alloc);
     follow(alloc, &mut document, &mut lines, reader, out)?;
     finish(alloc, document, &lines, err)
 }
@@ -49,8 +49,8 @@ pub fn run<R: Read, O: Write, E: Write>(
 // The number of reads is bounded, so that the loop provably ends.
 fn follow<R: Read, O: Write>(
     alloc: Global,
-    document: &mut Arriving,
-    lines: &mut LineFeeds,
+    document: &mut IncrementalParser,
+    lines: &mut LineIndex,
     reader: &mut R,
     out: &mut O,
 ) -> io::Result<()>
@@ -59,8 +59,8 @@ fn follow<R: Read, O: Write>(
     ensures shown { (words : Words) → HasArrived words document.old lines.old []
         → OnOk result (IfSome (R.remaining reader.old) (λ t. ShowsAll words t
         (O.contents out.old) (O.contents out.new))) }
-    ensures front { (words : Words) → HasArrived words document.old lines.old []
-        → OnErr result (IfSome (R.remaining reader.old) (λ t. ShowsFront words t
+    ensures prefix { (words : Words) → HasArrived words document.old lines.old []
+        → OnErr result (IfSome (R.remaining reader.old) (λ t. ShowsPrefix words t
         (O.contents out.old) (O.contents out.new))) }
 {
     let mut last = Vec::new(alloc);
@@ -83,7 +83,7 @@ fn follow<R: Read, O: Write>(
 // Returns the line that was written last.
 fn show<O: Write>(
     alloc: Global,
-    document: &Arriving,
+    document: &IncrementalParser,
     last: Vec<u8>,
     out: &mut O,
 ) -> io::Result<Vec<u8>>
@@ -92,8 +92,8 @@ fn show<O: Write>(
     ensures whole { (words : Words) → (t : List ℕ) → ReadsAs words document.now t
         → OnOk result (Appends (O.contents out.old) (O.contents out.new)
         (new_line last.items (value_line (answer_in words.inf_nan words.mode t)))) }
-    ensures front { (words : Words) → (t : List ℕ) → ReadsAs words document.now t
-        → OnErr result (AppendsFront (O.contents out.old) (O.contents out.new)
+    ensures prefix { (words : Words) → (t : List ℕ) → ReadsAs words document.now t
+        → OnErr result (AppendsPrefix (O.contents out.old) (O.contents out.new)
         (new_line last.items (value_line (answer_in words.inf_nan words.mode t)))) }
 {
     let mut line = match document.value() {
@@ -110,8 +110,8 @@ fn show<O: Write>(
 // The line and column come from `lines`: the bytes aren't kept.
 fn finish<E: Write>(
     alloc: Global,
-    document: Arriving,
-    lines: &LineFeeds,
+    document: IncrementalParser,
+    lines: &LineIndex,
     err: &mut E,
 ) -> io::Result<bool>
     ensures { (words : Words) → (t : List ℕ) → HasArrived words document lines.now t

@@ -96,7 +96,7 @@ fn members_extend(
     Ok(true)
 }
 
-// Whether a front of this length ends within one of these numbers.
+// Whether a prefix of this length ends within one of these numbers.
 fn ends_within(length: usize, numbers: &[(usize, usize)]) -> bool {
     for &(begin, end) in numbers {
         if begin < length && length < end {
@@ -106,9 +106,9 @@ fn ends_within(length: usize, numbers: &[(usize, usize)]) -> bool {
     false
 }
 
-// Whether these two fronts of an array or an object are answered as by two parses, and the one value goes on where
-// the other stopped, unless the shorter front ends within a number.
-fn fronts_agree(
+// Whether these two prefixes of an array or an object are answered as by two parses, and the one value goes on where
+// the other stopped, unless the shorter prefix ends within a number.
+fn prefixes_agree(
     alloc: Global,
     bytes: &[u8],
     shorter: usize,
@@ -132,8 +132,8 @@ fn fronts_agree(
     }
 }
 
-// Whether all fronts from the shorter one on do so.
-fn longer_fronts_agree(
+// Whether all prefixes from the shorter one on do so.
+fn longer_prefixes_agree(
     alloc: Global,
     bytes: &[u8],
     shorter: usize,
@@ -141,22 +141,22 @@ fn longer_fronts_agree(
     mode: PartialMode,
 ) -> Result<bool, AllocError> {
     for longer in shorter..bytes.len() + 1 {
-        if !fronts_agree(alloc, bytes, shorter, longer, numbers, mode)? {
+        if !prefixes_agree(alloc, bytes, shorter, longer, numbers, mode)? {
             return Ok(false);
         }
     }
     Ok(true)
 }
 
-// The same of every shorter front.
-fn all_fronts_agree(
+// The same of every shorter prefix.
+fn all_prefixes_agree(
     alloc: Global,
     bytes: &[u8],
     numbers: &[(usize, usize)],
     mode: PartialMode,
 ) -> Result<bool, AllocError> {
     for shorter in 0..bytes.len() + 1 {
-        if !longer_fronts_agree(alloc, bytes, shorter, numbers, mode)? {
+        if !longer_prefixes_agree(alloc, bytes, shorter, numbers, mode)? {
             return Ok(false);
         }
     }
@@ -164,7 +164,7 @@ fn all_fronts_agree(
 }
 
 #[test]
-fn each_longer_front_extends_each_shorter_one(rt: HostRuntime) -> Result<(), Fail> {
+fn each_longer_prefix_extends_each_shorter_one(rt: HostRuntime) -> Result<(), Fail> {
     // Where the numbers of a document begin and end.
     const DOCUMENTS: [(&str, &[(usize, usize)]); 6] = [
         (r#"[12,"aé",{"k":true}]"#, &[(1, 3)]),
@@ -180,7 +180,7 @@ fn each_longer_front_extends_each_shorter_one(rt: HostRuntime) -> Result<(), Fai
     let alloc = rt.alloc();
     for &(text, numbers) in &DOCUMENTS {
         for mode in [PartialMode::On, PartialMode::TrailingStrings] {
-            let agree = all_fronts_agree(alloc, text.as_bytes(), numbers, mode)?;
+            let agree = all_prefixes_agree(alloc, text.as_bytes(), numbers, mode)?;
             assert!(rt; agree, "{text}");
         }
     }

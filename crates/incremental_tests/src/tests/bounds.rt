@@ -1,7 +1,7 @@
 //! Numbers of as many digits as are allowed, and of one more.
 use super::readings::{Answer, is_read_at, is_read_once};
 use jiter::{JsonErrorType as Kind, PartialMode};
-use jiter_incremental::parse_pieces;
+use jiter_incremental::parse_chunks;
 use std::test::*;
 
 // The digits that stand, or the index from which on there are too many.
@@ -30,20 +30,20 @@ fn integers_of_many_digits_arrive_in_pieces(rt: HostRuntime) -> Result<(), Fail>
         ("[", 4301, ".5]", 0, 4302),
     ];
     let alloc = rt.alloc();
-    for &(front, count, back, length, index) in &ROWS {
+    for &(prefix, count, back, length, index) in &ROWS {
         let digits = "7".repeat(alloc, count)?;
-        let text = format!(in alloc; "{front}{digits}{back}")?;
+        let text = format!(in alloc; "{prefix}{digits}{back}")?;
         let bytes = text.as_bytes();
         let (one, two) = bytes.split_at_checked(4299).ok_or("shorter")?;
-        let seen = parse_pieces(alloc, &[one, two], false);
+        let seen = parse_chunks(alloc, &[one, two], false);
         assert_eq!(rt;
             digits_or_index(&seen),
             Some((length, index)),
-            "{front}{count}{back}"
+            "{prefix}{count}{back}"
         );
         let by_byte = is_read_at(alloc, bytes, 1, 97, false, PartialMode::Off)?;
         let by_more = is_read_once(alloc, bytes, 43, false, PartialMode::On)?;
-        assert!(rt; by_byte && by_more, "{front}{count}{back}");
+        assert!(rt; by_byte && by_more, "{prefix}{count}{back}");
     }
     Ok(())
 }

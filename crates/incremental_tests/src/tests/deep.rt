@@ -21,9 +21,9 @@ fn nested(
     form: (&str, &str, &str, usize),
     count: usize,
 ) -> Result<String, AllocError> {
-    let (front, back, middle, each) = form;
+    let (prefix, back, middle, each) = form;
     let times = count / each.max(1);
-    let opened = front.repeat(alloc, times)?;
+    let opened = prefix.repeat(alloc, times)?;
     let closed = back.repeat(alloc, times)?;
     format!(in alloc; "{opened}{middle}{closed}")
 }

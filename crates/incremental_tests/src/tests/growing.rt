@@ -4,7 +4,7 @@ use std::alloc::{AllocError, Global};
 use std::process::Abort;
 use std::test::*;
 
-// What stands before a string or a key, and behind it.
+// What stands before a string or a key, and after it.
 const ROWS: [(&str, &str); 7] = [
     ("\"", "\""),
     ("[\"", "\"]"),
@@ -22,9 +22,9 @@ fn expect_once(
     bytes: &[u8],
     sizes: &[usize],
 ) -> Result<(), AllocError> {
-    for &(front, back) in &ROWS {
+    for &(prefix, back) in &ROWS {
         let mut text = Vec::new(alloc);
-        text.extend_from_slice(front.as_bytes())?;
+        text.extend_from_slice(prefix.as_bytes())?;
         text.extend_from_slice(bytes)?;
         text.extend_from_slice(back.as_bytes())?;
         for &mode in &MODES {
@@ -32,7 +32,7 @@ fn expect_once(
                 let is_once = is_read_once(alloc, &text, size, false, mode)?;
                 assert!(*rt;
                     is_once,
-                    "{bytes:?} between {front} and {back} by {size} in {mode:?}"
+                    "{bytes:?} between {prefix} and {back} by {size} in {mode:?}"
                 );
             }
         }
@@ -46,11 +46,11 @@ fn long_strings_and_keys_arrive_in_pieces(rt: HostRuntime) -> Result<(), Fail> {
     const ENDS: [&[u8]; 8] = [
         b"",
         b"\xc3",
-        b"a\xff more text behind",
-        b"\\x more text behind",
-        b"\\ud83d more text behind",
-        b"\\ud83d\\n more text behind",
-        b"\x1f more text behind",
+        b"a\xff more text after",
+        b"\\x more text after",
+        b"\\ud83d more text after",
+        b"\\ud83d\\n more text after",
+        b"\x1f more text after",
         b"\", \"\\\\ and \\\" more",
     ];
     let alloc = rt.alloc();

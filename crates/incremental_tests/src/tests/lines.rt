@@ -1,12 +1,12 @@
 //! Where the lines of bytes end that arrive in pieces, none of them kept.
 use jiter::{LinePosition, PartialMode};
-use jiter_incremental::{Arriving, LineFeeds};
+use jiter_incremental::{IncrementalParser, LineIndex};
 use std::alloc::{AllocError, Global};
 use std::test::*;
 
 #[test]
 fn a_hundred_thousand_lines_are_counted(rt: HostRuntime) -> Result<(), Fail> {
-    let mut lines = LineFeeds::new(rt.alloc());
+    let mut lines = LineIndex::new(rt.alloc());
     for _ in 0..100_000 {
         lines.push(b"12,")?;
         lines.push(b"\n")?;
@@ -18,13 +18,13 @@ fn a_hundred_thousand_lines_are_counted(rt: HostRuntime) -> Result<(), Fail> {
 
 // The example of docs/CALLING.md: the fault of a document that comes in pieces, if it is none.
 fn fault(alloc: Global, pieces: &[&[u8]]) -> Result<Option<String>, AllocError> {
-    let mut arriving = Arriving::new(alloc, false, PartialMode::Off);
-    let mut lines = LineFeeds::new(alloc);
+    let mut incremental_parser = IncrementalParser::new(alloc, false, PartialMode::Off);
+    let mut lines = LineIndex::new(alloc);
     for piece in pieces {
-        arriving.push(piece)?;
+        incremental_parser.push(piece)?;
         lines.push(piece)?;
     }
-    let Err(error) = arriving.finish() else {
+    let Err(error) = incremental_parser.finish() else {
         return Ok(None);
     };
     let position = lines.position(error.index);

@@ -1,13 +1,13 @@
 //! Long documents, byte by byte and at once: each byte is looked at once, so that they are read within seconds.
 use super::readings::is_read_at;
 use jiter::{JsonValue, PartialMode};
-use jiter_incremental::Arriving;
+use jiter_incremental::IncrementalParser;
 use std::alloc::{AllocError, Global};
 use std::test::*;
 
 const LENGTH: usize = 100_000;
 
-// What repeats, and what stands before and behind it. Each document is of a string, a key, a number, blanks, many parts,
+// What repeats, and what stands before and after it. Each document is of a string, a key, a number, blanks, many parts,
 // or containers.
 const FORMS: [(&str, &str, &str); 14] = [
     ("[\"", "a", "\"]"),
@@ -27,9 +27,9 @@ const FORMS: [(&str, &str, &str); 14] = [
 ];
 
 fn document(alloc: Global, form: (&str, &str, &str), length: usize) -> Result<String, AllocError> {
-    let (front, part, back) = form;
+    let (prefix, part, back) = form;
     let parts = part.repeat(alloc, length / part.len().max(1))?;
-    format!(in alloc; "{front}{parts}{back}")
+    format!(in alloc; "{prefix}{parts}{back}")
 }
 
 #[test]
@@ -63,10 +63,10 @@ fn sixteen_million_bytes_are_read_at_once(rt: HostRuntime) -> Result<(), Fail> {
         ("[\"", "\u{e9}\\n", "\"]"),
     ] {
         let text = document(alloc, form, 160 * LENGTH)?;
-        let mut arriving = Arriving::new(alloc, false, PartialMode::On);
-        arriving.push(text.as_bytes())?;
+        let mut incremental_parser = IncrementalParser::new(alloc, false, PartialMode::On);
+        incremental_parser.push(text.as_bytes())?;
         let wanted = JsonValue::parse_owned(alloc, text.as_bytes(), false, PartialMode::On);
-        assert!(rt; arriving.into_value() == wanted, "{form:?}");
+        assert!(rt; incremental_parser.into_value() == wanted, "{form:?}");
     }
     Ok(())
 }

@@ -1,6 +1,6 @@
 //! Readings in pieces, beside parses of the bytes so far: what the tests of this crate share.
 use jiter::{JsonError, JsonValue, PartialMode};
-use jiter_incremental::{Arriving, parse_pieces};
+use jiter_incremental::{IncrementalParser, parse_chunks};
 use std::alloc::{AllocError, Global};
 
 /// Every mode.
@@ -22,19 +22,19 @@ pub fn is_same(one: &Result<&JsonValue<'static>, JsonError>, other: &Answer) -> 
     }
 }
 
-/// Whether a reading stands behind so many bytes, and its value is that of a parse of them.
+/// Whether a reading stands after so many bytes, and its value is that of a parse of them.
 pub fn is_parsed_so_far(
     alloc: Global,
-    arriving: &Arriving,
-    front: &[u8],
+    incremental_parser: &IncrementalParser,
+    prefix: &[u8],
     names: bool,
     mode: PartialMode,
 ) -> bool {
-    let wanted = JsonValue::parse_owned(alloc, front, names, mode);
-    arriving.position() == front.len() && is_same(&arriving.value(), &wanted)
+    let wanted = JsonValue::parse_owned(alloc, prefix, names, mode);
+    incremental_parser.position() == prefix.len() && is_same(&incremental_parser.value(), &wanted)
 }
 
-/// Whether the value behind each piece of this size is that of a parse of all bytes so far, and the end that of the
+/// Whether the value after each piece of this size is that of a parse of all bytes so far, and the end that of the
 /// whole.
 pub fn is_read_once(
     alloc: Global,
@@ -46,7 +46,7 @@ pub fn is_read_once(
     is_read_at(alloc, bytes, size, 1, names, mode)
 }
 
-/// The same behind one of so many pieces, and at the end.
+/// The same after one of so many pieces, and at the end.
 pub fn is_read_at(
     alloc: Global,
     bytes: &[u8],
@@ -55,21 +55,25 @@ pub fn is_read_at(
     names: bool,
     mode: PartialMode,
 ) -> Result<bool, AllocError> {
-    let mut arriving = Arriving::new(alloc, names, mode);
+    let mut incremental_parser = IncrementalParser::new(alloc, names, mode);
     let mut end = 0usize;
     let mut left = 0usize;
     for piece in bytes.chunks(size.max(1)) {
-        arriving.push(piece)?;
+        incremental_parser.push(piece)?;
         end = end.saturating_add(piece.len());
-        let front = bytes.get(..end).unwrap_or(bytes);
-        if left == 0 && !is_parsed_so_far(alloc, &arriving, front, names, mode) {
+        let prefix = bytes.get(..end).unwrap_or(bytes);
+        if left == 0 && !is_parsed_so_far(alloc, &incremental_parser, prefix, names, mode) {
             return Ok(false);
         }
         left = if left == 0 { every } else { left }.saturating_sub(1);
     }
-    let is_whole = is_parsed_so_far(alloc, &arriving, bytes, names, mode);
+    let is_whole = is_parsed_so_far(alloc, &incremental_parser, bytes, names, mode);
     let wanted = JsonValue::parse_owned(alloc, bytes, names, PartialMode::Off);
-    Ok(is_whole && is_error_of(&arriving.error(), &wanted) && arriving.finish() == wanted)
+    Ok(
+        is_whole
+            && is_error_of(&incremental_parser.error(), &wanted)
+            && incremental_parser.finish() == wanted,
+    )
 }
 
 /// Whether this is the parse's error, or none where it has a value.
@@ -81,9 +85,9 @@ pub fn is_error_of(error: &Option<JsonError>, answer: &Answer) -> bool {
     }
 }
 
-/// What parses answer of each front of a document, in a mode and with partial reading off.
+/// What parses answer of each prefix of a document, in a mode and with partial reading off.
 #[derive(Drop)]
-pub struct Fronts {
+pub struct Prefixes {
     alloc: Global,
     names: bool,
     mode: PartialMode,
@@ -91,22 +95,22 @@ pub struct Fronts {
     wholes: Vec<Answer>,
 }
 
-impl Fronts {
+impl Prefixes {
     /// Those of a document.
     pub fn new(
         alloc: Global,
         bytes: &[u8],
         names: bool,
         mode: PartialMode,
-    ) -> Result<Fronts, AllocError> {
+    ) -> Result<Prefixes, AllocError> {
         let mut answers = Vec::new(alloc);
         let mut wholes = Vec::new(alloc);
         for end in 0..=bytes.len() {
-            let front = bytes.get(..end).unwrap_or(bytes);
-            answers.push(JsonValue::parse_owned(alloc, front, names, mode))?;
-            wholes.push(JsonValue::parse_owned(alloc, front, names, PartialMode::Off))?;
+            let prefix = bytes.get(..end).unwrap_or(bytes);
+            answers.push(JsonValue::parse_owned(alloc, prefix, names, mode))?;
+            wholes.push(JsonValue::parse_owned(alloc, prefix, names, PartialMode::Off))?;
         }
-        Ok(Fronts {
+        Ok(Prefixes {
             alloc,
             names,
             mode,
@@ -115,35 +119,36 @@ impl Fronts {
         })
     }
 
-    // A reading of these pieces of the document, from its first byte on, if value and error behind each are those of the
-    // front.
-    fn read(&self, pieces: &[&[u8]]) -> Result<Option<Arriving>, AllocError> {
-        let mut arriving = Arriving::new(self.alloc, self.names, self.mode);
+    // A reading of these pieces of the document, from its first byte on, if value and error after each are those of the
+    // prefix.
+    fn read(&self, pieces: &[&[u8]]) -> Result<Option<IncrementalParser>, AllocError> {
+        let mut incremental_parser = IncrementalParser::new(self.alloc, self.names, self.mode);
         let mut end = 0usize;
         for piece in pieces {
-            arriving.push(piece)?;
+            incremental_parser.push(piece)?;
             end = end.saturating_add(piece.len());
             let is_met = match (self.answers.get(end), self.wholes.get(end)) {
                 (Some(answer), Some(whole)) => {
-                    is_same(&arriving.value(), answer) && is_error_of(&arriving.error(), whole)
+                    is_same(&incremental_parser.value(), answer)
+                        && is_error_of(&incremental_parser.error(), whole)
                 }
                 _ => false,
             };
-            if !is_met || arriving.position() != end {
+            if !is_met || incremental_parser.position() != end {
                 return Ok(None);
             }
         }
-        Ok(Some(arriving))
+        Ok(Some(incremental_parser))
     }
 
-    /// Whether a reading of these pieces answers as the parses, behind each piece and in the end, and `parse_pieces` of
+    /// Whether a reading of these pieces answers as the parses, after each piece and in the end, and `parse_chunks` of
     /// them too.
     pub fn are_met(&self, pieces: &[&[u8]]) -> Result<bool, AllocError> {
         let (Some(one), Some(other)) = (self.read(pieces)?, self.read(pieces)?) else {
             return Ok(false);
         };
         let end = one.position();
-        let whole = parse_pieces(self.alloc, pieces, self.names);
+        let whole = parse_chunks(self.alloc, pieces, self.names);
         Ok(match (self.answers.get(end), self.wholes.get(end)) {
             (Some(answer), Some(wanted)) => {
                 one.into_value() == *answer && other.finish() == *wanted && whole == *wanted

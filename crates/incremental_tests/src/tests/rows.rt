@@ -1,5 +1,5 @@
 //! Short documents, cut at each place and at each two.
-use super::readings::{Fronts, MODES};
+use super::readings::{MODES, Prefixes};
 use jiter::PartialMode;
 use std::alloc::{AllocError, Global};
 use std::process::Abort;
@@ -176,23 +176,23 @@ const ARRAYS: [&[u8]; 27] = [
 ];
 
 // Whether the document is read as parses read it, cut at these two places.
-fn is_cut(fronts: &Fronts, bytes: &[u8], one: usize, two: usize) -> Result<bool, AllocError> {
-    let (front, back) = bytes.split_at_checked(two).ok_or(AllocError)?;
-    let (first, second) = front.split_at_checked(one).ok_or(AllocError)?;
-    Ok(fronts.are_met(&[first, second])? && fronts.are_met(&[first, second, back])?)
+fn is_cut(prefixes: &Prefixes, bytes: &[u8], one: usize, two: usize) -> Result<bool, AllocError> {
+    let (prefix, back) = bytes.split_at_checked(two).ok_or(AllocError)?;
+    let (first, second) = prefix.split_at_checked(one).ok_or(AllocError)?;
+    Ok(prefixes.are_met(&[first, second])? && prefixes.are_met(&[first, second, back])?)
 }
 
-// The first two places at which the document cannot be cut so, one behind the other or the same.
+// The first two places at which the document cannot be cut so, one after the other or the same.
 fn first_miss(
     alloc: Global,
     bytes: &[u8],
     names: bool,
     mode: PartialMode,
 ) -> Result<Option<(usize, usize)>, AllocError> {
-    let fronts = Fronts::new(alloc, bytes, names, mode)?;
+    let prefixes = Prefixes::new(alloc, bytes, names, mode)?;
     for two in 0..=bytes.len() {
         for one in 0..=two {
-            if !is_cut(&fronts, bytes, one, two)? {
+            if !is_cut(&prefixes, bytes, one, two)? {
                 return Ok(Some((one, two)));
             }
         }

@@ -19,7 +19,7 @@ arrays : RepliesOn (λ s. next s (array_read s)) (
 unfolding computed_replies
 arrays = refl
 
--- Behind an item; in the last row the comma was consumed.
+-- After an item; in the last row the comma was consumed.
 items : RepliesOn (item_step) (
     (at (codes "[1 , 2]") 2, gave (Some 50) 5) ∷
     (at (codes "[1 ]") 2, gave None 4) ∷
@@ -58,7 +58,7 @@ objects_by_bytes : RepliesOn (λ s. next s (object_read raw s)) (
 unfolding computed_replies
 objects_by_bytes = refl
 
--- Behind a member.
+-- After a member.
 keys : RepliesOn (key_step whole) (
     (at (codes "{\"a\":1 , \"b\" :2}") 6, gave (Some (borrowed (codes "b"))) 14) ∷
     (at (codes "{\"a\":1 }") 6, gave None 8) ∷

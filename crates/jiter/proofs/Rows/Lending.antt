@@ -29,7 +29,7 @@ abbrev Leaves : List ℕ → Result (List ℕ) JiterError → ℕ → Type 0
 Leaves t result i =
     Reads (string_memory t (past_blanks t 0)) (λ x. x) (lent (at t 0)) result (at t 0) (at t i)
 
--- behind its closing quote
+-- after its closing quote
 a_text_is_lent : Leaves (codes "\"a\" 1") (Ok (codes "a")) 3
 a_text_is_lent =
     unfold computed_replies in record {
@@ -60,8 +60,8 @@ memory_refused =
     }
 
 -- nowhere else
-not_behind_blanks : Leaves (codes "\"a\" 1") (Ok (codes "a")) 4 → ⊥
-not_behind_blanks h = by (unfold computed_replies in h.value) where
+not_after_blanks : Leaves (codes "\"a\" 1") (Ok (codes "a")) 4 → ⊥
+not_after_blanks h = by (unfold computed_replies in h.value) where
   by : gave (codes "a") 3 ≡ gave (codes "a") 4 → ⊥
   by e = cc
 
@@ -95,12 +95,12 @@ nothing_told = tt
 not_told_elsewhere : TellsHere (Ok (Some of.True)) (at (codes "[true]") 2) → ⊥
 not_told_elsewhere h = let same = same_byte 114 116 h in omega (arith, same)
 
--- Behind a key the reader stands right behind its colon.
+-- After a key the reader stands right after its colon.
 abbrev key_of_a : Result (Option Text) JiterError
 key_of_a = Ok (Some (borrowed (codes "a")))
 
-behind_the_colon : EndsWithColon key_of_a (codes "{\"a\" : 1}") 6
-behind_the_colon = (5, refl, refl)
+after_the_colon : EndsWithColon key_of_a (codes "{\"a\" : 1}") 6
+after_the_colon = (5, refl, refl)
 
 not_before_it : EndsWithColon key_of_a (codes "{\"a\" : 1}") 5 → ⊥
 not_before_it h =

@@ -5,7 +5,7 @@ use Rattle.std.specs.List.{flat_map}
 use Rattle.jiter.specs.Reader.{gave, next, number_bytes_read}
 use Rattle.jiter.proofs.Rows.Tables.{Row, RepliesOn, computed_replies, at}
 
--- numbers of the digits d: alone, behind a minus, of a fraction, of a power, and all at once
+-- numbers of the digits d: alone, after a minus, of a fraction, of a power, and all at once
 abbrev numbers_of : List ℕ → List (List ℕ)
 numbers_of d =
     d ∷

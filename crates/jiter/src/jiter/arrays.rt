@@ -12,7 +12,7 @@ use crate::jiter::plain::next_item;
 use crate::jiter::{Jiter, refusal};
 use crate::peek::Peek;
 use jiter_scan::errors::Fault;
-use jiter_steps::parse::{Shape, Start};
+use jiter_steps::parse::{ContainerKind, Start};
 
 impl<'j> Jiter<'j> {
     fn item(&self, led: Result<bool, Fault>) -> JiterResult<Option<Peek>>
@@ -39,7 +39,7 @@ impl<'j> Jiter<'j> {
     {
         match start {
             Start::Array => {
-                let led = self.parser.first(Shape::Array);
+                let led = self.parser.first(ContainerKind::Array);
                 self.item(led)
             }
             _ => Err(self.refused_as(JsonType::Array, start)),
@@ -49,7 +49,7 @@ impl<'j> Jiter<'j> {
     // The slow path, out of line.
     #[cold]
     #[inline(never)]
-    fn outlined_array(&mut self) -> JiterResult<Option<Peek>>
+    fn cold_array(&mut self) -> JiterResult<Option<Peek>>
         ensures reads { Reads never (option_map byte_of) (next self.old (array_read self.old))
             result self.old self.new }
         ensures here { TellsHere result self.new }
@@ -60,12 +60,12 @@ impl<'j> Jiter<'j> {
 
     // A function of its own: otherwise the fast path would reserve stack space for the result of this call.
     #[inline(always)]
-    fn general_array(&mut self) -> JiterResult<Option<Peek>>
+    fn slow_array(&mut self) -> JiterResult<Option<Peek>>
         ensures reads { Reads never (option_map byte_of) (next self.old (array_read self.old))
             result self.old self.new }
         ensures here { TellsHere result self.new }
     {
-        self.outlined_array()
+        self.cold_array()
     }
 
     /// Steps into the next array and returns the first byte of its first item, or `None` if it is empty (RFC 8259, 5).
@@ -98,9 +98,9 @@ impl<'j> Jiter<'j> {
             result self.old self.new }
         ensures here { TellsHere result self.new }
     {
-        match self.plain_array() {
+        match self.fast_array() {
             Some(told) => Ok(told),
-            None => self.general_array(),
+            None => self.slow_array(),
         }
     }
 
@@ -125,21 +125,21 @@ impl<'j> Jiter<'j> {
     // The slow path, out of line.
     #[cold]
     #[inline(never)]
-    fn outlined_step(&mut self) -> JiterResult<Option<Peek>>
+    fn cold_step(&mut self) -> JiterResult<Option<Peek>>
         ensures reads { Reads never (option_map byte_of) (item_step self.old) result self.old self.new }
         ensures here { TellsHere result self.new }
     {
-        let led = self.parser.step(Shape::Array);
+        let led = self.parser.step(ContainerKind::Array);
         self.item(led)
     }
 
     // A function of its own: otherwise the fast path would reserve stack space for the result of this call.
     #[inline(always)]
-    fn general_step(&mut self) -> JiterResult<Option<Peek>>
+    fn slow_step(&mut self) -> JiterResult<Option<Peek>>
         ensures reads { Reads never (option_map byte_of) (item_step self.old) result self.old self.new }
         ensures here { TellsHere result self.new }
     {
-        self.outlined_step()
+        self.cold_step()
     }
 
     /// Moves past the comma after an item and returns the first byte of the next item, or `None` at the array's end
@@ -162,9 +162,9 @@ impl<'j> Jiter<'j> {
         ensures here { TellsHere result self.new }
     {
         let (at, what) = next_item(self.parser.bytes, self.parser.index);
-        match self.plain_item(at, what) {
+        match self.fast_item(at, what) {
             Some(told) => Ok(told),
-            None => self.general_step(),
+            None => self.slow_step(),
         }
     }
 }

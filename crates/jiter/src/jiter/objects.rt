@@ -18,7 +18,7 @@ ghost use Rattle.jiter.specs.Lending.{LeavesReader};
 use crate::errors::{JiterResult, JsonType};
 use crate::jiter::{Jiter, refusal};
 use jiter_scan::errors::Fault;
-use jiter_steps::parse::{Shape, Start};
+use jiter_steps::parse::{ContainerKind, Start};
 use std::alloc::Global;
 use std::borrow::CowStr;
 
@@ -72,7 +72,7 @@ impl<'j> Jiter<'j> {
     {
         match start {
             Start::Object => {
-                let led = self.parser.first(Shape::Object);
+                let led = self.parser.first(ContainerKind::Object);
                 self.key_there(alloc, led)
             }
             _ => Err(self.refused_as(JsonType::Object, start)),
@@ -95,7 +95,7 @@ impl<'j> Jiter<'j> {
             (key_step whole self.old) result self.old self.new }
         ensures colon { EndsWithColon result self.old.text self.new.position }
     {
-        let led = self.parser.step(Shape::Object);
+        let led = self.parser.step(ContainerKind::Object);
         self.key_there(alloc, led)
     }
 
@@ -134,7 +134,7 @@ impl<'j> Jiter<'j> {
     {
         match start {
             Start::Object => {
-                let led = self.parser.first(Shape::Object);
+                let led = self.parser.first(ContainerKind::Object);
                 self.key_bytes_there(led)
             }
             _ => Err(self.refused_as(JsonType::Object, start)),
@@ -175,12 +175,12 @@ impl<'j> Jiter<'j> {
         ensures reads { Reads never (option_map raw_view) (key_step raw self.old) result self.old self.new }
         ensures colon { EndsWithColon result self.old.text self.new.position }
     {
-        let led = self.parser.step(Shape::Object);
+        let led = self.parser.step(ContainerKind::Object);
         self.key_bytes_there(led)
     }
 
     #[inline(always)]
-    fn general_object(&mut self, alloc: Global) -> JiterResult<Option<&str>>
+    fn slow_object(&mut self, alloc: Global) -> JiterResult<Option<&str>>
         ensures reads { Lends (first_key_memory self.old.text (value_place self.old)) (option_map (λ x. x.now))
             (reply_seen key_bytes (next self.old (object_read whole self.old))) result self.old }
         ensures colon { EndsWithColon result self.old.text
@@ -226,10 +226,10 @@ impl<'j> Jiter<'j> {
         ensures* after { sem 𝓛 (LeavesReader (first_key_memory self.old.text (value_place self.old)) (option_map (λ x. x.now))
             (reply_seen key_bytes (next self.old (object_read whole self.old))) result self.entry) }
     {
-        if let Some(key) = self.plain_object() {
+        if let Some(key) = self.fast_object() {
             return Ok(key);
         }
-        self.general_object(alloc)
+        self.slow_object(alloc)
     }
 
     /// Steps into the object that you peeked, as [`Jiter::next_object`] does.
@@ -263,7 +263,7 @@ impl<'j> Jiter<'j> {
     }
 
     #[inline(always)]
-    fn general_key(&mut self, alloc: Global) -> JiterResult<Option<&str>>
+    fn slow_key(&mut self, alloc: Global) -> JiterResult<Option<&str>>
         ensures reads { Lends (next_key_memory self.old) (option_map (λ x. x.now))
             (reply_seen key_bytes (key_step whole self.old)) result self.old }
         ensures colon { EndsWithColon result self.old.text
@@ -310,9 +310,9 @@ impl<'j> Jiter<'j> {
         ensures* after { sem 𝓛 (LeavesReader (next_key_memory self.old) (option_map (λ x. x.now))
             (reply_seen key_bytes (key_step whole self.old)) result self.entry) }
     {
-        if let Some(key) = self.plain_next_key() {
+        if let Some(key) = self.fast_next_key() {
             return Ok(key);
         }
-        self.general_key(alloc)
+        self.slow_key(alloc)
     }
 }

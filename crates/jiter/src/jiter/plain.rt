@@ -12,7 +12,7 @@ ghost use Rattle.jiter_steps.specs.Step.{container_comma};
 ghost use Rattle.jiter_steps.specs.StringDecoder.{WantsMemory};
 ghost use Rattle.jiter_steps.specs.StringReading.{string_at, text_form, whole};
 ghost use Rattle.jiter_steps.specs.declared.parse.Literal.{Literal};
-ghost use Rattle.jiter_steps.specs.declared.parse.Shape.{Shape};
+ghost use Rattle.jiter_steps.specs.declared.parse.ContainerKind.{ContainerKind};
 ghost use Rattle.jiter_steps.specs.declared.parse.Start.{Start};
 ghost use Rattle.jiter_steps.specs.Literal.{literal_at, start_of};
 ghost use Rattle.jiter.specs.Reader.{value_place, next, gave, null_read, bool_read, number_bytes_read, str_read};
@@ -21,10 +21,10 @@ ghost use Rattle.jiter.specs.Jiter.{MovesOn, StandsAt, StandsBefore, byte_of, re
 
 use crate::jiter::Jiter;
 use crate::peek::Peek;
-use jiter_scan::number_extent::plain_number_end;
+use jiter_scan::number_extent::fast_number_end;
 use jiter_scan::simd::scan_string;
 use jiter_steps::parse::Literal;
-use jiter_steps::plain::{Next, ascii_between, peek, plain_literal_end, text_between};
+use jiter_steps::plain::{Next, ascii_between, fast_literal_end, peek, text_between};
 
 // If there is no whitespace at `from`, one comparison finds the byte.
 #[inline(always)]
@@ -89,9 +89,9 @@ fn first_member(bytes: &[u8], from: usize) -> (usize, Next)
 }
 
 #[inline(always)]
-fn item_behind_comma(bytes: &[u8], from: usize) -> (usize, Next)
+fn item_after_comma(bytes: &[u8], from: usize) -> (usize, Next)
     requires { from ≤ length bytes.now }
-    ensures next { IsNext result.0 result.1 (step bytes.now (container_comma Shape.Array) from) }
+    ensures next { IsNext result.0 result.1 (step bytes.now (container_comma ContainerKind.Array) from) }
     ensures within { (from ≤ result.0) × (result.0 ≤ length bytes.now) }
     ensures part { result.1 ≡ Next.Part → result.0 < length bytes.now }
 {
@@ -109,9 +109,9 @@ fn item_behind_comma(bytes: &[u8], from: usize) -> (usize, Next)
 }
 
 #[inline(always)]
-fn member_behind_comma(bytes: &[u8], from: usize) -> (usize, Next)
+fn member_after_comma(bytes: &[u8], from: usize) -> (usize, Next)
     requires { from ≤ length bytes.now }
-    ensures next { IsNext result.0 result.1 (step bytes.now (container_comma Shape.Object) from) }
+    ensures next { IsNext result.0 result.1 (step bytes.now (container_comma ContainerKind.Object) from) }
     ensures within { (from ≤ result.0) × (result.0 ≤ length bytes.now) }
     ensures part { result.1 ≡ Next.Part → result.0 < length bytes.now }
 {
@@ -136,14 +136,14 @@ pub(super) fn next_item(bytes: &[u8], from: usize) -> (usize, Next)
     ensures part { result.1 ≡ Next.Part → result.0 < length bytes.now }
 {
     if from < bytes.len() && bytes[from] == b',' {
-        return item_behind_comma(bytes, from + 1);
+        return item_after_comma(bytes, from + 1);
     }
     let (at, byte) = look(bytes, from);
     match byte {
         None => (at, Next::Stuck),
         Some(byte) => {
             if byte == b',' {
-                item_behind_comma(bytes, at + 1)
+                item_after_comma(bytes, at + 1)
             } else if byte == b']' {
                 (at + 1, Next::End)
             } else {
@@ -161,14 +161,14 @@ fn next_member(bytes: &[u8], from: usize) -> (usize, Next)
     ensures part { result.1 ≡ Next.Part → result.0 < length bytes.now }
 {
     if from < bytes.len() && bytes[from] == b',' {
-        return member_behind_comma(bytes, from + 1);
+        return member_after_comma(bytes, from + 1);
     }
     let (at, byte) = look(bytes, from);
     match byte {
         None => (at, Next::Stuck),
         Some(byte) => {
             if byte == b',' {
-                member_behind_comma(bytes, at + 1)
+                member_after_comma(bytes, at + 1)
             } else if byte == b'}' {
                 (at + 1, Next::End)
             } else {
@@ -202,7 +202,7 @@ fn text_look<'j>(bytes: &'j [u8], at: usize) -> (Option<&'j str>, bool)
 }
 
 #[inline(always)]
-fn plain_text<'j>(bytes: &'j [u8], at: usize) -> Option<&'j str>
+fn fast_text<'j>(bytes: &'j [u8], at: usize) -> Option<&'j str>
     requires { at < length bytes.now }
     ensures value { IfSome result (λ text. (keep : Bool) → string_at (text_form keep) bytes.now at
         ≡ taken (record { owned = false; bytes = text.now }) (at + length text.now + 2)) }
@@ -213,13 +213,13 @@ fn plain_text<'j>(bytes: &'j [u8], at: usize) -> Option<&'j str>
 
 impl<'j> Jiter<'j> {
     #[inline(always)]
-    fn plain_literal_at(&mut self, at: usize, literal: Literal) -> bool
+    fn fast_literal_at(&mut self, at: usize, literal: Literal) -> bool
         requires within { (self.old.position ≤ at) × (at < length self.old.text) }
         ensures moves { MovesOn self.old self.new }
         ensures value { result ≡ true → literal_at self.old.text literal at ≡ taken tt self.new.position }
         ensures same { result ≡ false → self.new ≡ self.old }
     {
-        match plain_literal_end(self.parser.bytes, at, literal) {
+        match fast_literal_end(self.parser.bytes, at, literal) {
             Some(end) => {
                 self.parser.index = end;
                 true
@@ -229,33 +229,33 @@ impl<'j> Jiter<'j> {
     }
 
     #[inline(always)]
-    pub(super) fn plain_null(&mut self) -> bool
+    pub(super) fn fast_null(&mut self) -> bool
         ensures moves { MovesOn self.old self.new }
         ensures value { result ≡ true → next self.old (null_read self.old) ≡ gave tt self.new.position }
         ensures same { result ≡ false → self.new ≡ self.old }
     {
         match look(self.parser.bytes, self.parser.index) {
-            (at, Some(b'n')) => self.plain_literal_at(at, Literal::Null),
+            (at, Some(b'n')) => self.fast_literal_at(at, Literal::Null),
             _ => false,
         }
     }
 
     #[inline(always)]
-    pub(super) fn plain_bool(&mut self) -> Option<bool>
+    pub(super) fn fast_bool(&mut self) -> Option<bool>
         ensures moves { MovesOn self.old self.new }
         ensures value { IfSome result
             (λ b. next self.old (bool_read self.old) ≡ gave b self.new.position) }
         ensures same { result ≡ None → self.new ≡ self.old }
     {
         match look(self.parser.bytes, self.parser.index) {
-            (at, Some(b't')) if self.plain_literal_at(at, Literal::True) => Some(true),
-            (at, Some(b'f')) if self.plain_literal_at(at, Literal::False) => Some(false),
+            (at, Some(b't')) if self.fast_literal_at(at, Literal::True) => Some(true),
+            (at, Some(b'f')) if self.fast_literal_at(at, Literal::False) => Some(false),
             _ => None,
         }
     }
 
     #[inline(always)]
-    pub(super) fn plain_number_bytes_at(&mut self, at: usize) -> Option<&'j [u8]>
+    pub(super) fn fast_number_bytes_at(&mut self, at: usize) -> Option<&'j [u8]>
         requires within { (self.old.position ≤ at) × (at < length self.old.text) }
         ensures moves { MovesOn self.old self.new }
         ensures value { IfSome result (λ b. number_bytes_read self.old at Start.Number
@@ -264,13 +264,13 @@ impl<'j> Jiter<'j> {
             (λ _. start_of (slice_index self.old.text at) ≡ Start.Number) }
         ensures same { result ≡ None → self.new ≡ self.old }
     {
-        let end = plain_number_end(self.parser.bytes, at)?;
+        let end = fast_number_end(self.parser.bytes, at)?;
         self.parser.index = end;
         Some(&self.parser.bytes[at..end])
     }
 
     #[inline(always)]
-    pub(super) fn plain_number_bytes(&mut self) -> Option<&'j [u8]>
+    pub(super) fn fast_number_bytes(&mut self) -> Option<&'j [u8]>
         ensures moves { MovesOn self.old self.new }
         ensures value { IfSome result (λ b. next self.old (number_bytes_read self.old)
             ≡ gave b.now self.new.position) }
@@ -278,14 +278,14 @@ impl<'j> Jiter<'j> {
     {
         let (at, byte) = look(self.parser.bytes, self.parser.index);
         match byte {
-            Some(_) => self.plain_number_bytes_at(at),
+            Some(_) => self.fast_number_bytes_at(at),
             None => None,
         }
     }
 
     // `Err(true)`: a backslash is the first byte of the string that is not plain.
     #[inline(always)]
-    fn plain_text_at(&mut self, at: usize) -> Result<&'j str, bool>
+    fn fast_text_at(&mut self, at: usize) -> Result<&'j str, bool>
         requires within { (self.old.position ≤ at) × (at < length self.old.text) }
         ensures moves { MovesOn self.old self.new }
         ensures value { IfOk result (λ text. (keep : Bool) → string_at (text_form keep) self.old.text at
@@ -305,7 +305,7 @@ impl<'j> Jiter<'j> {
     // `Err(Some(at))` is a string with a backslash whose opening quote is at `at`: decoding need not look for it again.
     // `Err(None)` is all else.
     #[inline(always)]
-    pub(super) fn plain_str(&mut self) -> Result<&'j str, Option<usize>>
+    pub(super) fn fast_str(&mut self) -> Result<&'j str, Option<usize>>
         ensures moves { MovesOn self.old self.new }
         ensures value { IfOk result (λ text. reply_seen text_bytes (next self.old (str_read self.old))
             ≡ gave text.now self.new.position) }
@@ -315,7 +315,7 @@ impl<'j> Jiter<'j> {
         ensures same { IfErr result (λ _. self.new ≡ self.old) }
     {
         match look(self.parser.bytes, self.parser.index) {
-            (at, Some(b'"')) => match self.plain_text_at(at) {
+            (at, Some(b'"')) => match self.fast_text_at(at) {
                 Ok(text) => Ok(text),
                 Err(true) => Err(Some(at)),
                 Err(false) => Err(None),
@@ -325,7 +325,7 @@ impl<'j> Jiter<'j> {
     }
 
     #[inline(always)]
-    pub(super) fn plain_item(&mut self, at: usize, what: Next) -> Option<Option<Peek>>
+    pub(super) fn fast_item(&mut self, at: usize, what: Next) -> Option<Option<Peek>>
         requires within { (self.old.position ≤ at) × (at ≤ length self.old.text) }
         requires part { what ≡ Next.Part → at < length self.old.text }
         ensures moves { MovesOn self.old self.new }
@@ -348,7 +348,7 @@ impl<'j> Jiter<'j> {
     }
 
     #[inline(always)]
-    pub(super) fn plain_first_item(&mut self, at: usize) -> Option<Option<Peek>>
+    pub(super) fn fast_first_item(&mut self, at: usize) -> Option<Option<Peek>>
         requires within { (self.old.position ≤ at) × (at < length self.old.text) }
         ensures moves { MovesOn self.old self.new }
         ensures value { IfSome result (λ told. array_read self.old at Start.Array
@@ -357,11 +357,11 @@ impl<'j> Jiter<'j> {
         ensures same { result ≡ None → self.new ≡ self.old }
     {
         let (next, what) = first_item(self.parser.bytes, at + 1);
-        self.plain_item(next, what)
+        self.fast_item(next, what)
     }
 
     #[inline(always)]
-    pub(super) fn plain_array(&mut self) -> Option<Option<Peek>>
+    pub(super) fn fast_array(&mut self) -> Option<Option<Peek>>
         ensures moves { MovesOn self.old self.new }
         ensures value { IfSome result (λ told. next self.old (array_read self.old)
             ≡ gave (option_map byte_of told) self.new.position) }
@@ -369,13 +369,13 @@ impl<'j> Jiter<'j> {
         ensures same { result ≡ None → self.new ≡ self.old }
     {
         match look(self.parser.bytes, self.parser.index) {
-            (at, Some(b'[')) => self.plain_first_item(at),
+            (at, Some(b'[')) => self.fast_first_item(at),
             _ => None,
         }
     }
 
     #[inline(always)]
-    fn plain_key_at(&mut self, at: usize) -> Option<&'j str>
+    fn fast_key_at(&mut self, at: usize) -> Option<&'j str>
         requires within { (self.old.position ≤ at) × (at < length self.old.text) }
         ensures moves { MovesOn self.old self.new }
         ensures value { IfSome result (λ key. key_reply self.old.text at (string_at whole self.old.text at)
@@ -383,7 +383,7 @@ impl<'j> Jiter<'j> {
         ensures colon { IfSome result (λ _. StandsBefore self.old.text self.new.position ascii.colon) }
         ensures same { result ≡ None → self.new ≡ self.old }
     {
-        let key = plain_text(self.parser.bytes, at)?;
+        let key = fast_text(self.parser.bytes, at)?;
         match look(self.parser.bytes, at + key.len() + 2) {
             (colon, Some(b':')) => {
                 self.parser.index = colon + 1;
@@ -394,7 +394,7 @@ impl<'j> Jiter<'j> {
     }
 
     #[inline(always)]
-    pub(super) fn plain_member(&mut self, at: usize, what: Next) -> Option<Option<&'j str>>
+    pub(super) fn fast_member(&mut self, at: usize, what: Next) -> Option<Option<&'j str>>
         requires within { (self.old.position ≤ at) × (at ≤ length self.old.text) }
         requires part { what ≡ Next.Part → at < length self.old.text }
         ensures moves { MovesOn self.old self.new }
@@ -406,7 +406,7 @@ impl<'j> Jiter<'j> {
         ensures same { result ≡ None → self.new ≡ self.old }
     {
         match what {
-            Next::Part => match self.plain_key_at(at) {
+            Next::Part => match self.fast_key_at(at) {
                 Some(key) => Some(Some(key)),
                 None => None,
             },
@@ -419,7 +419,7 @@ impl<'j> Jiter<'j> {
     }
 
     #[inline(always)]
-    pub(super) fn plain_first_key(&mut self, at: usize) -> Option<Option<&'j str>>
+    pub(super) fn fast_first_key(&mut self, at: usize) -> Option<Option<&'j str>>
         requires within { (self.old.position ≤ at) × (at < length self.old.text) }
         ensures moves { MovesOn self.old self.new }
         ensures value { IfSome result (λ key. reply_seen key_bytes (object_read whole self.old at Start.Object)
@@ -429,11 +429,11 @@ impl<'j> Jiter<'j> {
         ensures same { result ≡ None → self.new ≡ self.old }
     {
         let (next, what) = first_member(self.parser.bytes, at + 1);
-        self.plain_member(next, what)
+        self.fast_member(next, what)
     }
 
     #[inline(always)]
-    pub(super) fn plain_object(&mut self) -> Option<Option<&'j str>>
+    pub(super) fn fast_object(&mut self) -> Option<Option<&'j str>>
         ensures moves { MovesOn self.old self.new }
         ensures value { IfSome result
             (λ key. reply_seen key_bytes (next self.old (object_read whole self.old))
@@ -443,13 +443,13 @@ impl<'j> Jiter<'j> {
         ensures same { result ≡ None → self.new ≡ self.old }
     {
         match look(self.parser.bytes, self.parser.index) {
-            (at, Some(b'{')) => self.plain_first_key(at),
+            (at, Some(b'{')) => self.fast_first_key(at),
             _ => None,
         }
     }
 
     #[inline(always)]
-    pub(super) fn plain_next_key(&mut self) -> Option<Option<&'j str>>
+    pub(super) fn fast_next_key(&mut self) -> Option<Option<&'j str>>
         ensures moves { MovesOn self.old self.new }
         ensures value { IfSome result (λ key. reply_seen key_bytes (key_step whole self.old)
             ≡ gave (option_map (λ x. x.now) key) self.new.position) }
@@ -458,6 +458,6 @@ impl<'j> Jiter<'j> {
         ensures same { result ≡ None → self.new ≡ self.old }
     {
         let (at, what) = next_member(self.parser.bytes, self.parser.index);
-        self.plain_member(at, what)
+        self.fast_member(at, what)
     }
 }

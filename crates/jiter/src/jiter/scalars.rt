@@ -48,7 +48,7 @@ impl<'j> Jiter<'j> {
     // The slow path, out of line.
     #[cold]
     #[inline(never)]
-    fn outlined_null(&mut self) -> JiterResult<()>
+    fn cold_null(&mut self) -> JiterResult<()>
         ensures reads { Reads never (λ u. u) (next self.old (null_read self.old)) result self.old self.new }
     {
         let start = self.next_start()?;
@@ -57,10 +57,10 @@ impl<'j> Jiter<'j> {
 
     // A function of its own: otherwise the fast path would reserve stack space for the result of this call.
     #[inline(always)]
-    fn general_null(&mut self) -> JiterResult<()>
+    fn slow_null(&mut self) -> JiterResult<()>
         ensures reads { Reads never (λ u. u) (next self.old (null_read self.old)) result self.old self.new }
     {
-        self.outlined_null()
+        self.cold_null()
     }
 
     /// Reads `null` (RFC 8259, 3).
@@ -77,10 +77,10 @@ impl<'j> Jiter<'j> {
     pub fn next_null(&mut self) -> JiterResult<()>
         ensures reads { Reads never (λ u. u) (next self.old (null_read self.old)) result self.old self.new }
     {
-        if self.plain_null() {
+        if self.fast_null() {
             Ok(())
         } else {
-            self.general_null()
+            self.slow_null()
         }
     }
 
@@ -118,7 +118,7 @@ impl<'j> Jiter<'j> {
     // The slow path, out of line.
     #[cold]
     #[inline(never)]
-    fn outlined_bool(&mut self) -> JiterResult<bool>
+    fn cold_bool(&mut self) -> JiterResult<bool>
         ensures reads { Reads never (λ b. b) (next self.old (bool_read self.old)) result self.old self.new }
     {
         let start = self.next_start()?;
@@ -127,10 +127,10 @@ impl<'j> Jiter<'j> {
 
     // A function of its own: otherwise the fast path would reserve stack space for the result of this call.
     #[inline(always)]
-    fn general_bool(&mut self) -> JiterResult<bool>
+    fn slow_bool(&mut self) -> JiterResult<bool>
         ensures reads { Reads never (λ b. b) (next self.old (bool_read self.old)) result self.old self.new }
     {
-        self.outlined_bool()
+        self.cold_bool()
     }
 
     /// Reads `true` or `false` (RFC 8259, 3).
@@ -147,9 +147,9 @@ impl<'j> Jiter<'j> {
     pub fn next_bool(&mut self) -> JiterResult<bool>
         ensures reads { Reads never (λ b. b) (next self.old (bool_read self.old)) result self.old self.new }
     {
-        match self.plain_bool() {
+        match self.fast_bool() {
             Some(truth) => Ok(truth),
-            None => self.general_bool(),
+            None => self.slow_bool(),
         }
     }
 
@@ -311,7 +311,7 @@ impl<'j> Jiter<'j> {
     // The slow path, out of line.
     #[cold]
     #[inline(never)]
-    fn outlined_number_bytes(&mut self) -> JiterResult<&'j [u8]>
+    fn cold_number_bytes(&mut self) -> JiterResult<&'j [u8]>
         ensures reads { Reads never (λ b. b.now) (next self.old (number_bytes_read self.old))
             result self.old self.new }
     {
@@ -321,11 +321,11 @@ impl<'j> Jiter<'j> {
 
     // A function of its own: otherwise the fast path would reserve stack space for the result of this call.
     #[inline(always)]
-    fn general_number_bytes(&mut self) -> JiterResult<&'j [u8]>
+    fn slow_number_bytes(&mut self) -> JiterResult<&'j [u8]>
         ensures reads { Reads never (λ b. b.now) (next self.old (number_bytes_read self.old))
             result self.old self.new }
     {
-        self.outlined_number_bytes()
+        self.cold_number_bytes()
     }
 
     /// Reads a number and returns its source bytes, borrowed from the document (RFC 8259, 6).
@@ -340,9 +340,9 @@ impl<'j> Jiter<'j> {
         ensures reads { Reads never (λ b. b.now) (next self.old (number_bytes_read self.old))
             result self.old self.new }
     {
-        match self.plain_number_bytes() {
+        match self.fast_number_bytes() {
             Some(bytes) => Ok(bytes),
-            None => self.general_number_bytes(),
+            None => self.slow_number_bytes(),
         }
     }
 

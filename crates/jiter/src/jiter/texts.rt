@@ -10,13 +10,13 @@ ghost use Rattle.jiter_steps.specs.RawString.{raw_view};
 ghost use Rattle.jiter_steps.specs.StringDecoder.{text_view, WantsMemory};
 ghost use Rattle.jiter_steps.specs.StringReading.{string_at, text_form, whole, kept, raw, raw_kept};
 ghost use Rattle.jiter.specs.Reader.{value_place, next, known, gave, scalar_reply, str_read, bytes_read};
-ghost use Rattle.jiter.specs.Jiter.{MovesOn, front, reply_seen, text_bytes, BeginsAs, IsMemory, StandsAt};
+ghost use Rattle.jiter.specs.Jiter.{MovesOn, prefix, reply_seen, text_bytes, BeginsAs, IsMemory, StandsAt};
 ghost use Rattle.jiter.specs.Reads.{Lends, Reads, never, escape_memory, string_memory};
 ghost use Rattle.jiter.specs.Lending.{LeavesReader};
 
 use crate::errors::{JiterError, JiterResult, JsonType};
 use crate::jiter::{Jiter, refusal, refusal_at};
-use jiter_scan::memory::Refused;
+use jiter_scan::memory::AllocFailed;
 use jiter_scan::text::utf8_text;
 use jiter_steps::parse::Start;
 use jiter_steps::read_error::ReadError;
@@ -53,9 +53,9 @@ fn decode_next(
 
 #[inline(always)]
 fn text_on(tape: &Option<Vec<u8>>, count: usize) -> &str
-    requires text { IsUtf8 (front tape.now count) }
+    requires text { IsUtf8 (prefix tape.now count) }
     requires room { IfSome tape.now (λ v. count ≤ vec_len v) }
-    ensures { result.now ≡ front tape.now count }
+    ensures { result.now ≡ prefix tape.now count }
 {
     match tape {
         Some(tape) => utf8_text(&tape.as_slice()[..count]),
@@ -123,7 +123,7 @@ impl<'j> Jiter<'j> {
     }
 
     #[inline(always)]
-    fn general_str(&mut self, alloc: Global) -> JiterResult<&str>
+    fn slow_str(&mut self, alloc: Global) -> JiterResult<&str>
         ensures reads { Lends (string_memory self.old.text (value_place self.old)) (λ x. x.now)
             (reply_seen text_bytes (next self.old (str_read self.old))) result self.old }
         ensures* after { sem 𝓛 (LeavesReader (string_memory self.old.text (value_place self.old)) (λ x. x.now)
@@ -135,7 +135,7 @@ impl<'j> Jiter<'j> {
 
     // Nothing has moved the reader yet: it passes the whitespace here.
     #[cold]
-    fn refused_str(&mut self, refused: Refused) -> JiterError
+    fn refused_str(&mut self, refused: AllocFailed) -> JiterError
         ensures moves { MovesOn self.old self.new }
         ensures memory { IsMemory result }
         ensures place { (self.new.position ≡ result.index) × (result.index ≡ value_place self.old) }
@@ -230,10 +230,10 @@ impl<'j> Jiter<'j> {
         ensures* after { sem 𝓛 (LeavesReader (string_memory self.old.text (value_place self.old)) (λ x. x.now)
             (reply_seen text_bytes (next self.old (str_read self.old))) result self.entry) }
     {
-        match self.plain_str() {
+        match self.fast_str() {
             Ok(text) => Ok(text),
             Err(Some(at)) => self.escaped_str(alloc, at),
-            Err(None) => self.general_str(alloc),
+            Err(None) => self.slow_str(alloc),
         }
     }
 

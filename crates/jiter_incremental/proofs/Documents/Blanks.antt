@@ -9,16 +9,16 @@ use Rattle.std.proofs.lemmas.Option.{get_or_from_slice_get, slice_get-get_or, sl
 use Rattle.jiter_scan.proofs.Runs.{run_end-passes}
 use Rattle.jiter_scan.proofs.Standing.{slice-one, slice_range-split}
 use Rattle.jiter_steps.specs.Blank.{is_blank, past_blanks}
-use Rattle.jiter_steps.proofs.Grammar.Blanks.{no_blank-behind, past_blanks-after, past_blanks-bound}
+use Rattle.jiter_steps.proofs.Grammar.Blanks.{no_blank-after, past_blanks-after, past_blanks-bound}
 use Rattle.jiter_incremental.specs.Names.{name_start}
-use Rattle.jiter_incremental.specs.OpenDocument.{HasArrived, HasTakenIn, HoldsScalar, Holding}
-use Rattle.jiter_incremental.specs.OpenDocument.{MayRefuseAt, Opened, anything, between_tokens, in_key, in_scalar}
-use Rattle.jiter_incremental.specs.OpenValue.{IsScalarStart}
+use Rattle.jiter_incremental.specs.PartialDocument.{HasArrived, HasTakenIn, HoldsScalar, Holding}
+use Rattle.jiter_incremental.specs.PartialDocument.{MayRefuseAt, Opened, anything, between_tokens, in_key, in_scalar}
+use Rattle.jiter_incremental.specs.PartialValue.{IsScalarStart}
 use Rattle.jiter_incremental.specs.declared.names.Name.{Name}
 use Rattle.jiter_incremental.specs.declared.names.Name.TheVariants as name
-use Rattle.jiter_incremental.specs.declared.open_document.OpenDocument.{OpenDocument}
-use Rattle.jiter_incremental.specs.declared.open_document.Token.{Token}
-use Rattle.jiter_incremental.specs.declared.open_document.Token.TheVariants as token
+use Rattle.jiter_incremental.specs.declared.partial_document.PartialDocument.{PartialDocument}
+use Rattle.jiter_incremental.specs.declared.partial_document.Token.{Token}
+use Rattle.jiter_incremental.specs.declared.partial_document.Token.TheVariants as token
 use Rattle.jiter_incremental.proofs.Documents.Bytes.{two-parts}
 use Rattle.jiter_incremental.proofs.Documents.Ends.{no-blank}
 use Rattle.jiter_incremental.proofs.Documents.Tokens.{stands-last}
@@ -26,14 +26,14 @@ use Rattle.jiter_incremental.proofs.Documents.{known-before, taken-between, take
 use Rattle.jiter_incremental.proofs.OpenValues.{goes-blank}
 
 -- a blank is taken
-blank-taken : (d : OpenDocument) (t : List ℕ) (c : ℕ) → HasTakenIn anything d t → d.fault ≡ None
+blank-taken : (d : PartialDocument) (t : List ℕ) (c : ℕ) → HasTakenIn anything d t → d.fault ≡ None
     → d.token ≡ token.Nothing → is_blank c ≡ true → HasTakenIn anything d (t ++ c ∷ [])
 blank-taken d t c h unset none blank =
     let b = taken-between anything d t h unset none in
     takes-byte d d.value c t b.state (known-before c d t (between_tokens b.state) b.known) none
     (goes-blank d.value b.state c blank b.left)
 
-module _ (d : OpenDocument) (t : List ℕ) (h : HasTakenIn anything d t) (unset : d.fault ≡ None)
+module _ (d : PartialDocument) (t : List ℕ) (h : HasTakenIn anything d t) (unset : d.fault ≡ None)
     (none : d.token ≡ token.Nothing) (s : List ℕ) (i : ℕ) where
   -- and each of so many
   blanks-taken : (n : ℕ) → i + n ≤ length s → ((k : ℕ) → i ≤ k → k < i + n → is_blank (get_or s k 0) ≡ true)
@@ -63,11 +63,11 @@ module _ (d : OpenDocument) (t : List ℕ) (h : HasTakenIn anything d t) (unset 
       let bound = past_blanks-bound s i le in
       blanks-taken n (omega arith) (λ k from to. run_end-passes is_blank s i k from (omega arith))
 
--- Behind bytes of a piece that were taken the blanks are taken too.
-pub blanks-behind : (d : OpenDocument) (piece : List ℕ) (at e r : ℕ) (t : List ℕ) → at ≤ e → e ≤ length piece
+-- After bytes of a piece that were taken the blanks are taken too.
+pub blanks-after : (d : PartialDocument) (piece : List ℕ) (at e r : ℕ) (t : List ℕ) → at ≤ e → e ≤ length piece
     → d.fault ≡ None → d.token ≡ token.Nothing → at + r ≡ past_blanks piece e
     → HasTakenIn anything d (t ++ slice_range piece at e) → HasTakenIn anything d (t ++ slice_range piece at (at + r))
-blanks-behind d piece at e r t le within unset none is h =
+blanks-after d piece at e r t le within unset none is h =
     let n = past_blanks piece e - e in
     let all : e + n ≡ past_blanks piece e = omega (arith, past_blanks-after piece e) in
     two-parts d piece at e n r t le (is ∙ sym all)
@@ -104,9 +104,9 @@ before-more s r i c here =
     slice_get_read (s ++ r) (length (s ++ r)) i c refl (omega (arith, length-append s r))
     (sym (get_or_append_left s r c i lt ∙ get_or_from_slice_get s i c c here))
 
--- behind it too
-refuse-behind : (t : List ℕ) (c : ℕ) → HasByte t → MayRefuseAt (t ++ c ∷ []) (length t)
-refuse-behind t c b =
+-- after it too
+refuse-after : (t : List ℕ) (c : ℕ) → HasByte t → MayRefuseAt (t ++ c ∷ []) (length t)
+refuse-after t c b =
     let lt = slice_get_within t b.place b.byte b.here in
     let stops = blank-stops (t ++ c ∷ []) b.place b.byte (before-more t (c ∷ []) b.place b.byte b.here) b.other in
     record { begun = omega arith; before = omega (arith, length-append t (c ∷ [])) }
@@ -118,7 +118,7 @@ refuse-on s r i h =
     let c = get_or s j 0 in
     let lt : j < length s = omega (arith, h.begun, h.before) in
     let here = slice_get-get_or s j 0 lt in
-    let stops = blank-stops (s ++ r) j c (before-more s r j c here) (no_blank-behind s 0 (Some c) here) in
+    let stops = blank-stops (s ++ r) j c (before-more s r j c here) (no_blank-after s 0 (Some c) here) in
     record { begun = omega (arith, h.begun); before = omega (arith, h.before, length-append s r) }
 
 -- a token begins with a byte that is no blank
@@ -126,7 +126,7 @@ name-starts : (k : Name) → IsScalarStart (name_start k)
 name-starts (name.Literal l) = tt
 name-starts other = tt
 
-scalar-begins : (d : OpenDocument) (k : Token) (w : List ℕ) → HoldsScalar d k w
+scalar-begins : (d : PartialDocument) (k : Token) (w : List ℕ) → HoldsScalar d k w
     → (c : ℕ) × (rest : List ℕ) × (w ≡ c ∷ rest) × (is_blank c ≡ false)
 scalar-begins d token.Word w h =
     let b = h.2 in (b.first, b.rest, b.is, no-blank b.first (subst IsScalarStart (sym b.starts) (name-starts d.name)))
@@ -135,39 +135,39 @@ scalar-begins d token.Number w h =
 scalar-begins d token.Text w h = (34, h.rest, h.is, refl)
 scalar-begins d other w h = absurd h
 
-held-byte : (d : OpenDocument) (t : List ℕ) (o : Opened) → Holding d t o → d.token ≢ token.Nothing → HasByte t
+held-byte : (d : PartialDocument) (t : List ℕ) (o : Opened) → Holding d t o → d.token ≢ token.Nothing → HasByte t
 held-byte d t (between_tokens s) h begun = absurd (begun h.0)
 held-byte d t (in_scalar fs b) h begun =
     let f = h.1 in
     let w = scalar-begins d d.token h.0 h.2 in
-    let is : t ≡ f.front ++ w.0 ∷ w.1 = f.is ∙ ap (λ u. f.front ++ u) w.2 in
+    let is : t ≡ f.prefix ++ w.0 ∷ w.1 = f.is ∙ ap (λ u. f.prefix ++ u) w.2 in
     record {
-      place = length f.front;
+      place = length f.prefix;
       byte = w.0;
-      here = ap (λ u. slice_get u (length f.front)) is ∙ stands-last f.front w.1 w.0;
+      here = ap (λ u. slice_get u (length f.prefix)) is ∙ stands-last f.prefix w.1 w.0;
       other = w.3;
     }
 held-byte d t (in_key fs ms b) h begun =
     let f = h.1 in
     let q = h.3 in
-    let is : t ≡ f.front ++ 34 ∷ q.rest = f.is ∙ ap (λ u. f.front ++ u) q.is in
+    let is : t ≡ f.prefix ++ 34 ∷ q.rest = f.is ∙ ap (λ u. f.prefix ++ u) q.is in
     record {
-      place = length f.front;
+      place = length f.prefix;
       byte = 34;
-      here = ap (λ u. slice_get u (length f.front)) is ∙ stands-last f.front q.rest 34;
+      here = ap (λ u. slice_get u (length f.prefix)) is ∙ stands-last f.prefix q.rest 34;
       other = refl;
     }
 
 -- Inside a token memory may be refused.
-pub refuse-in : (d : OpenDocument) (t : List ℕ) (c : ℕ) → HasArrived d t → d.fault ≡ None → d.token ≢ token.Nothing
+pub refuse-in : (d : PartialDocument) (t : List ℕ) (c : ℕ) → HasArrived d t → d.fault ≡ None → d.token ≢ token.Nothing
     → MayRefuseAt (t ++ c ∷ []) (length t)
 refuse-in d t c h unset begun =
-    refuse-behind t c (held-byte d t h.read.opened (h.read.held unset) begun)
+    refuse-after t c (held-byte d t h.read.opened (h.read.held unset) begun)
 
 -- a byte that is not passed is no blank
 pub not-passed : (s : List ℕ) (i : ℕ) → i < length s → past_blanks s i ≡ i → is_blank (get_or s i 0) ≡ false
 not-passed s i lt stays =
-    no_blank-behind s i (Some (get_or s i 0)) (ap (slice_get s) stays ∙ slice_get-get_or s i 0 lt)
+    no_blank-after s i (Some (get_or s i 0)) (ap (slice_get s) stays ∙ slice_get-get_or s i 0 lt)
 
 -- what holds anyway
 pub if-refused : {T E P : Type 0} (r : Result T E) → P → OnErr r P

@@ -1,4 +1,4 @@
--- What the bytes of a document answer that have arrived so far, if the input ends behind them.
+-- What the bytes of a document answer that have arrived so far, if the input ends after them.
 use Rattle.std.proofs.Common.{◌≡◌, ℕ, ◌+◌, ◌-◌, ◌<◌, ◌≤◌, ◌==◌, Bool, true, false, List, [], ◌∷◌, ◌++◌, length, refl}
 use Rattle.std.proofs.Common.{eqb-true, inl, sym, subst, ap, ◌∙◌, arith, get_or}
 use Rattle.std.specs.Prelude.{slice_get, Option, Some, None, if◌then◌else◌, string_bytes}
@@ -15,25 +15,25 @@ use Rattle.jiter_scan.proofs.OpenNumbers.{digits-ended, fraction-ended, run-ende
 use Rattle.jiter_scan.proofs.Standing.{slice-stands}
 use Rattle.jiter_scan.proofs.WordLaws.{word_at-cut}
 use Rattle.jiter_scan.specs.Kind.{invalid_code_point}
-use Rattle.jiter_scan.specs.NumberReading.{behind_minus, behind_zero, digits_from, exponent_at, exponent_from, extent_then}
+use Rattle.jiter_scan.specs.NumberReading.{after_minus, after_zero, digits_from, exponent_at, exponent_from, extent_then}
 use Rattle.jiter_scan.specs.NumberReading.{fraction_from, number_extent, power_from}
-use Rattle.jiter_scan.specs.OpenNumber.{is_whole, number_from, tail_at}
-use Rattle.jiter_scan.specs.OpenNumber.{at_end as ended_so}
+use Rattle.jiter_scan.specs.PartialNumber.{is_whole, number_from, tail_at}
+use Rattle.jiter_scan.specs.PartialNumber.{at_end as ended_so}
 use Rattle.jiter_scan.specs.PartialMode.{allows_trailing_strings}
 use Rattle.jiter_scan.specs.Scanned.{Scanned, failed, taken}
-use Rattle.jiter_scan.specs.declared.open_number.Stage.{Stage}
-use Rattle.jiter_scan.specs.declared.open_number.Stage.TheVariants as stage
+use Rattle.jiter_scan.specs.declared.partial_number.Stage.{Stage}
+use Rattle.jiter_scan.specs.declared.partial_number.Stage.TheVariants as stage
 use Rattle.jiter_scan.specs.declared.errors.FaultKind.{FaultKind}
 use Rattle.jiter_scan.specs.declared.errors.FaultKind.TheVariants as fault_of
 use Rattle.jiter_scan.specs.Word.{Extent}
 use Rattle.jiter_steps.specs.Blank.{is_blank, past_blanks}
 use Rattle.jiter_steps.specs.Frames.{items_frame, members_frame, resume, value_in, value_from, key_from}
 use Rattle.jiter_steps.specs.Literal.{start_of}
-use Rattle.jiter_steps.specs.Read.{done, fault, front_answer, whole_answer, to_end, if_last}
+use Rattle.jiter_steps.specs.Read.{done, fault, prefix_answer, whole_answer, to_end, if_last}
 use Rattle.jiter_steps.specs.Step.{container_step, step, end_kind_of, comma_kind_of}
 use Rattle.jiter_steps.specs.Tree.{Text, Tree, array, object, items_of, members_of}
-use Rattle.jiter_steps.specs.declared.parse.Shape.{Shape}
-use Rattle.jiter_steps.specs.declared.parse.Shape.TheVariants as shape
+use Rattle.jiter_steps.specs.declared.parse.ContainerKind.{ContainerKind}
+use Rattle.jiter_steps.specs.declared.parse.ContainerKind.TheVariants as shape
 use Rattle.jiter_steps.specs.declared.parse.Start.{Start}
 use Rattle.jiter_steps.specs.declared.parse.Start.TheVariants as start
 use Rattle.jiter_steps.proofs.Grammar.Blanks.{past_blanks-other, past_blanks-end}
@@ -42,33 +42,33 @@ use Rattle.jiter_steps.proofs.Calls.Resumed.{if_forgiven-yes, key-failed}
 use Rattle.jiter_steps.proofs.OpenStrings.{ended}
 use Rattle.jiter_steps.proofs.Reading.Values.{inside_at-starts}
 use Rattle.jiter_steps.specs.Answer.{nothing_forgiven, seen_as, value_form}
-use Rattle.jiter_steps.specs.OpenString.{text_or}
+use Rattle.jiter_steps.specs.PartialString.{text_or}
 use Rattle.jiter_steps.specs.Read.{if_forgiven, scalar_at}
 use Rattle.jiter_steps.specs.StringReading.{content_at, kept, text_form, whole}
 use Rattle.jiter_steps.specs.Tree.{string}
 use Rattle.jiter_steps.specs.Step.{colon, value_first}
 use Rattle.jiter_incremental.specs.Arrived.{Arrived, at_value, between_parts, at_end, shown, end_of, leads_on, owned}
 use Rattle.jiter_incremental.specs.DocumentEnds.{AnswersSo, so_far, token_tree}
-use Rattle.jiter_incremental.specs.OpenDocument.{Opened, between_tokens, in_scalar, in_key, opened_to, EndsRight, ReadsAt, strictly}
-use Rattle.jiter_incremental.specs.OpenValue.{IsScalarStart, behind_value}
+use Rattle.jiter_incremental.specs.PartialDocument.{Opened, between_tokens, in_scalar, in_key, opened_to, EndsRight, ReadsAt, strictly}
+use Rattle.jiter_incremental.specs.PartialValue.{IsScalarStart, after_value}
 use Rattle.jiter_value.specs.Settings.{answer_as, rules_as}
 use Rattle.jiter_incremental.specs.Spine.{OpenFrame, begun, filled}
 use Rattle.jiter_value.specs.Stacks.{built}
-use Rattle.jiter_incremental.specs.declared.open_value.Awaits.TheVariants as awaits
+use Rattle.jiter_incremental.specs.declared.partial_value.Awaits.TheVariants as awaits
 use Rattle.jiter_value.specs.declared.settings.Settings.{Settings}
 use Rattle.jiter_incremental.specs.DocumentEnds.{IsEndFault, KeepsText, broken_as, is_broken, kind_as, kind_at_end, shown_as}
 use Rattle.jiter_incremental.specs.Arrived.{value_then}
-use Rattle.jiter_incremental.specs.declared.open_value.Awaits.{Awaits}
+use Rattle.jiter_incremental.specs.declared.partial_value.Awaits.{Awaits}
 use Rattle.jiter_incremental.specs.DocumentStrings.{IsOfString}
 use Rattle.jiter_incremental.specs.Names.{name_start}
-use Rattle.jiter_incremental.specs.OpenDocument.{BeginsAs, HasArrived, Holding, HoldsScalar, HoldsString, IsAllowed, TakenFrom}
-use Rattle.jiter_incremental.specs.OpenValue.{text_of}
+use Rattle.jiter_incremental.specs.PartialDocument.{BeginsAs, HasArrived, Holding, HoldsScalar, HoldsString, IsAllowed, TakenFrom}
+use Rattle.jiter_incremental.specs.PartialValue.{text_of}
 use Rattle.jiter_value.specs.Owned.{owned_text}
 use Rattle.jiter_incremental.specs.declared.names.Name.{Name}
 use Rattle.jiter_incremental.specs.declared.names.Name.TheVariants as name
-use Rattle.jiter_incremental.specs.declared.open_document.OpenDocument.{OpenDocument}
-use Rattle.jiter_incremental.specs.declared.open_document.Token.{Token}
-use Rattle.jiter_incremental.specs.declared.open_document.Token.TheVariants as token
+use Rattle.jiter_incremental.specs.declared.partial_document.PartialDocument.{PartialDocument}
+use Rattle.jiter_incremental.specs.declared.partial_document.Token.{Token}
+use Rattle.jiter_incremental.specs.declared.partial_document.Token.TheVariants as token
 use Rattle.jiter_incremental.proofs.Arrivals.{Sticks, all-close, fault-closes, led-answers, led-end, off-answers}
 use Rattle.jiter_incremental.proofs.OpenValues.{scalar-read}
 use Rattle.jiter_incremental.proofs.Documents.Strings.{begin_of, is-held, is-placed, text-low}
@@ -96,7 +96,7 @@ sticks-scalar t j c here h = by where
   other : is_blank (get_or t j 0) ≡ false
   other = ap is_blank (get_or_from_slice_get t j c 0 here) ∙ no-blank c h
 
-  at : (s : Shape) → step t (container_step s t) j ≡ container_step s t j (Some c)
+  at : (s : ContainerKind) → step t (container_step s t) j ≡ container_step s t j (Some c)
   at s = ap (λ m. container_step s t m (slice_get t m)) (past_blanks-other t j lt other)
       ∙ ap (container_step s t j) here
 
@@ -116,49 +116,49 @@ sticks-scalar t j c here h = by where
 pub dropped-answers : (p : Settings) (t : List ℕ) (f : OpenFrame) (fs : List OpenFrame) (b c : ℕ) (k : Kind) (i : ℕ)
     → is_active p.mode ≡ true → slice_get t b ≡ Some c → IsScalarStart (start_of c)
     → value_in (rules_as owned p) t (length (f ∷ fs)) b ≡ fault k i b → is_forgiven k ≡ true
-    → front_answer (rules_as owned p) t ≡ value_from (rules_as owned p) t (f ∷ fs) b
+    → prefix_answer (rules_as owned p) t ≡ value_from (rules_as owned p) t (f ∷ fs) b
     → answer_as owned p t ≡ done (filled fs (begun f)) b
 dropped-answers p t f fs b c k i on here starts read ok led =
     let r = rules_as owned p in
-    if-true (is_active p.mode) (front_answer r t) (whole_answer r t) on ∙ led ∙ ap (resume r t (f ∷ fs)) read
+    if-true (is_active p.mode) (prefix_answer r t) (whole_answer r t) on ∙ led ∙ ap (resume r t (f ∷ fs)) read
     ∙ fault-closes p t on b (sticks-scalar t b c here starts) f fs k i ok
 
 -- A fault that is not forgiven, or where nothing is, is the answer.
 pub fault-answers : (p : Settings) (t : List ℕ) (fs : List OpenFrame) (b : ℕ) (k : Kind) (i stop : ℕ)
     → (rules_as owned p).forgives k ≡ false
     → value_in (rules_as owned p) t (length fs) b ≡ fault k i stop
-    → front_answer (rules_as owned p) t ≡ value_from (rules_as owned p) t fs b
-    → front_answer (rules_as owned p) t ≡ fault k i stop
+    → prefix_answer (rules_as owned p) t ≡ value_from (rules_as owned p) t fs b
+    → prefix_answer (rules_as owned p) t ≡ fault k i stop
 fault-answers p t fs b k i stop bad read led =
     let r = rules_as owned p in led ∙ ap (resume r t fs) read ∙ resume-fault r t fs k i stop bad
 
 -- outside all containers too
 pub root-answers : (p : Settings) (t : List ℕ) (b : ℕ) (k : Kind) (i stop : ℕ)
     → value_in (rules_as owned p) t 0 b ≡ fault k i stop
-    → front_answer (rules_as owned p) t ≡ value_from (rules_as owned p) t [] b
-    → front_answer (rules_as owned p) t ≡ fault k i stop
+    → prefix_answer (rules_as owned p) t ≡ value_from (rules_as owned p) t [] b
+    → prefix_answer (rules_as owned p) t ≡ fault k i stop
 root-answers p t b k i stop read led = led ∙ read
 
--- a fault of the front is one of the whole
-pub front-fault : (p : Settings) (t : List ℕ) (k : Kind) (i stop : ℕ)
-    → front_answer (rules_as owned p) t ≡ fault k i stop → answer_as owned p t ≡ fault k i stop
-front-fault p t k i stop h = by (is_active p.mode) refl where
+-- a fault of the prefix is one of the whole
+pub prefix-fault : (p : Settings) (t : List ℕ) (k : Kind) (i stop : ℕ)
+    → prefix_answer (rules_as owned p) t ≡ fault k i stop → answer_as owned p t ≡ fault k i stop
+prefix-fault p t k i stop h = by (is_active p.mode) refl where
   by : (b : Bool) → is_active p.mode ≡ b → answer_as owned p t ≡ fault k i stop
   by true on =
-      let r = rules_as owned p in if-true (is_active p.mode) (front_answer r t) (whole_answer r t) on ∙ h
+      let r = rules_as owned p in if-true (is_active p.mode) (prefix_answer r t) (whole_answer r t) on ∙ h
   by false off = off-answers p t off ∙ ap (to_end t) h
 
--- a scalar that is a value where the input ends leads on behind it
+-- a scalar that is a value where the input ends leads on after it
 pub value-led : (p : Settings) (t : List ℕ) (fs : List OpenFrame) (b : ℕ) (v : Tree)
     → value_in (rules_as owned p) t (length fs) b ≡ done v (length t)
-    → front_answer (rules_as owned p) t ≡ value_from (rules_as owned p) t fs b
-    → front_answer (rules_as owned p) t ≡ leads_on (rules_as owned p) t (behind_value v fs) (length t)
+    → prefix_answer (rules_as owned p) t ≡ value_from (rules_as owned p) t fs b
+    → prefix_answer (rules_as owned p) t ≡ leads_on (rules_as owned p) t (after_value v fs) (length t)
 value-led p t fs b v read led = led ∙ scalar-read v p t b (length t) fs read
 
 -- With partial reading off a value that is whole is the answer.
 pub whole-answers : (p : Settings) (t : List ℕ) (v : Tree) (n : ℕ) → is_active p.mode ≡ false
     → EndsRight t (between_tokens (at_end v n))
-    → front_answer (rules_as owned p) t ≡ leads_on (rules_as owned p) t (at_end v n) (length t)
+    → prefix_answer (rules_as owned p) t ≡ leads_on (rules_as owned p) t (at_end v n) (length t)
     → answer_as owned p t ≡ done v (length t - n)
 whole-answers p t v n off ends led =
     let r = rules_as owned p in
@@ -181,9 +181,9 @@ step-past t row =
 -- a number at its stage
 number-ended : (names : Bool) (s : Stage) (t : List ℕ) (j : ℕ) → slice_get t j ≡ None
     → number_from names s t j ≡ ended_so (is_whole s) j
-number-ended names stage.Minus t j h = ap (behind_minus names t j) h
+number-ended names stage.Minus t j h = ap (after_minus names t j) h
 number-ended names stage.Zero t j h =
-    ap (λ o. extent_then (behind_zero j o) (tail_at t)) h
+    ap (λ o. extent_then (after_zero j o) (tail_at t)) h
     ∙ ap (λ o. extent_then (fraction_from t j o) (exponent_at t)) h ∙ ap (exponent_from t j) h
 number-ended names (stage.Digits room) t j h = digits-ended t j h room
 number-ended names stage.Point t j h = ap (λ o. extent_then (digits_from t j o) (exponent_at t)) h
@@ -211,13 +211,13 @@ name-starts name.NaN = tt
 name-starts name.Infinity = tt
 name-starts name.MinusInfinity = tt
 
-module _ (d : OpenDocument) (t : List ℕ) (b : ℕ) (w : List ℕ) (from : TakenFrom d t b w) where
+module _ (d : PartialDocument) (t : List ℕ) (b : ℕ) (w : List ℕ) (from : TakenFrom d t b w) where
   all-stand : Stands t b (b + length w) w
   all-stand =
-      subst (λ v. Stands v b (b + length w) w) (append-nil t) (held-stands from.front w t b from.is from.begin [])
+      subst (λ v. Stands v b (b + length w) w) (append-nil t) (held-stands from.prefix w t b from.is from.begin [])
 
   at-end : b + length w ≡ length t
-  at-end = held-end from.front w t b from.is from.begin
+  at-end = held-end from.prefix w t b from.is from.begin
 
   none-there : slice_get t (b + length w) ≡ None
   none-there = slice_get_past t (b + length w) (omega (arith, at-end))
@@ -332,7 +332,7 @@ module _ (d : OpenDocument) (t : List ℕ) (b : ℕ) (w : List ℕ) (from : Take
 
 -- ---- the fault of the end
 
-pub end-some : (d : OpenDocument) (k : Option Kind) (x : Option FaultKind) (kind : FaultKind) (f : Fault)
+pub end-some : (d : PartialDocument) (k : Option Kind) (x : Option FaultKind) (kind : FaultKind) (f : Fault)
     → option_map fault_kind x ≡ k → x ≡ Some kind → f ≡ record { kind = kind; index = d.position }
     → IsEndFault d k (Some f)
 end-some d k x kind f told is made = (
@@ -340,20 +340,20 @@ end-some d k x kind f told is made = (
   ap (λ (g : Fault). g.index) made,
 )
 
-pub end-none : (d : OpenDocument) (k : Option Kind) (x : Option FaultKind) → option_map fault_kind x ≡ k → x ≡ None
+pub end-none : (d : PartialDocument) (k : Option Kind) (x : Option FaultKind) → option_map fault_kind x ≡ k → x ≡ None
     → IsEndFault d k None
 end-none d k x told is = sym told ∙ ap (option_map fault_kind) is
 
 -- ---- what the bytes answer then
 
 abbrev end_led : Settings → List ℕ → Arrived → Type 0
-end_led p t s = front_answer (rules_as owned p) t ≡ leads_on (rules_as owned p) t s (length t)
+end_led p t s = prefix_answer (rules_as owned p) t ≡ leads_on (rules_as owned p) t s (length t)
 
 -- nothing has come yet
 pub nothing-comes : (p : Settings) (t : List ℕ) (o : Opened) → ReadsAt p t [] None o
-    → front_answer (rules_as owned p) t ≡ opened_to p t o (length t)
+    → prefix_answer (rules_as owned p) t ≡ opened_to p t o (length t)
 nothing-comes p t o h =
-    subst (λ v. front_answer (rules_as owned p) v ≡ opened_to p v o (length t)) (append-nil t) h
+    subst (λ v. prefix_answer (rules_as owned p) v ≡ opened_to p v o (length t)) (append-nil t) h
 
 -- a fault that was found
 pub fault-found : (p : Settings) (t : List ℕ) (x : Option Fault) (o : Opened) (v : Option Tree) → ReadsAt p t [] x o
@@ -362,7 +362,7 @@ fault-found p t (Some f) o v h some = (h.0, sym (ap (answer_as owned p) (append-
 fault-found p t None o v h some = absurd (false≢true some)
 
 -- the fault of the end
-pub end-answered : (d : OpenDocument) (p : Settings) (t : List ℕ) (x : Option Kind) (k : Kind) (stop : ℕ)
+pub end-answered : (d : PartialDocument) (p : Settings) (t : List ℕ) (x : Option Kind) (k : Kind) (stop : ℕ)
     (r : Option Fault) (v : Option Tree) → x ≡ Some k → IsEndFault d x r → d.position ≡ length t
     → answer_as owned p t ≡ fault k (length t) stop → AnswersSo p t r v
 end-answered d p t x k stop None v is end place h = absurd (none-some k (sym end ∙ is))
@@ -372,39 +372,39 @@ end-answered d p t x k stop (Some f) v is end place h = (
       ∙ ap (λ i. fault (fault_kind f.kind) i stop) (sym (end.1 ∙ place)),
 )
 
--- what is left open behind the scalar, where it is a value there
-far-shown : (d : OpenDocument) (k : Token) (fs : List OpenFrame) (b : ℕ) → d.token ≡ k → shown_as d k ≡ true
-    → so_far d (in_scalar fs b) ≡ behind_value (token_tree d k) fs
+-- what is left open after the scalar, where it is a value there
+far-shown : (d : PartialDocument) (k : Token) (fs : List OpenFrame) (b : ℕ) → d.token ≡ k → shown_as d k ≡ true
+    → so_far d (in_scalar fs b) ≡ after_value (token_tree d k) fs
 far-shown d k fs b is sure =
-    ap (λ j. if shown_as d j then behind_value (token_tree d j) fs else at_value awaits.Value fs) is
+    ap (λ j. if shown_as d j then after_value (token_tree d j) fs else at_value awaits.Value fs) is
     ∙ if-true (shown_as d k) _ _ sure
 
-far-hidden : (d : OpenDocument) (k : Token) (fs : List OpenFrame) (b : ℕ) → d.token ≡ k → shown_as d k ≡ false
+far-hidden : (d : PartialDocument) (k : Token) (fs : List OpenFrame) (b : ℕ) → d.token ≡ k → shown_as d k ≡ false
     → so_far d (in_scalar fs b) ≡ at_value awaits.Value fs
 far-hidden d k fs b is sure =
-    ap (λ j. if shown_as d j then behind_value (token_tree d j) fs else at_value awaits.Value fs) is
+    ap (λ j. if shown_as d j then after_value (token_tree d j) fs else at_value awaits.Value fs) is
     ∙ if-false (shown_as d k) _ _ sure
 
-kind-whole : (d : OpenDocument) (fs : List OpenFrame) (b : ℕ) → d.token ≡ token.Number → is_whole d.number.stage ≡ true
-    → kind_at_end d (in_scalar fs b) ≡ end_of (behind_value (token_tree d token.Number) fs)
+kind-whole : (d : PartialDocument) (fs : List OpenFrame) (b : ℕ) → d.token ≡ token.Number → is_whole d.number.stage ≡ true
+    → kind_at_end d (in_scalar fs b) ≡ end_of (after_value (token_tree d token.Number) fs)
 kind-whole d fs b is sure =
     ap (λ k. kind_as d k (in_scalar fs b)) is ∙ if-true (is_whole d.number.stage) _ _ sure
 
-kind-cut : (d : OpenDocument) (fs : List OpenFrame) (b : ℕ) → d.token ≡ token.Number → is_whole d.number.stage ≡ false
+kind-cut : (d : PartialDocument) (fs : List OpenFrame) (b : ℕ) → d.token ≡ token.Number → is_whole d.number.stage ≡ false
     → kind_at_end d (in_scalar fs b) ≡ Some eof_value
 kind-cut d fs b is sure =
     ap (λ k. kind_as d k (in_scalar fs b)) is ∙ if-false (is_whole d.number.stage) _ _ sure
 
 -- a value that has just ended
-ends-behind : (t : List ℕ) (v : Tree) (fs : List OpenFrame) → EndsRight t (between_tokens (behind_value v fs))
-ends-behind t v [] =
+ends-after : (t : List ℕ) (v : Tree) (fs : List OpenFrame) → EndsRight t (between_tokens (after_value v fs))
+ends-after t v [] =
     let none : length t - 0 ≡ length t = omega arith in
     (omega arith, λ u. ap (past_blanks (t ++ u)) none)
-ends-behind t v (items_frame xs ∷ fs) = tt
-ends-behind t v (members_frame ms k ∷ fs) = tt
+ends-after t v (items_frame xs ∷ fs) = tt
+ends-after t v (members_frame ms k ∷ fs) = tt
 
 -- With partial reading off: between two tokens,
-module _ (d : OpenDocument) (t : List ℕ) (place : d.position ≡ length t) where
+module _ (d : PartialDocument) (t : List ℕ) (place : d.position ≡ length t) where
   abbrev p : Settings
   p = strictly d.settings
 
@@ -451,27 +451,27 @@ module _ (d : OpenDocument) (t : List ℕ) (place : d.position ≡ length t) whe
   strict-cut : (fs : List OpenFrame) (b : ℕ) (k : Kind) (r : Option Fault) (v : Option Tree)
       → kind_at_end d (in_scalar fs b) ≡ Some k → IsEndFault d (kind_at_end d (in_scalar fs b)) r
       → CutAt p t (length fs) b k (length t)
-      → front_answer (rules_as owned p) t ≡ value_from (rules_as owned p) t fs b → AnswersSo p t r v
+      → prefix_answer (rules_as owned p) t ≡ value_from (rules_as owned p) t fs b → AnswersSo p t r v
   strict-cut fs b k r v is end cut led =
       end-answered d p t _ k b r v is end place
-      (front-fault p t k (length t) b (fault-answers p t fs b k (length t) b (none-forgiven k) cut.read led))
+      (prefix-fault p t k (length t) b (fault-answers p t fs b k (length t) b (none-forgiven k) cut.read led))
 
   -- in one that is a number,
   strict-whole : (fs : List OpenFrame) (b : ℕ) (r : Option Fault) → d.token ≡ token.Number
       → is_whole d.number.stage ≡ true → IsEndFault d (kind_at_end d (in_scalar fs b)) r
       → value_in (rules_as owned p) t (length fs) b ≡ done (token_tree d token.Number) (length t)
-      → front_answer (rules_as owned p) t ≡ value_from (rules_as owned p) t fs b
+      → prefix_answer (rules_as owned p) t ≡ value_from (rules_as owned p) t fs b
       → AnswersSo p t r (shown (so_far d (in_scalar fs b)))
   strict-whole fs b r is sure end read led =
       let v = token_tree d token.Number in
       subst (λ s. AnswersSo p t r (shown s)) (sym (far-shown d token.Number fs b is sure))
-      (strict-led (behind_value v fs) _ r (kind-whole d fs b is sure) end (ends-behind t v fs)
+      (strict-led (after_value v fs) _ r (kind-whole d fs b is sure) end (ends-after t v fs)
       (value-led p t fs b v read led))
 
   strict-number : (fs : List OpenFrame) (b : ℕ) (w : List ℕ) (r : Option Fault) → TakenFrom d t b w
       → HoldsScalar d token.Number w → d.token ≡ token.Number → length fs ≤ 200
       → IsEndFault d (kind_at_end d (in_scalar fs b)) r
-      → front_answer (rules_as owned p) t ≡ value_from (rules_as owned p) t fs b
+      → prefix_answer (rules_as owned p) t ≡ value_from (rules_as owned p) t fs b
       → (x : Bool) → is_whole d.number.stage ≡ x → AnswersSo p t r (shown (so_far d (in_scalar fs b)))
   strict-number fs b w r from h is few end led true sure =
       strict-whole fs b r is sure end (number-read d t b w from p refl (length fs) few h sure) led
@@ -482,7 +482,7 @@ module _ (d : OpenDocument) (t : List ℕ) (place : d.position ≡ length t) whe
   strict-scalar : (fs : List OpenFrame) (b : ℕ) (w : List ℕ) (r : Option Fault) → TakenFrom d t b w
       → (k : Token) → d.token ≡ k → HoldsScalar d k w → length fs ≤ 200
       → IsEndFault d (kind_at_end d (in_scalar fs b)) r
-      → front_answer (rules_as owned p) t ≡ value_from (rules_as owned p) t fs b
+      → prefix_answer (rules_as owned p) t ≡ value_from (rules_as owned p) t fs b
       → AnswersSo p t r (shown (so_far d (in_scalar fs b)))
   strict-scalar fs b w r from token.Word is h few end led =
       strict-cut fs b eof_value r _ (ap (λ k. kind_as d k (in_scalar fs b)) is) end
@@ -497,7 +497,7 @@ module _ (d : OpenDocument) (t : List ℕ) (place : d.position ≡ length t) whe
 
   -- and in a key.
   pub strict-answers : (o : Opened) (r : Option Fault) → Holding d t o → EndsRight t o
-      → IsEndFault d (kind_at_end d o) r → front_answer (rules_as owned p) t ≡ opened_to p t o (length t)
+      → IsEndFault d (kind_at_end d o) r → prefix_answer (rules_as owned p) t ≡ opened_to p t o (length t)
       → AnswersSo p t r (shown (so_far d o))
   strict-answers (between_tokens s) r h ends end led =
       strict-led s _ r (ap (λ k. kind_as d k (between_tokens s)) h.0) end ends led
@@ -505,7 +505,7 @@ module _ (d : OpenDocument) (t : List ℕ) (place : d.position ≡ length t) whe
       strict-scalar fs b h.0 r h.1 d.token refl h.2 h.4 end led
   strict-answers (in_key fs ms b) r h ends end led =
       end-answered d p t _ eof_string b r _ (ap (λ k. kind_as d k (in_key fs ms b)) h.2) end place
-      (front-fault p t eof_string (length t) b
+      (prefix-fault p t eof_string (length t) b
       (led ∙ key-cut d t b h.0 h.1 h.3 p fs ms
       ∙ resume-fault (rules_as owned p) t fs eof_string (length t) b (none-forgiven eof_string)))
 
@@ -529,7 +529,7 @@ and-true-right : (a b : Bool) → (a && b) ≡ true → b ≡ true
 and-true-right true b h = h
 and-true-right false b h = absurd (false≢true h)
 
-broken-text : (d : OpenDocument) (k : Token) → d.token ≡ k → broken_as d k ≡ true → d.token ≡ token.Text
+broken-text : (d : PartialDocument) (k : Token) → d.token ≡ k → broken_as d k ≡ true → d.token ≡ token.Text
 broken-text d token.Text is h = is
 broken-text d token.Nothing is h = absurd (false≢true h)
 broken-text d token.Word is h = absurd (false≢true h)
@@ -557,7 +557,7 @@ end-some-of : (a : Awaits) → (k : Kind) × (end_of (at_value a []) ≡ Some k)
 end-some-of awaits.Colon = (eof_object, refl)
 end-some-of a = (eof_value, refl)
 
-module _ (d : OpenDocument) (t : List ℕ) (on : is_active d.settings.mode ≡ true) where
+module _ (d : PartialDocument) (t : List ℕ) (on : is_active d.settings.mode ≡ true) where
   abbrev q : Settings
   q = d.settings
 
@@ -574,40 +574,40 @@ module _ (d : OpenDocument) (t : List ℕ) (on : is_active d.settings.mode ≡ t
       let e = end-some-of a in
       subst (So None) (sym e.1)
       (with_fault e.0 (length t)
-      (front-fault q t e.0 (length t) (length t) (led ∙ root-ends q t a e.0 e.1)))
+      (prefix-fault q t e.0 (length t) (length t) (led ∙ root-ends q t a e.0 e.1)))
   partial-led (at_value a (f ∷ fs)) led = partial-shown (at_value a (f ∷ fs)) (filled fs (begun f)) _ refl led
   partial-led (between_parts a h xs fs) led = partial-shown (between_parts a h xs fs) (filled fs (built h xs)) _ refl led
   partial-led (at_end v n) led = partial-shown (at_end v n) v _ refl led
 
-  -- behind a scalar that is a value there
-  shown-behind : (v : Tree) (fs : List OpenFrame) → (w : Tree) × (shown (behind_value v fs) ≡ Some w)
-  shown-behind v [] = (v, refl)
-  shown-behind v (items_frame xs ∷ fs) = (filled fs (array (items_of (xs ++ v ∷ []))), refl)
-  shown-behind v (members_frame ms k ∷ fs) = (filled fs (object (members_of (ms ++ (k, v) ∷ []))), refl)
+  -- after a scalar that is a value there
+  shown-after : (v : Tree) (fs : List OpenFrame) → (w : Tree) × (shown (after_value v fs) ≡ Some w)
+  shown-after v [] = (v, refl)
+  shown-after v (items_frame xs ∷ fs) = (filled fs (array (items_of (xs ++ v ∷ []))), refl)
+  shown-after v (members_frame ms k ∷ fs) = (filled fs (object (members_of (ms ++ (k, v) ∷ []))), refl)
 
   partial-whole : (k : Token) (fs : List OpenFrame) (b : ℕ) (x : Option Kind) → d.token ≡ k → shown_as d k ≡ true
       → value_in (rules_as owned q) t (length fs) b ≡ done (token_tree d k) (length t)
-      → front_answer (rules_as owned q) t ≡ value_from (rules_as owned q) t fs b
+      → prefix_answer (rules_as owned q) t ≡ value_from (rules_as owned q) t fs b
       → So (shown (so_far d (in_scalar fs b))) x
   partial-whole k fs b x is sure read led =
       let v = token_tree d k in
-      let w = shown-behind v fs in
+      let w = shown-after v fs in
       subst (λ s. So (shown s) x) (sym (far-shown d k fs b is sure))
-      (partial-shown (behind_value v fs) w.0 x w.1 (value-led q t fs b v read led))
+      (partial-shown (after_value v fs) w.0 x w.1 (value-led q t fs b v read led))
 
-  -- behind one that is cut
+  -- after one that is cut
   cut-so : (fs : List OpenFrame) (b : ℕ) (k : Kind) → is_forgiven k ≡ true → CutAt q t (length fs) b k (length t)
-      → front_answer (rules_as owned q) t ≡ value_from (rules_as owned q) t fs b
+      → prefix_answer (rules_as owned q) t ≡ value_from (rules_as owned q) t fs b
       → So (shown (at_value awaits.Value fs)) (Some k)
   cut-so [] b k ok cut led =
-      with_fault k b (front-fault q t k (length t) b (root-answers q t b k (length t) b cut.read led))
+      with_fault k b (prefix-fault q t k (length t) b (root-answers q t b k (length t) b cut.read led))
   cut-so (f ∷ fs) b k ok cut led =
       with_value (filled fs (begun f)) (Some k) b
       (dropped-answers q t f fs b cut.byte k (length t) on cut.here cut.starts cut.read ok led)
 
   partial-cut : (token : Token) (fs : List OpenFrame) (b : ℕ) (k : Kind) → d.token ≡ token → shown_as d token ≡ false
       → kind_at_end d (in_scalar fs b) ≡ Some k → is_forgiven k ≡ true → CutAt q t (length fs) b k (length t)
-      → front_answer (rules_as owned q) t ≡ value_from (rules_as owned q) t fs b
+      → prefix_answer (rules_as owned q) t ≡ value_from (rules_as owned q) t fs b
       → So (shown (so_far d (in_scalar fs b))) (kind_at_end d (in_scalar fs b))
   partial-cut token fs b k is not-so kind ok cut led =
       subst (λ s. So (shown s) (kind_at_end d (in_scalar fs b))) (sym (far-hidden d token fs b is not-so))
@@ -615,7 +615,7 @@ module _ (d : OpenDocument) (t : List ℕ) (on : is_active d.settings.mode ≡ t
 
   partial-number : (fs : List OpenFrame) (b : ℕ) (w : List ℕ) → TakenFrom d t b w → HoldsScalar d token.Number w
       → d.token ≡ token.Number → length fs ≤ 200
-      → front_answer (rules_as owned q) t ≡ value_from (rules_as owned q) t fs b
+      → prefix_answer (rules_as owned q) t ≡ value_from (rules_as owned q) t fs b
       → (x : Bool) → is_whole d.number.stage ≡ x
       → So (shown (so_far d (in_scalar fs b))) (kind_at_end d (in_scalar fs b))
   partial-number fs b w from h is few led true sure =
@@ -627,7 +627,7 @@ module _ (d : OpenDocument) (t : List ℕ) (on : is_active d.settings.mode ≡ t
   -- A string, kept or not
   module _ (fs : List OpenFrame) (b : ℕ) (w : List ℕ) (from : TakenFrom d t b w) (h : HoldsString d w)
       (is : d.token ≡ token.Text) (few : length fs ≤ 200)
-      (led : front_answer (rules_as owned q) t ≡ value_from (rules_as owned q) t fs b) where
+      (led : prefix_answer (rules_as owned q) t ≡ value_from (rules_as owned q) t fs b) where
     -- as it stands there
     stands-kept : KeepsText d → allows_trailing_strings q.mode ≡ true
         → content_at kept t (b + 1)
@@ -654,14 +654,14 @@ module _ (d : OpenDocument) (t : List ℕ) (on : is_active d.settings.mode ≡ t
         let both : (allows_trailing_strings q.mode && d.string.text.broken) ≡ true = sym (ap (broken_as d) is) ∙ bad in
         let sure = and-true-left (allows_trailing_strings q.mode) d.string.text.broken both in
         let broken = and-true-right (allows_trailing_strings q.mode) d.string.text.broken both in
-        front-fault q t invalid_code_point (b + 1 + length d.string.text.text) b
+        prefix-fault q t invalid_code_point (b + 1 + length d.string.text.text) b
         (fault-answers q t fs b invalid_code_point (b + 1 + length d.string.text.text) b
         (ap (λ x. (if x then is_forgiven else nothing_forgiven) invalid_code_point) on)
         (kept-fails d t b w from h q (length fs) few sure _ d.string.text.broken (stands-kept keeps sure) broken) led)
 
   partial-scalar : (fs : List OpenFrame) (b : ℕ) (w : List ℕ) → TakenFrom d t b w → (k : Token) → d.token ≡ k
       → HoldsScalar d k w → length fs ≤ 200 → KeepsText d → is_broken d ≡ false
-      → front_answer (rules_as owned q) t ≡ value_from (rules_as owned q) t fs b
+      → prefix_answer (rules_as owned q) t ≡ value_from (rules_as owned q) t fs b
       → So (shown (so_far d (in_scalar fs b))) (kind_at_end d (in_scalar fs b))
   partial-scalar fs b w from token.Word is h few keeps good led =
       partial-cut token.Word fs b eof_value is refl (ap (λ k. kind_as d k (in_scalar fs b)) is) refl
@@ -675,7 +675,7 @@ module _ (d : OpenDocument) (t : List ℕ) (on : is_active d.settings.mode ≡ t
 
   -- What the bytes answer, where no string is broken.
   pub partial-answers : (o : Opened) → Holding d t o → KeepsText d → is_broken d ≡ false
-      → front_answer (rules_as owned q) t ≡ opened_to q t o (length t)
+      → prefix_answer (rules_as owned q) t ≡ opened_to q t o (length t)
       → So (shown (so_far d o)) (kind_at_end d o)
   partial-answers (between_tokens s) h keeps good led =
       subst (So (shown s)) (sym (ap (λ k. kind_as d k (between_tokens s)) h.0)) (partial-led s led)
@@ -684,7 +684,7 @@ module _ (d : OpenDocument) (t : List ℕ) (on : is_active d.settings.mode ≡ t
   partial-answers (in_key fs ms b) h keeps good led =
       let here = quote-there d t b h.0 h.1 h.3 in
       with_value (filled fs (object (members_of ms))) _ b
-      (if-true (is_active q.mode) (front_answer (rules_as owned q) t) (whole_answer (rules_as owned q) t) on
+      (if-true (is_active q.mode) (prefix_answer (rules_as owned q) t) (whole_answer (rules_as owned q) t) on
       ∙ led ∙ key-cut d t b h.0 h.1 h.3 q fs ms
       ∙ ap (resume (rules_as owned q) t fs)
       (if_forgiven-yes (rules_as owned q) t (λ e. object (members_of ms)) eof_string (length t) b
@@ -693,7 +693,7 @@ module _ (d : OpenDocument) (t : List ℕ) (on : is_active d.settings.mode ≡ t
 
   -- Where the string is, it has a fault.
   pub broken-answers : (o : Opened) → Holding d t o → KeepsText d → is_broken d ≡ true → d.token ≡ token.Text
-      → front_answer (rules_as owned q) t ≡ opened_to q t o (length t)
+      → prefix_answer (rules_as owned q) t ≡ opened_to q t o (length t)
       → (stop : ℕ) × (answer_as owned q t ≡ fault invalid_code_point (d.begin + 1 + length d.string.text.text) stop)
   broken-answers (between_tokens s) h keeps bad is led = absurd (nothing-text (sym h.0 ∙ is))
   broken-answers (in_key fs ms b) h keeps bad is led = absurd (key-no-text (sym h.2 ∙ is))
@@ -704,20 +704,20 @@ module _ (d : OpenDocument) (t : List ℕ) (on : is_active d.settings.mode ≡ t
   )
 
 -- The value, where there is one; else the fault.
-pub value-answered : (d : OpenDocument) (t : List ℕ) (v : Option Tree) (k : Option Kind) → is_some v ≡ true
+pub value-answered : (d : PartialDocument) (t : List ℕ) (v : Option Tree) (k : Option Kind) → is_some v ≡ true
     → IsAnsweredSo d.settings t v k → AnswersSo d.settings t None v
 value-answered d t (Some v) k sure (with_value w l e h) = (w, refl, (e, h))
 value-answered d t None k sure a = absurd (false≢true sure)
 
-pub none-answered : (d : OpenDocument) (t : List ℕ) (v : Option Tree) (k : Option Kind) (r : Option Fault)
+pub none-answered : (d : PartialDocument) (t : List ℕ) (v : Option Tree) (k : Option Kind) (r : Option Fault)
     → is_some v ≡ false → IsEndFault d k r → d.position ≡ length t → IsAnsweredSo d.settings t v k
     → AnswersSo d.settings t r v
 none-answered d t (Some v) k r none end place a = absurd (false≢true (sym none))
 none-answered d t None k r none end place (with_fault l stop h) = end-answered d d.settings t k l stop r None refl end place h
 
-pub broken-answered : (d : OpenDocument) (t : List ℕ) (o : Opened) (v : Option Tree) (f : Fault) (i : ℕ)
+pub broken-answered : (d : PartialDocument) (t : List ℕ) (o : Opened) (v : Option Tree) (f : Fault) (i : ℕ)
     → is_active d.settings.mode ≡ true → Holding d t o → KeepsText d → is_broken d ≡ true
-    → front_answer (rules_as owned d.settings) t ≡ opened_to d.settings t o (length t)
+    → prefix_answer (rules_as owned d.settings) t ≡ opened_to d.settings t o (length t)
     → i ≡ d.begin + 1 + length d.string.text.text
     → f ≡ record { kind = fault_of.InvalidUnicodeCodePoint; index = i } → AnswersSo d.settings t (Some f) v
 broken-answered d t o v f i on held keeps bad led place made =
@@ -728,7 +728,7 @@ broken-answered d t o v f i on held keeps bad led place made =
     )
 
 -- Its place is none that is too large.
-pub broken-low : (d : OpenDocument) (t : List ℕ) (h : HasArrived d t) → d.fault ≡ None → is_broken d ≡ true
+pub broken-low : (d : PartialDocument) (t : List ℕ) (h : HasArrived d t) → d.fault ≡ None → is_broken d ≡ true
     → d.begin + 1 + length d.string.text.text ≤ d.position
 broken-low d t h unset bad =
     let k : IsOfString d.token = inl (broken-text d d.token refl bad) in

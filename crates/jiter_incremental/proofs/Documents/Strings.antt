@@ -21,14 +21,14 @@ use Rattle.jiter_steps.specs.Answer.{nothing_forgiven, seen_as, value_form}
 use Rattle.jiter_steps.specs.Frames.{members_frame, resume, value_in, value_from, key_from}
 use Rattle.jiter_steps.specs.Literal.{start_of}
 use Rattle.jiter_steps.specs.Node.{nesting_limit}
-use Rattle.jiter_steps.specs.OpenString.{Goes, HasTaken, text_or}
-use Rattle.jiter_steps.specs.OpenText.{HoldsBytes}
-use Rattle.jiter_steps.specs.Read.{Rules, done, fault, front_answer, scalar_at, to_end}
+use Rattle.jiter_steps.specs.PartialString.{Goes, HasTaken, text_or}
+use Rattle.jiter_steps.specs.PartialText.{HoldsBytes}
+use Rattle.jiter_steps.specs.Read.{Rules, done, fault, prefix_answer, scalar_at, to_end}
 use Rattle.jiter_steps.specs.StringReading.{Form, Stop, whole, text_form, text_in_form, content_at}
 use Rattle.jiter_steps.specs.StringReading.{Body, body_at, closed, unclosed, cut, wrong}
 use Rattle.jiter_steps.specs.Tree.{Text, Tree, string, object, members_of}
-use Rattle.jiter_steps.specs.declared.open_string.OpenString.{OpenString}
-use Rattle.jiter_steps.specs.declared.open_string.Went.TheVariants as went
+use Rattle.jiter_steps.specs.declared.partial_string.PartialString.{PartialString}
+use Rattle.jiter_steps.specs.declared.partial_string.Went.TheVariants as went
 use Rattle.jiter_steps.specs.declared.parse.Start.TheVariants as start
 use Rattle.jiter_steps.proofs.Calls.Resumed.{if_forgiven-no, key-failed, resume-fault}
 use Rattle.jiter_steps.proofs.Grammar.Places.{IsPlaceKind}
@@ -38,25 +38,25 @@ use Rattle.jiter_steps.proofs.Reading.Values.{inside_at-starts}
 use Rattle.jiter_steps.proofs.Reading.WholeTexts.{whole-is}
 use Rattle.jiter_incremental.specs.Arrived.{at_value, owned}
 use Rattle.jiter_incremental.specs.DocumentStrings.{IsClosedAs, IsKeyAs, IsOfString, IsTextAs}
-use Rattle.jiter_incremental.specs.OpenDocument.{Comes, EndsRight, Follows, HasArrived, HasTakenIn, Holding, HoldsScalar, HoldsString}
-use Rattle.jiter_incremental.specs.OpenDocument.{IsInString, IsReadAs, IsReading, IsRefused, Known, Next, Opened, ReadsAt}
-use Rattle.jiter_incremental.specs.OpenDocument.{TakenFrom, Takes, anything, between_tokens, in_key, in_scalar, noted_in}
-use Rattle.jiter_incremental.specs.OpenDocument.{opened_to, strictly, with_byte, with_first}
-use Rattle.jiter_incremental.specs.OpenValue.{IsLeft, completed, text_of}
+use Rattle.jiter_incremental.specs.PartialDocument.{Comes, EndsRight, Follows, HasArrived, HasTakenIn, Holding, HoldsScalar, HoldsString}
+use Rattle.jiter_incremental.specs.PartialDocument.{IsInString, IsReadAs, IsReading, IsRefused, Known, Next, Opened, ReadsAt}
+use Rattle.jiter_incremental.specs.PartialDocument.{TakenFrom, Takes, anything, between_tokens, in_key, in_scalar, noted_in}
+use Rattle.jiter_incremental.specs.PartialDocument.{opened_to, strictly, with_byte, with_first}
+use Rattle.jiter_incremental.specs.PartialValue.{IsLeft, completed, text_of}
 use Rattle.jiter_value.specs.Owned.{owned_text}
 use Rattle.jiter_value.specs.Settings.{answer_as, rules_as}
 use Rattle.jiter_incremental.specs.Spine.{OpenFrame, spine_of}
 use Rattle.jiter_value.specs.Value.{view}
-use Rattle.jiter_incremental.specs.declared.open_document.OpenDocument.{OpenDocument}
-use Rattle.jiter_incremental.specs.declared.open_document.Token.{Token}
-use Rattle.jiter_incremental.specs.declared.open_document.Token.TheVariants as token
-use Rattle.jiter_incremental.specs.declared.open_value.Awaits.TheVariants as awaits
-use Rattle.jiter_incremental.specs.declared.open_value.OpenValue.{OpenValue}
+use Rattle.jiter_incremental.specs.declared.partial_document.PartialDocument.{PartialDocument}
+use Rattle.jiter_incremental.specs.declared.partial_document.Token.{Token}
+use Rattle.jiter_incremental.specs.declared.partial_document.Token.TheVariants as token
+use Rattle.jiter_incremental.specs.declared.partial_value.Awaits.TheVariants as awaits
+use Rattle.jiter_incremental.specs.declared.partial_value.PartialValue.{PartialValue}
 use Rattle.jiter_value.specs.declared.settings.Settings.{Settings}
 use Rattle.jiter_value.proofs.MadeTexts.{rules_as-advances}
 
 -- the same document, with this string and this first fault
-abbrev pub turned : OpenDocument → OpenString → Option Fault → OpenDocument
+abbrev pub turned : PartialDocument → PartialString → Option Fault → PartialDocument
 turned d s f = record {
   alloc = d.alloc;
   settings = d.settings;
@@ -74,11 +74,11 @@ turned d s f = record {
 }
 
 -- with this string
-abbrev pub with_string : OpenDocument → OpenString → OpenDocument
+abbrev pub with_string : PartialDocument → PartialString → PartialDocument
 with_string d s = turned d s d.first
 
 -- and between two tokens, with this value
-abbrev pub with_value : OpenDocument → OpenValue → OpenDocument
+abbrev pub with_value : PartialDocument → PartialValue → PartialDocument
 with_value d v = record {
   alloc = d.alloc;
   settings = d.settings;
@@ -114,11 +114,11 @@ form_of p (in_scalar fs b) = value_form p.mode
 form_of p (in_key fs ms b) = whole
 
 -- Its bytes stand at the end of those that were read.
-pub record InString (s : OpenString) (t : List ℕ) (b : ℕ) : Type 0 where
-  pub front : List ℕ
+pub record InString (s : PartialString) (t : List ℕ) (b : ℕ) : Type 0 where
+  pub prefix : List ℕ
   pub rest : List ℕ
-  pub is : t ≡ front ++ (34 ∷ rest)
-  pub begin : length front ≡ b
+  pub is : t ≡ prefix ++ (34 ∷ rest)
+  pub begin : length prefix ≡ b
   pub taken_so : HasTaken s rest
 
 no-token : (k : Token) → IsOfString k → k ≡ token.Nothing → ⊥
@@ -128,23 +128,23 @@ no-token k (inr e) n = absurd (cc)
 key-text : (k : Token) → k ≡ token.Key → k ≡ token.Text → ⊥
 key-text k e n = absurd (cc)
 
-in-string : (d : OpenDocument) (t : List ℕ) (b : ℕ) (w : List ℕ) → TakenFrom d t b w → HoldsString d w
+in-string : (d : PartialDocument) (t : List ℕ) (b : ℕ) (w : List ℕ) → TakenFrom d t b w → HoldsString d w
     → InString d.string t b
 in-string d t b w f h = record {
-  front = f.front;
+  prefix = f.prefix;
   rest = h.rest;
-  is = f.is ∙ ap (λ x. f.front ++ x) h.is;
+  is = f.is ∙ ap (λ x. f.prefix ++ x) h.is;
   begin = f.begin;
   taken_so = h.taken;
 }
 
 -- what is held of a string
-held-scalar : (d : OpenDocument) (k : Token) (w : List ℕ) → d.token ≡ k → IsOfString k → HoldsScalar d d.token w
+held-scalar : (d : PartialDocument) (k : Token) (w : List ℕ) → d.token ≡ k → IsOfString k → HoldsScalar d d.token w
     → (k ≡ token.Text) × HoldsString d w
 held-scalar d k w e (inl x) h = (x, subst (λ k. HoldsScalar d k w) (e ∙ x) h)
 held-scalar d k w e (inr x) h = absurd (subst (λ k. HoldsScalar d k w) (e ∙ x) h)
 
-module _ (d : OpenDocument) (t : List ℕ) (k : IsOfString d.token) where
+module _ (d : PartialDocument) (t : List ℕ) (k : IsOfString d.token) where
   pub is-inside : (o : Opened) → Holding d t o → IsInside o
   is-inside (between_tokens s) h = no-token d.token k h.0
   is-inside (in_scalar fs b) h = h.4
@@ -161,11 +161,11 @@ module _ (d : OpenDocument) (t : List ℕ) (k : IsOfString d.token) where
   is-placed (in_key fs ms b) h = h.1.place
 
   -- The string goes on.
-  module _ (s : OpenString) (f : Option Fault) (v : List ℕ) (more : (w : List ℕ) → HasTaken d.string w → HasTaken s (w ++ v)) where
+  module _ (s : PartialString) (f : Option Fault) (v : List ℕ) (more : (w : List ℕ) → HasTaken d.string w → HasTaken s (w ++ v)) where
     from-longer : (b : ℕ) (w : List ℕ) → TakenFrom d t b w → TakenFrom (turned d s f) (t ++ v) b (w ++ v)
     from-longer b w x = record {
-      front = x.front;
-      is = ap (λ y. y ++ v) x.is ∙ append_assoc x.front w v;
+      prefix = x.prefix;
+      is = ap (λ y. y ++ v) x.is ∙ append_assoc x.prefix w v;
       begin = x.begin;
       place = x.place;
     }
@@ -190,25 +190,25 @@ module _ (d : OpenDocument) (t : List ℕ) (k : IsOfString d.token) where
         )
     goes-on (in_key fs ms b) h = (h.0 ++ v, from-longer b h.0 h.1, h.2, string-longer h.0 h.3, h.4, h.5)
 
--- What is known, more bytes behind
+-- What is known, more bytes after
 reads-more : (p : Settings) (t v u : List ℕ) (f : Option Fault) (o : Opened) → IsInside o → ReadsAt p t (v ++ u) f o
     → ReadsAt p (t ++ v) u f o
 reads-more p t v u (Some f) o i h =
     subst (λ x. (stop : ℕ) × (answer_as owned p x ≡ fault (fault_kind f.kind) f.index stop)) (sym (append_assoc t v u)) h
 reads-more p t v u None (between_tokens s) i h = absurd i
 reads-more p t v u None (in_scalar fs b) i h =
-    subst (λ x. front_answer (rules_as owned p) x ≡ value_from (rules_as owned p) x fs b) (sym (append_assoc t v u)) h
+    subst (λ x. prefix_answer (rules_as owned p) x ≡ value_from (rules_as owned p) x fs b) (sym (append_assoc t v u)) h
 reads-more p t v u None (in_key fs ms b) i h =
-    subst (λ x. front_answer (rules_as owned p) x ≡ key_from (rules_as owned p) x fs ms b) (sym (append_assoc t v u)) h
+    subst (λ x. prefix_answer (rules_as owned p) x ≡ key_from (rules_as owned p) x fs ms b) (sym (append_assoc t v u)) h
 
 ends-inside : (t : List ℕ) (o : Opened) → IsInside o → EndsRight t o
 ends-inside t (between_tokens s) i = absurd i
 ends-inside t (in_scalar fs b) i = tt
 ends-inside t (in_key fs ms b) i = tt
 
-module _ (n m : Next) (d : OpenDocument) (t v : List ℕ) (o : Opened) (i : IsInside o) (known : Known n d t o)
+module _ (n m : Next) (d : PartialDocument) (t v : List ℕ) (o : Opened) (i : IsInside o) (known : Known n d t o)
     (follows : Follows n v m) where
-  pub known-more : (s : OpenString) → Known m (with_string d s) (t ++ v) o
+  pub known-more : (s : PartialString) → Known m (with_string d s) (t ++ v) o
   known-more s = record {
     mode = λ u c. reads-more d.settings t v u d.fault o i (known.mode (v ++ u) (follows u c));
     strict = λ u c. reads-more (strictly d.settings) t v u d.first o i (known.strict (v ++ u) (follows u c));
@@ -229,7 +229,7 @@ module _ (n m : Next) (d : OpenDocument) (t v : List ℕ) (o : Opened) (i : IsIn
       (subst (λ f. ReadsAt (strictly d.settings) t (v ++ u) f o) r.1 (known.strict (v ++ u) (follows u c))))
 
 -- the same string, with nothing more known of it
-pub known-same : (n : Next) (d : OpenDocument) (s : OpenString) (t : List ℕ) (o : Opened) → Known n d t o
+pub known-same : (n : Next) (d : PartialDocument) (s : PartialString) (t : List ℕ) (o : Opened) → Known n d t o
     → Known n (with_string d s) t o
 known-same n d s t o known = record {
   mode = known.mode;
@@ -240,7 +240,7 @@ known-same n d s t o known = record {
 }
 
 -- Bytes are taken into the string.
-pub taken-on : (d : OpenDocument) (s : OpenString) (t v : List ℕ) → IsOfString d.token → d.fault ≡ None
+pub taken-on : (d : PartialDocument) (s : PartialString) (t v : List ℕ) → IsOfString d.token → d.fault ≡ None
     → ((w : List ℕ) → HasTaken d.string w → HasTaken s (w ++ v)) → HasTakenIn anything d t
     → HasTakenIn anything (with_string d s) (t ++ v)
 taken-on d s t v k unset more h =
@@ -253,14 +253,14 @@ taken-on d s t v k unset more h =
     }
 
 -- or none, and it is as it was.
-pub taken-same : (d : OpenDocument) (s : OpenString) (t : List ℕ) → IsOfString d.token → d.fault ≡ None
+pub taken-same : (d : PartialDocument) (s : PartialString) (t : List ℕ) → IsOfString d.token → d.fault ≡ None
     → ((w : List ℕ) → HasTaken d.string w → HasTaken s w) → HasTakenIn anything d t
     → HasTakenIn anything (with_string d s) t
 taken-same d s t k unset same h =
     subst (HasTakenIn anything (with_string d s)) (append-nil t)
     (taken-on d s t [] k unset (λ w x. subst (HasTaken s) (sym (append-nil w)) (same w x)) h)
 
--- bytes stand behind those before them
+-- bytes stand after those before them
 stands-from : (w f x t : List ℕ) (i j : ℕ) → t ≡ f ++ (w ++ x) → i ≡ length f → j ≡ i + length w → Stands t i j w
 stands-from [] f x t i j is at end = omega arith
 stands-from (c ∷ w) f x t i j is at end =
@@ -274,16 +274,16 @@ stands-from (c ∷ w) f x t i j is at end =
       stands-from w (f ++ c ∷ []) x t (i + 1) j (is ∙ sym (append_assoc f (c ∷ []) (w ++ x))) next stop,
     )
 
-module _ (s : OpenString) (t : List ℕ) (b : ℕ) (h : InString s t b) where
+module _ (s : PartialString) (t : List ℕ) (b : ℕ) (h : InString s t b) where
   size : length t ≡ b + 1 + length h.rest
-  size = omega (arith, ap length h.is, length-append h.front (34 ∷ h.rest), h.begin)
+  size = omega (arith, ap length h.is, length-append h.prefix (34 ∷ h.rest), h.begin)
 
   -- In a text that goes on with x,
   module _ (T x : List ℕ) (text : T ≡ t ++ x) where
     all-stand : Stands T b (length t) (34 ∷ h.rest)
     all-stand =
-        stands-from (34 ∷ h.rest) h.front x T b (length t)
-        (text ∙ ap (λ y. y ++ x) h.is ∙ append_assoc h.front (34 ∷ h.rest) x) (sym h.begin) (omega (arith, size))
+        stands-from (34 ∷ h.rest) h.prefix x T b (length t)
+        (text ∙ ap (λ y. y ++ x) h.is ∙ append_assoc h.prefix (34 ∷ h.rest) x) (sym h.begin) (omega (arith, size))
 
     quote-here : slice_get T b ≡ Some 34
     quote-here = all-stand.0
@@ -317,7 +317,7 @@ module _ (s : OpenString) (t : List ℕ) (b : ℕ) (h : InString s t b) where
       let stands = rest-stand t [] (sym (append-nil t)) in
       let body = h.taken_so.goes t (b + 1) stands in
       let decoded = h.taken_so.decoded in
-      let tail = (body_at t (b + 1 + length h.taken_so.front)).bytes in
+      let tail = (body_at t (b + 1 + length h.taken_so.prefix)).bytes in
       let low : b + 1 ≤ length t = omega (arith, size) in
       omega (
         arith,
@@ -395,18 +395,18 @@ module _ (p : Settings) (T : List ℕ) where
       ∙ ap (resume r T fs) (if_forgiven-no r T (λ e. r.object 0 e ms) k x b (unforgiven k bad))
       ∙ resume-fault r T fs k x b (unforgiven k bad)
 
--- A key that is read leads on behind it.
-module _ (d : OpenDocument) (v : OpenValue) (n m : Next) (t w : List ℕ) (fs : List OpenFrame) (ms : List (Text × Tree))
+-- A key that is read leads on after it.
+module _ (d : PartialDocument) (v : PartialValue) (n m : Next) (t w : List ℕ) (fs : List OpenFrame) (ms : List (Text × Tree))
     (b : ℕ) (k : Text) (known : Known n d t (in_key fs ms b)) (follows : Follows n w m) (unset : d.fault ≡ None)
     (left : IsLeft v (at_value awaits.Colon (members_frame ms k ∷ fs))) (begun : b < length (t ++ w))
     (is : IsKeyAs d m (t ++ w) b k)
     (goes : (p : Settings) (t : List ℕ) (j e : ℕ) (ms : List (Text × Tree)) (fs : List OpenFrame) → j < length t
     → (rules_as owned p).key t j ≡ taken k e
     → key_from (rules_as owned p) t fs ms j ≡ completed p t (at_value awaits.Colon (members_frame ms k ∷ fs)) e) where
-  abbrev behind : Opened
-  behind = between_tokens (at_value awaits.Colon (members_frame ms k ∷ fs))
+  abbrev after : Opened
+  after = between_tokens (at_value awaits.Colon (members_frame ms k ∷ fs))
 
-  key-leads : (p : Settings) (u : List ℕ) → IsReading d p → Comes m u → ReadsAt p (t ++ w) u None behind
+  key-leads : (p : Settings) (u : List ℕ) → IsReading d p → Comes m u → ReadsAt p (t ++ w) u None after
   key-leads p u r c =
       let T = (t ++ w) ++ u in
       let low : b < length T = omega (arith, begun, length-append (t ++ w) u) in
@@ -414,7 +414,7 @@ module _ (d : OpenDocument) (v : OpenValue) (n m : Next) (t w : List ℕ) (fs : 
       ∙ goes p T b (length (t ++ w)) ms fs low (is p u r c)
 
   key-strict : (u : List ℕ) → Comes m u → (f : Option Fault) → d.first ≡ f
-      → ReadsAt (strictly d.settings) (t ++ w) u f behind
+      → ReadsAt (strictly d.settings) (t ++ w) u f after
   key-strict u c None e = key-leads (strictly d.settings) u (inr (refl, e)) c
   key-strict u c (Some f) e =
       reads-more (strictly d.settings) t w u (Some f) (in_key fs ms b) tt
@@ -422,10 +422,10 @@ module _ (d : OpenDocument) (v : OpenValue) (n m : Next) (t w : List ℕ) (fs : 
 
   pub key-taken : HasTakenIn m (with_value d v) (t ++ w)
   key-taken = record {
-    opened = behind;
+    opened = after;
     known = record {
       mode = λ u c.
-          subst (λ f. ReadsAt d.settings (t ++ w) u f behind) (sym unset)
+          subst (λ f. ReadsAt d.settings (t ++ w) u f after) (sym unset)
           (key-leads d.settings u (inl (refl, unset)) c);
       strict = λ u c. key-strict u c d.first refl;
       ends = λ e. tt;
@@ -436,20 +436,20 @@ module _ (d : OpenDocument) (v : OpenValue) (n m : Next) (t w : List ℕ) (fs : 
   }
 
 -- What is said of a document where a string is unfinished
-pub of-string : (d : OpenDocument) → IsInString d → IsOfString d.token
+pub of-string : (d : PartialDocument) → IsInString d → IsOfString d.token
 of-string d (inl x) = inl x.2
 of-string d (inr x) = inr x.2
 
-pub unset-in : (d : OpenDocument) → IsInString d → d.fault ≡ None
+pub unset-in : (d : PartialDocument) → IsInString d → d.fault ≡ None
 unset-in d (inl x) = x.1
 unset-in d (inr x) = x.1
 
-pub arrived-in : (d : OpenDocument) → IsInString d → (t : List ℕ) × HasArrived d t
+pub arrived-in : (d : PartialDocument) → IsInString d → (t : List ℕ) × HasArrived d t
 arrived-in d (inl x) = x.0
 arrived-in d (inr x) = x.0
 
 -- The text that was read is put where it was awaited: as a key,
-module _ (d new : OpenDocument) (s : OpenString) (n m : Next) (t w text : List ℕ) (unset : d.fault ≡ None)
+module _ (d new : PartialDocument) (s : PartialString) (n m : Next) (t w text : List ℕ) (unset : d.fault ≡ None)
     (follows : Follows n w m) where
   pub key-put : (o : Opened) (k : List ℕ) → k ≡ text → d.token ≡ token.Key → Known n d t o → Holding d t o
       → IsTextAs d m (t ++ w) o text
@@ -481,7 +481,7 @@ module _ (d new : OpenDocument) (s : OpenString) (n m : Next) (t w text : List �
   value-put (in_key fs ms b) v e not known held read put = absurd (not held.2)
 
 -- What was read is refused with a fault of the string.
-pub refused-so : (n m : Next) (d : OpenDocument) (t v : List ℕ) (o : Opened) (k : Kind) (x : ℕ) → IsInside o
+pub refused-so : (n m : Next) (d : PartialDocument) (t v : List ℕ) (o : Opened) (k : Kind) (x : ℕ) → IsInside o
     → Known n d t o → Follows n v m → is_forgiven k ≡ false
     → ((p : Settings) (u : List ℕ) → IsReading d p → Comes m u → slice_get ((t ++ v) ++ u) (begin_of o) ≡ Some 34)
     → ((p : Settings) (u : List ℕ) → IsReading d p → Comes m u
@@ -493,7 +493,7 @@ refused-so n m d t v o k x i known follows bad quote fails = λ p u r c. (
       ∙ opened-fails p ((t ++ v) ++ u) o k x (length (t ++ v)) i (quote p u r c) bad (fails p u r c),
 )
 
-module _ (d : OpenDocument) (k : IsOfString d.token) (unset : d.fault ≡ None) (t : List ℕ) (h : HasArrived d t) where
+module _ (d : PartialDocument) (k : IsOfString d.token) (unset : d.fault ≡ None) (t : List ℕ) (h : HasArrived d t) where
   abbrev o : Opened
   o = h.read.opened
 
@@ -507,7 +507,7 @@ module _ (d : OpenDocument) (k : IsOfString d.token) (unset : d.fault ≡ None) 
   string-in = is-held d t k o held
 
   -- Where a byte of it is wrong it is refused.
-  module _ (s : OpenString) (piece : List ℕ) (at back : ℕ) (kind : FaultKind) (there : at < length piece)
+  module _ (s : PartialString) (piece : List ℕ) (at back : ℕ) (kind : FaultKind) (there : at < length piece)
       (goes : (w : List ℕ) → HasTaken d.string w → Goes s w piece at (went.Wrong kind back)) where
     pub wrong-low : back ≤ d.position
     wrong-low =
@@ -575,7 +575,7 @@ module _ (d : OpenDocument) (k : IsOfString d.token) (unset : d.fault ≡ None) 
     content keep answer is = content-closed d.string t (begin_of o) string-in keep answer is none
 
     -- a text that each reading takes is the string's,
-    text-is : (e : OpenDocument) (q : Opened) → IsInside q → begin_of q ≡ begin_of o
+    text-is : (e : PartialDocument) (q : Opened) → IsInside q → begin_of q ≡ begin_of o
         → ((p : Settings) (u : List ℕ) → IsReading e p
         → content_at (form_of p q) (on u) (begin_of o + 1)
         ≡ text_or true (begin_of o + 1) string-in.taken_so.escaped text (length t + 1))
@@ -654,7 +654,7 @@ module _ (d : OpenDocument) (k : IsOfString d.token) (unset : d.fault ≡ None) 
                   (strict-fails (on u) u (on-is u))
 
         -- and else noted.
-        abbrev noted : OpenDocument
+        abbrev noted : PartialDocument
         noted = with_first d (noted_in d.first fault_of.InvalidUnicodeCodePoint index)
 
         noted-some : (f : Option Fault) (kind : FaultKind) (i : ℕ) → noted_in f kind i ≡ None → ⊥
@@ -718,7 +718,7 @@ module _ (d : OpenDocument) (k : IsOfString d.token) (unset : d.fault ≡ None) 
               (sym (noted-reading p r)) (form-closed true is o held (on u) u (on-is u)))
 
 -- At its quote the string is whole, and the document is in it still.
-module _ (d : OpenDocument) (s : OpenString) (piece : List ℕ) (at : ℕ)
+module _ (d : PartialDocument) (s : PartialString) (piece : List ℕ) (at : ℕ)
     (goes : (w : List ℕ) → HasTaken d.string w → Goes s w piece at went.Quote) where
   quote-arrived : (t : List ℕ) → IsOfString d.token → d.fault ≡ None → HasArrived d t → HasArrived (with_string d s) t
   quote-arrived t k unset h = record {
@@ -741,7 +741,7 @@ module _ (d : OpenDocument) (s : OpenString) (piece : List ℕ) (at : ℕ)
   pub quote-whole : IsInString d → s.escape ≡ None
   quote-whole inside = (quote-at inside).0
 
-  pub quote-takes : IsInString d → (new : OpenDocument) → Takes (with_string d s) new (34 ∷ [])
+  pub quote-takes : IsInString d → (new : PartialDocument) → Takes (with_string d s) new (34 ∷ [])
       → Takes d new (slice_range piece at (at + 1))
   quote-takes inside new takes = λ t h.
       subst (λ w. HasTakenIn anything new (t ++ w)) (sym (slice-one piece at 34 (quote-at inside).1))

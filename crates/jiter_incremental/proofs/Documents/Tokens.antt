@@ -1,4 +1,4 @@
--- The tokens of a document that arrives in pieces: how they begin, go on, end and fail, whatever comes behind them.
+-- The tokens of a document that arrives in pieces: how they begin, go on, end and fail, whatever comes after them.
 use Rattle.std.proofs.Common.{◌≡◌, ◌⊎◌, inl, inr, ℕ, ◌+◌, ◌-◌, ◌<◌, ◌≤◌, ◌==◌, Bool, true, false, List, [], ◌∷◌, ◌++◌}
 use Rattle.std.proofs.Common.{length, take, drop, get_or, refl, sym, subst, ap, ◌∙◌, arith, append_assoc, length-append}
 use Rattle.std.proofs.Common.{slice_range, codes, map}
@@ -12,28 +12,28 @@ use Rattle.jiter_scan.proofs.Standing.{slice-one, slice_range-split, stands-appe
 use Rattle.jiter_scan.proofs.WordLaws.{word_at-complete, word_at-same, word_at-sound}
 use Rattle.jiter_scan.specs.Kind.{Kind, expected_ident, expected_value, invalid_number, is_forgiven}
 use Rattle.jiter_scan.specs.Number.{number_value}
-use Rattle.jiter_scan.specs.NumberReading.{behind_minus, extent_from, number_at, number_extent}
+use Rattle.jiter_scan.specs.NumberReading.{after_minus, extent_from, number_at, number_extent}
 use Rattle.jiter_scan.specs.NumberReading.{with_value}
-use Rattle.jiter_scan.specs.OpenNumber.{HoldsNumber, IsBegun, Leads, begins_decimal, number_by, number_from}
-use Rattle.jiter_scan.specs.OpenWord.{word_by, word_from}
+use Rattle.jiter_scan.specs.PartialNumber.{HoldsNumber, IsBegun, Leads, begins_decimal, number_by, number_from}
+use Rattle.jiter_scan.specs.PartialWord.{word_by, word_from}
 use Rattle.jiter_scan.specs.PartialMode.{is_active}
 use Rattle.jiter_scan.specs.Scanned.{taken, failed}
 use Rattle.jiter_scan.specs.Stands.{Stands}
 use Rattle.jiter_scan.specs.Word.{Extent, word_at}
 use Rattle.jiter_scan.specs.declared.errors.Fault.{Fault}
-use Rattle.jiter_scan.specs.declared.open_number.OpenNumber.{OpenNumber}
-use Rattle.jiter_scan.specs.declared.open_number.Went.{Went}
-use Rattle.jiter_scan.specs.declared.open_number.Went.TheVariants as went
-use Rattle.jiter_scan.specs.declared.open_word.OpenWord.{OpenWord}
-use Rattle.jiter_scan.specs.declared.open_word.Seen.TheVariants as seen
+use Rattle.jiter_scan.specs.declared.partial_number.PartialNumber.{PartialNumber}
+use Rattle.jiter_scan.specs.declared.partial_number.Went.{Went}
+use Rattle.jiter_scan.specs.declared.partial_number.Went.TheVariants as went
+use Rattle.jiter_scan.specs.declared.partial_word.PartialWord.{PartialWord}
+use Rattle.jiter_scan.specs.declared.partial_word.Seen.TheVariants as seen
 use Rattle.jiter_steps.proofs.Calls.Resumed.{resume-fault}
 use Rattle.jiter_steps.proofs.Reading.Values.{inside_at-starts}
 use Rattle.jiter_steps.specs.Answer.{nothing_forgiven, seen_as}
 use Rattle.jiter_steps.specs.Frames.{resume, value_in}
 use Rattle.jiter_steps.specs.Literal.{literal_at, literal_tree, start_of, word_of}
 use Rattle.jiter_steps.specs.Node.{nesting_limit, number_tree}
-use Rattle.jiter_steps.specs.OpenString.{HasTaken}
-use Rattle.jiter_steps.specs.Read.{Rules, done, fault, front_answer, inside_at, scalar_at, value_with}
+use Rattle.jiter_steps.specs.PartialString.{HasTaken}
+use Rattle.jiter_steps.specs.Read.{Rules, done, fault, prefix_answer, inside_at, scalar_at, value_with}
 use Rattle.jiter_steps.specs.Tree.{Text, Tree}
 use Rattle.jiter_steps.specs.declared.parse.Literal.{Literal}
 use Rattle.jiter_steps.specs.declared.parse.Literal.TheVariants as literal
@@ -42,42 +42,42 @@ use Rattle.jiter_steps.specs.declared.parse.Start.TheVariants as start
 use Rattle.jiter_incremental.proofs.Pieces.{range-long}
 use Rattle.jiter_incremental.specs.Arrived.{Arrived, at_value, owned}
 use Rattle.jiter_incremental.specs.Names.{name_bytes, name_extent, name_start, name_tree, name_word}
-use Rattle.jiter_incremental.specs.OpenDocument.{EndsBefore, IsNumberWithin}
-use Rattle.jiter_incremental.specs.OpenDocument.{BeginsAs, BeginsHere, Comes, EndsRight, Follows, HasArrived, HasTakenIn}
-use Rattle.jiter_incremental.specs.OpenDocument.{Holding, HoldsMinus, HoldsScalar, HoldsString, HoldsWord, IsAllowed}
-use Rattle.jiter_incremental.specs.OpenDocument.{IsReadAs, IsReading, IsRefused, Known, NameBegins, Next, Opened, ReadsAt}
-use Rattle.jiter_incremental.specs.OpenDocument.{StandsAt, TakenFrom, WordBegins, anything, between_tokens, in_key, in_scalar}
-use Rattle.jiter_incremental.specs.OpenDocument.{opened_to, own_number, strictly, with_byte}
-use Rattle.jiter_incremental.specs.OpenValue.{BeginsItem, BeginsKey, IsLeft}
+use Rattle.jiter_incremental.specs.PartialDocument.{EndsBefore, IsNumberWithin}
+use Rattle.jiter_incremental.specs.PartialDocument.{BeginsAs, BeginsHere, Comes, EndsRight, Follows, HasArrived, HasTakenIn}
+use Rattle.jiter_incremental.specs.PartialDocument.{Holding, HoldsMinus, HoldsScalar, HoldsString, HoldsWord, IsAllowed}
+use Rattle.jiter_incremental.specs.PartialDocument.{IsReadAs, IsReading, IsRefused, Known, NameBegins, Next, Opened, ReadsAt}
+use Rattle.jiter_incremental.specs.PartialDocument.{StandsAt, TakenFrom, WordBegins, anything, between_tokens, in_key, in_scalar}
+use Rattle.jiter_incremental.specs.PartialDocument.{opened_to, own_number, strictly, with_byte}
+use Rattle.jiter_incremental.specs.PartialValue.{BeginsItem, BeginsKey, IsLeft}
 use Rattle.jiter_value.specs.Owned.{owned_text, tree_as}
 use Rattle.jiter_value.specs.Settings.{answer_as, rules_as}
 use Rattle.jiter_incremental.specs.Spine.{OpenFrame, HasRoomInside}
 use Rattle.jiter_value.specs.Value.{view}
 use Rattle.jiter_incremental.specs.declared.names.Name.{Name}
 use Rattle.jiter_incremental.specs.declared.names.Name.TheVariants as name
-use Rattle.jiter_incremental.specs.declared.open_document.OpenDocument.{OpenDocument}
-use Rattle.jiter_incremental.specs.declared.open_document.Token.{Token}
-use Rattle.jiter_incremental.specs.declared.open_document.Token.TheVariants as token
-use Rattle.jiter_incremental.specs.declared.open_value.Awaits.TheVariants as awaits
+use Rattle.jiter_incremental.specs.declared.partial_document.PartialDocument.{PartialDocument}
+use Rattle.jiter_incremental.specs.declared.partial_document.Token.{Token}
+use Rattle.jiter_incremental.specs.declared.partial_document.Token.TheVariants as token
+use Rattle.jiter_incremental.specs.declared.partial_value.Awaits.TheVariants as awaits
 use Rattle.jiter_value.specs.declared.settings.Settings.{Settings}
 
 -- ---- bytes in a text
 
--- the byte behind the first ones
+-- the byte after the first ones
 pub stands-last : (t u : List ℕ) (c : ℕ) → slice_get (t ++ c ∷ u) (length t) ≡ Some c
 stands-last t u c =
     let long = length-append t (c ∷ u) in
     slice_get-get_or (t ++ c ∷ u) (length t) 0 (omega arith) ∙ ap Some (get_or-append_seam t c u 0)
 
-pub stands-front : (front w u : List ℕ) → Stands (front ++ (w ++ u)) (length front) (length front + length w) w
-stands-front front w u =
-    let all = front ++ (w ++ u) in
-    let i = length front in
-    let whole = length-append front (w ++ u) in
+pub stands-prefix : (prefix w u : List ℕ) → Stands (prefix ++ (w ++ u)) (length prefix) (length prefix + length w) w
+stands-prefix prefix w u =
+    let all = prefix ++ (w ++ u) in
+    let i = length prefix in
+    let whole = length-append prefix (w ++ u) in
     let rest = length-append w u in
     let count : i + length w - i ≡ length w = omega arith in
     subst (Stands all i (i + length w))
-    (ap (λ n. take n (drop i all)) count ∙ ap (take (length w)) (drop-append_seam front (w ++ u))
+    (ap (λ n. take n (drop i all)) count ∙ ap (take (length w)) (drop-append_seam prefix (w ++ u))
     ∙ take-append_seam w u)
     (stands-slice all i (i + length w) (omega arith) (omega arith))
 
@@ -85,17 +85,17 @@ stands-whole : (w : List ℕ) → Stands w 0 (length w) w
 stands-whole w =
     let place : 0 + length w ≡ length w = omega arith in
     subst (λ e. Stands w 0 e w) place
-    (subst (λ v. Stands v 0 (0 + length w) w) (append-nil w) (stands-front [] w []))
+    (subst (λ v. Stands v 0 (0 + length w) w) (append-nil w) (stands-prefix [] w []))
 
 -- the last bytes of some, whatever comes
-module _ (front w t : List ℕ) (b : ℕ) (is : t ≡ front ++ w) (begin : length front ≡ b) where
+module _ (prefix w t : List ℕ) (b : ℕ) (is : t ≡ prefix ++ w) (begin : length prefix ≡ b) where
   pub held-end : b + length w ≡ length t
-  held-end = let long = ap (λ v. length v) is ∙ length-append front w in omega arith
+  held-end = let long = ap (λ v. length v) is ∙ length-append prefix w in omega arith
 
   pub held-stands : (u : List ℕ) → Stands (t ++ u) b (b + length w) w
   held-stands u =
-      subst (λ v. Stands v b (b + length w) w) (sym (ap (λ v. v ++ u) is ∙ append_assoc front w u))
-      (subst (λ k. Stands (front ++ (w ++ u)) k (k + length w) w) begin (stands-front front w u))
+      subst (λ v. Stands v b (b + length w) w) (sym (ap (λ v. v ++ u) is ∙ append_assoc prefix w u))
+      (subst (λ k. Stands (prefix ++ (w ++ u)) k (k + length w) w) begin (stands-prefix prefix w u))
 
 -- ---- what is read where a scalar stands
 module _ (p : Settings) (t : List ℕ) where
@@ -200,18 +200,18 @@ infinity-begins = record {
   denied = λ t b here. ap (extent_from false t b) here;
 }
 
--- the name behind a minus
+-- the name after a minus
 pub minus-goes : (t : List ℕ) (b : ℕ) → Stands t b (b + 2) (45 ∷ 73 ∷ [])
     → number_extent true t b ≡ word_from (codes "Infinity") 1 t (b + 2)
 minus-goes t b h =
     let place : b + 1 + 1 ≡ b + 2 = omega arith in
-    ap (extent_from true t b) h.0 ∙ ap (behind_minus true t (b + 1)) h.1.0
+    ap (extent_from true t b) h.0 ∙ ap (after_minus true t (b + 1)) h.1.0
     ∙ word_at-same t (codes "Infinity") 0 (b + 1) 73 (omega arith) h.1.0 refl
     ∙ ap (word_at t (drop 1 (codes "Infinity"))) place
 
 pub minus-fails : (t : List ℕ) (b : ℕ) → Stands t b (b + 2) (45 ∷ 73 ∷ [])
     → number_extent false t b ≡ failed invalid_number (b + 1)
-minus-fails t b h = ap (extent_from false t b) h.0 ∙ ap (behind_minus false t (b + 1)) h.1.0
+minus-fails t b h = ap (extent_from false t b) h.0 ∙ ap (after_minus false t (b + 1)) h.1.0
 
 -- a word of which one byte more was seen
 module _ (w : List ℕ) (n m : ℕ) (c : ℕ)
@@ -222,7 +222,7 @@ module _ (w : List ℕ) (n m : ℕ) (c : ℕ)
 
     rest-read : word_at rest (drop n w) 0 ≡ taken tt (length rest)
     rest-read =
-        let s = stands-front (c ∷ []) (drop m w) [] in
+        let s = stands-prefix (c ∷ []) (drop m w) [] in
         let same : rest ≡ c ∷ (drop m w ++ []) = ap (λ v. c ∷ v) (sym (append-nil (drop m w))) in
         let place : 1 + length (drop m w) ≡ length rest = omega arith in
         leads rest 0 refl
@@ -238,7 +238,7 @@ module _ (w : List ℕ) (n m : ℕ) (c : ℕ)
 -- ---- what is known of a document
 
 -- The same is known of it.
-pub record Keeps (d e : OpenDocument) : Type 0 where
+pub record Keeps (d e : PartialDocument) : Type 0 where
   pub settings : e.settings ≡ d.settings
   pub fault : e.fault ≡ d.fault
   pub first : e.first ≡ d.first
@@ -258,12 +258,12 @@ reads-on : (p : Settings) (t w u : List ℕ) (f : Option Fault) (o : Opened) →
     → ReadsAt p (t ++ w) u f o
 reads-on p t w u (Some f) o h r = (r.0, ap (answer_as owned p) (append_assoc t w u) ∙ r.1)
 reads-on p t w u None o h r =
-    ap (front_answer (rules_as owned p)) (append_assoc t w u) ∙ r
+    ap (prefix_answer (rules_as owned p)) (append_assoc t w u) ∙ r
     ∙ h.same p (t ++ (w ++ u)) (length t) (length (t ++ w))
     ∙ ap (λ v. opened_to p v o (length (t ++ w))) (sym (append_assoc t w u))
 
 -- Bytes are taken inside a token.
-pub known-on : (n m : Next) (d e : OpenDocument) (t w : List ℕ) (o : Opened) → IsInToken o → Keeps d e → Follows n w m
+pub known-on : (n m : Next) (d e : PartialDocument) (t w : List ℕ) (o : Opened) → IsInToken o → Keeps d e → Follows n w m
     → Known n d t o → Known m e (t ++ w) o
 known-on n m d e t w o h k follows known = record {
   mode = λ u comes. subst (λ q. ReadsAt q (t ++ w) u e.fault o) (sym k.settings)
@@ -278,7 +278,7 @@ known-on n m d e t w o h k follows known = record {
       ∙ known.same (sym (ap (λ q. is_active q.mode) k.settings) ∙ off) (sym k.fault ∙ none);
 }
 
-pub known-same : (n : Next) (d e : OpenDocument) (t : List ℕ) (o : Opened) → Keeps d e → Known n d t o → Known n e t o
+pub known-same : (n : Next) (d e : PartialDocument) (t : List ℕ) (o : Opened) → Keeps d e → Known n d t o → Known n e t o
 known-same n d e t o k known = record {
   mode = λ u comes. subst (λ q. ReadsAt q t u e.fault o) (sym k.settings)
       (subst (λ f. ReadsAt d.settings t u f o) (sym k.fault) (known.mode u comes));
@@ -290,40 +290,40 @@ known-same n d e t o k known = record {
       ∙ known.same (sym (ap (λ q. is_active q.mode) k.settings) ∙ off) (sym k.fault ∙ none);
 }
 
-pub number-known : (n : Next) (d : OpenDocument) (m : OpenNumber) (t : List ℕ) (o : Opened) → Known n d t o
+pub number-known : (n : Next) (d : PartialDocument) (m : PartialNumber) (t : List ℕ) (o : Opened) → Known n d t o
     → Known n (record d { number = m }) t o
 number-known n d m t o =
     known-same n d (record d { number = m }) t o record { settings = refl; fault = refl; first = refl }
 
 -- what is read by settings that it is still read by
-known-reads : (n : Next) (d : OpenDocument) (t : List ℕ) (o : Opened) (p : Settings) (u : List ℕ) → Known n d t o
-    → IsReading d p → Comes n u → front_answer (rules_as owned p) (t ++ u) ≡ opened_to p (t ++ u) o (length t)
+known-reads : (n : Next) (d : PartialDocument) (t : List ℕ) (o : Opened) (p : Settings) (u : List ℕ) → Known n d t o
+    → IsReading d p → Comes n u → prefix_answer (rules_as owned p) (t ++ u) ≡ opened_to p (t ++ u) o (length t)
 known-reads n d t o p u k (inl (is, none)) comes =
-    subst (λ q. front_answer (rules_as owned q) (t ++ u) ≡ opened_to q (t ++ u) o (length t)) (sym is)
+    subst (λ q. prefix_answer (rules_as owned q) (t ++ u) ≡ opened_to q (t ++ u) o (length t)) (sym is)
     (subst (λ f. ReadsAt d.settings t u f o) none (k.mode u comes))
 known-reads n d t o p u k (inr (is, none)) comes =
-    subst (λ q. front_answer (rules_as owned q) (t ++ u) ≡ opened_to q (t ++ u) o (length t)) (sym is)
+    subst (λ q. prefix_answer (rules_as owned q) (t ++ u) ≡ opened_to q (t ++ u) o (length t)) (sym is)
     (subst (λ f. ReadsAt (strictly d.settings) t u f o) none (k.strict u comes))
 
-pub reading-names : (d : OpenDocument) (p : Settings) → IsReading d p → p.allow_inf_nan ≡ d.settings.allow_inf_nan
+pub reading-names : (d : PartialDocument) (p : Settings) → IsReading d p → p.allow_inf_nan ≡ d.settings.allow_inf_nan
 reading-names d p (inl (is, none)) = ap (λ q. q.allow_inf_nan) is
 reading-names d p (inr (is, none)) = ap (λ q. q.allow_inf_nan) is
 
-reading-allows : (d : OpenDocument) (p : Settings) (k : Name) → IsReading d p → IsAllowed d.settings k → IsAllowed p k
+reading-allows : (d : PartialDocument) (p : Settings) (k : Name) → IsReading d p → IsAllowed d.settings k → IsAllowed p k
 reading-allows d p (name.Literal l) h ok = tt
 reading-allows d p name.NaN h ok = reading-names d p h ∙ ok
 reading-allows d p name.Infinity h ok = reading-names d p h ∙ ok
 reading-allows d p name.MinusInfinity h ok = reading-names d p h ∙ ok
 
 -- A scalar with a fault is refused.
-pub scalar-refused : (n m : Next) (d : OpenDocument) (t w : List ℕ) (fs : List OpenFrame) (b : ℕ) (k : Kind) (i : ℕ)
+pub scalar-refused : (n m : Next) (d : PartialDocument) (t w : List ℕ) (fs : List OpenFrame) (b : ℕ) (k : Kind) (i : ℕ)
     → Known n d t (in_scalar fs b) → Follows n w m → is_forgiven k ≡ false
     → ((p : Settings) (u : List ℕ) → IsReading d p → Comes m u
     → value_in (rules_as owned p) (t ++ (w ++ u)) (length fs) b ≡ fault k i b)
     → IsRefused d m (t ++ w) k i
 scalar-refused n m d t w fs b k i known follows bad fails = λ p u reading comes. (
   b,
-  ap (front_answer (rules_as owned p)) (append_assoc t w u)
+  ap (prefix_answer (rules_as owned p)) (append_assoc t w u)
       ∙ known-reads n d t (in_scalar fs b) p (w ++ u) known reading (follows u comes)
       ∙ ap (resume (rules_as owned p) (t ++ (w ++ u)) fs) (fails p u reading comes)
       ∙ resume-fault (rules_as owned p) (t ++ (w ++ u)) fs k i b (kept p (t ++ (w ++ u)) k bad),
@@ -335,7 +335,7 @@ pub follows-here : (c : ℕ) → Follows (with_byte c) (c ∷ []) anything
 follows-here c = λ u comes. (u, refl)
 
 -- a scalar, of which these bytes begin with the one that comes
-pub scalar-begins : (d e : OpenDocument) (t : List ℕ) (c : ℕ) (w : List ℕ) (fs : List OpenFrame) → BeginsHere c d t fs
+pub scalar-begins : (d e : PartialDocument) (t : List ℕ) (c : ℕ) (w : List ℕ) (fs : List OpenFrame) → BeginsHere c d t fs
     → Keeps d e → e.value ≡ d.value → e.begin ≡ d.position → HoldsScalar e e.token (c ∷ w)
     → HasTakenIn anything e (t ++ c ∷ w)
 scalar-begins d e t c w fs h k value begin held = record {
@@ -344,7 +344,7 @@ scalar-begins d e t c w fs h k value begin held = record {
       (λ u comes. (w ++ u, refl)) h.known;
   held = λ unset. (
     c ∷ w,
-    record { front = t; is = refl; begin = refl; place = begin ∙ h.position },
+    record { prefix = t; is = refl; begin = refl; place = begin ∙ h.position },
     held,
     subst (λ v. IsLeft v (at_value awaits.Value fs)) (sym value) h.left,
     h.low,
@@ -352,7 +352,7 @@ scalar-begins d e t c w fs h k value begin held = record {
   );
 }
 
-pub word-held : (k : Name) (o : OpenWord) (c : ℕ) → WordBegins k c → o.word.now ≡ name_word k → o.seen ≡ 1
+pub word-held : (k : Name) (o : PartialWord) (c : ℕ) → WordBegins k c → o.word.now ≡ name_word k → o.seen ≡ 1
     → HoldsWord k o (c ∷ [])
 word-held k o c h is one = record {
   word = is;
@@ -361,7 +361,7 @@ word-held k o c h is one = record {
       ∙ ap (λ n. word_from o.word.now n t (b + 1)) (sym one);
 }
 
-pub word-begins : (d e : OpenDocument) (k : Name) (t : List ℕ) (c : ℕ) (fs : List OpenFrame) → BeginsHere c d t fs
+pub word-begins : (d e : PartialDocument) (k : Name) (t : List ℕ) (c : ℕ) (fs : List OpenFrame) → BeginsHere c d t fs
     → Keeps d e → e.value ≡ d.value → e.begin ≡ d.position → e.token ≡ token.Word → e.name ≡ k
     → HoldsWord k e.word (c ∷ []) → IsAllowed d.settings k → start_of c ≡ name_start k
     → HasTakenIn anything e (t ++ c ∷ [])
@@ -374,8 +374,8 @@ word-begins d e k t c fs h keeps value begin tok is held ok starts =
       record { first = c; rest = []; is = refl; starts = starts },
     )))
 
--- a number, with bytes behind its first one
-pub number-begins : (d e : OpenDocument) (t : List ℕ) (c : ℕ) (w : List ℕ) (fs : List OpenFrame) → BeginsHere c d t fs
+-- a number, with bytes after its first one
+pub number-begins : (d e : PartialDocument) (t : List ℕ) (c : ℕ) (w : List ℕ) (fs : List OpenFrame) → BeginsHere c d t fs
     → Keeps d e → e.value ≡ d.value → e.begin ≡ d.position → e.token ≡ token.Number → e.number ≡ d.number
     → start_of c ≡ start.Number → HoldsNumber d.number (c ∷ w) → HasTakenIn anything e (t ++ c ∷ w)
 number-begins d e t c w fs h keeps value begin tok is starts held =
@@ -390,7 +390,7 @@ pub infinity-first : (c : ℕ) → start_of c ≡ start.Number → begins_decima
 infinity-first c h named n = grind (arith, nat_tests, h, named, n)
 
 -- a name where names are not allowed
-pub name-denied : (d : OpenDocument) (k : Name) (t : List ℕ) (c : ℕ) (fs : List OpenFrame) → BeginsHere c d t fs
+pub name-denied : (d : PartialDocument) (k : Name) (t : List ℕ) (c : ℕ) (fs : List OpenFrame) → BeginsHere c d t fs
     → NameBegins k c → d.settings.allow_inf_nan ≡ false
     → IsRefused d anything (t ++ c ∷ []) expected_value d.position
 name-denied d k t c fs h begins off =
@@ -405,10 +405,10 @@ name-denied d k t c fs h begins off =
     ∙ begins.denied (t ++ c ∷ u) (length t) here)))
 
 -- a string
-string-held : (e : OpenDocument) (c : ℕ) → c ≡ 34 → HasTaken e.string [] → HoldsString e (c ∷ [])
+string-held : (e : PartialDocument) (c : ℕ) → c ≡ 34 → HasTaken e.string [] → HoldsString e (c ∷ [])
 string-held e c is fresh = record { rest = []; is = ap (λ x. x ∷ []) is; taken = fresh }
 
-pub string-begins : (d e : OpenDocument) (t : List ℕ) (c : ℕ) (fs : List OpenFrame) → BeginsHere c d t fs → Keeps d e
+pub string-begins : (d e : PartialDocument) (t : List ℕ) (c : ℕ) (fs : List OpenFrame) → BeginsHere c d t fs → Keeps d e
     → e.value ≡ d.value → e.begin ≡ d.position → e.token ≡ token.Text → c ≡ 34 → HasTaken e.string []
     → HasTakenIn anything e (t ++ c ∷ [])
 string-begins d e t c fs h keeps value begin tok is fresh =
@@ -416,14 +416,14 @@ string-begins d e t c fs h keeps value begin tok is fresh =
     (subst (λ o. HoldsScalar e o (c ∷ [])) (sym tok) (string-held e c is fresh))
 
 -- a key
-key-reads : (p : Settings) (t u : List ℕ) (c : ℕ) (f : Option Fault) (d : OpenDocument) (s : Arrived)
+key-reads : (p : Settings) (t u : List ℕ) (c : ℕ) (f : Option Fault) (d : PartialDocument) (s : Arrived)
     → (k : BeginsKey d.value s c) → ReadsAt p t (c ∷ u) f (between_tokens s)
     → ReadsAt p t (c ∷ u) f (in_key k.frames k.members (length t))
 key-reads p t u c (Some f) d s k r = r
 key-reads p t u c None d s k r = r ∙ k.goes p (t ++ c ∷ u) (length t) (stands-last t u c)
 
 -- what is known where a key begins
-pub key-known : (d : OpenDocument) (t : List ℕ) (c : ℕ) (s : Arrived) → StandsAt c d t s → (k : BeginsKey d.value s c)
+pub key-known : (d : PartialDocument) (t : List ℕ) (c : ℕ) (s : Arrived) → StandsAt c d t s → (k : BeginsKey d.value s c)
     → Known (with_byte c) d t (in_key k.frames k.members (length t))
 key-known d t c s h k = record {
   mode = λ u comes. subst (λ v. ReadsAt d.settings t v d.fault (in_key k.frames k.members (length t))) (sym comes.1)
@@ -438,7 +438,7 @@ key-known d t c s h k = record {
   same = h.known.same;
 }
 
-pub key-begins : (d e : OpenDocument) (t : List ℕ) (c : ℕ) (s : Arrived) → StandsAt c d t s → BeginsKey d.value s c
+pub key-begins : (d e : PartialDocument) (t : List ℕ) (c : ℕ) (s : Arrived) → StandsAt c d t s → BeginsKey d.value s c
     → Keeps d e → e.value ≡ d.value → e.begin ≡ d.position → e.token ≡ token.Key → HasTaken e.string []
     → HasTakenIn anything e (t ++ c ∷ [])
 key-begins d e t c s h k keeps value begin tok fresh =
@@ -449,7 +449,7 @@ key-begins d e t c s h k keeps value begin tok fresh =
           (follows-here c) (key-known d t c s h k);
       held = λ unset. (
         c ∷ [],
-        record { front = t; is = refl; begin = refl; place = begin ∙ h.position },
+        record { prefix = t; is = refl; begin = refl; place = begin ∙ h.position },
         tok,
         string-held e c k.quote fresh,
         ap (λ v. v.awaits) value ∙ k.awaits,
@@ -460,7 +460,7 @@ key-begins d e t c s h k keeps value begin tok fresh =
 -- ---- tokens that go on and end
 
 -- The word or the number that is unfinished: where it begins, and its bytes so far
-pub record Unfinished (d : OpenDocument) (t : List ℕ) (k : Token) : Type 0 where
+pub record Unfinished (d : PartialDocument) (t : List ℕ) (k : Token) : Type 0 where
   pub frames : List OpenFrame
   pub begin : ℕ
   pub bytes : List ℕ
@@ -483,7 +483,7 @@ plain-key : (k : Token) → IsPlain k → k ≡ token.Key → ⊥
 plain-key k (inl e) n = absurd (cc)
 plain-key k (inr e) n = absurd (cc)
 
-unfinished-in : (d : OpenDocument) (t : List ℕ) (k : Token) (o : Opened) → d.token ≡ k → IsPlain k
+unfinished-in : (d : PartialDocument) (t : List ℕ) (k : Token) (o : Opened) → d.token ≡ k → IsPlain k
     → Known anything d t o → Holding d t o → Unfinished d t k
 unfinished-in d t k (between_tokens s) is plain known h = absurd (plain-nothing k plain (sym is ∙ h.0))
 unfinished-in d t k (in_scalar fs b) is plain known h = record {
@@ -499,15 +499,15 @@ unfinished-in d t k (in_scalar fs b) is plain known h = record {
 }
 unfinished-in d t k (in_key fs ms b) is plain known h = absurd (plain-key k plain (sym is ∙ h.2))
 
-unfinished : (d : OpenDocument) (t : List ℕ) (k : Token) → IsPlain k → HasArrived d t → d.fault ≡ None
+unfinished : (d : PartialDocument) (t : List ℕ) (k : Token) → IsPlain k → HasArrived d t → d.fault ≡ None
     → d.token ≡ k → Unfinished d t k
 unfinished d t k plain h unset is = unfinished-in d t k h.read.opened is plain h.read.known (h.read.held unset)
 
-pub word-open : (d : OpenDocument) (t : List ℕ) → HasArrived d t → d.fault ≡ None → d.token ≡ token.Word
+pub word-open : (d : PartialDocument) (t : List ℕ) → HasArrived d t → d.fault ≡ None → d.token ≡ token.Word
     → Unfinished d t token.Word
 word-open d t h unset is = unfinished d t token.Word (inl refl) h unset is
 
-pub number-open : (d : OpenDocument) (t : List ℕ) → HasArrived d t → d.fault ≡ None → d.token ≡ token.Number
+pub number-open : (d : PartialDocument) (t : List ℕ) → HasArrived d t → d.fault ≡ None → d.token ≡ token.Number
     → Unfinished d t token.Number
 number-open d t h unset is = unfinished d t token.Number (inr refl) h unset is
 
@@ -520,12 +520,12 @@ begins-more w v s h = record {
   starts = h.starts;
 }
 
-module _ (d : OpenDocument) (t : List ℕ) (k : Token) (x : Unfinished d t k) where
+module _ (d : PartialDocument) (t : List ℕ) (k : Token) (x : Unfinished d t k) where
   bytes-end : x.begin + length x.bytes ≡ length t
-  bytes-end = held-end x.from.front x.bytes t x.begin x.from.is x.from.begin
+  bytes-end = held-end x.from.prefix x.bytes t x.begin x.from.is x.from.begin
 
   bytes-stand : (u : List ℕ) → Stands (t ++ u) x.begin (x.begin + length x.bytes) x.bytes
-  bytes-stand u = held-stands x.from.front x.bytes t x.begin x.from.is x.from.begin u
+  bytes-stand u = held-stands x.from.prefix x.bytes t x.begin x.from.is x.from.begin u
 
   first-stands : (s : Start) (g : BeginsAs x.bytes s) (u : List ℕ) → slice_get (t ++ u) x.begin ≡ Some g.first
   first-stands s g u =
@@ -535,7 +535,7 @@ module _ (d : OpenDocument) (t : List ℕ) (k : Token) (x : Unfinished d t k) wh
   next-stands u c = ap (slice_get (t ++ c ∷ u)) bytes-end ∙ stands-last t u c
 
   -- The bytes w are taken into it.
-  pub token-on : (e : OpenDocument) (w : List ℕ) → Keeps d e → e.value ≡ d.value → e.begin ≡ d.begin
+  pub token-on : (e : PartialDocument) (w : List ℕ) → Keeps d e → e.value ≡ d.value → e.begin ≡ d.begin
       → HoldsScalar e e.token (x.bytes ++ w) → HasTakenIn anything e (t ++ w)
   token-on e w keeps value begin held = record {
     opened = in_scalar x.frames x.begin;
@@ -544,8 +544,8 @@ module _ (d : OpenDocument) (t : List ℕ) (k : Token) (x : Unfinished d t k) wh
     held = λ unset. (
       x.bytes ++ w,
       record {
-        front = x.from.front;
-        is = ap (λ v. v ++ w) x.from.is ∙ append_assoc x.from.front x.bytes w;
+        prefix = x.from.prefix;
+        is = ap (λ v. v ++ w) x.from.is ∙ append_assoc x.from.prefix x.bytes w;
         begin = x.from.begin;
         place = begin ∙ x.from.place;
       },
@@ -557,7 +557,7 @@ module _ (d : OpenDocument) (t : List ℕ) (k : Token) (x : Unfinished d t k) wh
   }
 
 -- ---- a byte of a word
-module _ (k : Name) (o m : OpenWord) (w : List ℕ) (c : ℕ) (h : HoldsWord k o w) where
+module _ (k : Name) (o m : PartialWord) (w : List ℕ) (c : ℕ) (h : HoldsWord k o w) where
   -- one more of it
   word-on : m.word.now ≡ o.word.now
       → ((t : List ℕ) (j : ℕ) → slice_get t j ≡ Some c
@@ -577,7 +577,7 @@ module _ (k : Name) (o m : OpenWord) (w : List ℕ) (c : ℕ) (h : HoldsWord k o
         ∙ ap (λ v. word_from v m.seen t (b + length (w ++ c ∷ []))) (sym same);
   }
 
-  -- its last byte, behind the others
+  -- its last byte, after the others
   module _ (leads : (t : List ℕ) (j : ℕ) → slice_get t j ≡ Some c
       → word_from o.word.now o.seen t j ≡ word_by o.word.now m.seen t j seen.Last)
       (t : List ℕ) (b : ℕ) (s : Stands t b (b + length w) w) (here : slice_get t (b + length w) ≡ Some c) where
@@ -593,8 +593,8 @@ module _ (k : Name) (o m : OpenWord) (w : List ℕ) (c : ℕ) (h : HoldsWord k o
         let tail = word_at-sound t left j (j + 1) tt (leads t j here) in
         sym (slice-stands t b (j + 1) (w ++ left) (stands-append t b j (j + 1) w left s tail)) ∙ h.spelled
 
-module _ (d : OpenDocument) (t : List ℕ) (x : Unfinished d t token.Word) (m : OpenWord) (c : ℕ) where
-  abbrev o : OpenWord
+module _ (d : PartialDocument) (t : List ℕ) (x : Unfinished d t token.Word) (m : PartialWord) (c : ℕ) where
+  abbrev o : PartialWord
   o = d.word
 
   abbrev on : List ℕ → List ℕ
@@ -606,7 +606,7 @@ module _ (d : OpenDocument) (t : List ℕ) (x : Unfinished d t token.Word) (m : 
       → word_from d.word.word.now d.word.seen t j ≡ word_by d.word.word.now m.seen t j seen.Part)
       → HasTakenIn anything (record d { word = m }) (t ++ c ∷ [])
   word-goes-on is same leads =
-      let e : OpenDocument = record d { word = m } in
+      let e : PartialDocument = record d { word = m } in
       token-on d t token.Word x e (c ∷ []) record { settings = refl; fault = refl; first = refl } refl refl
       (subst (λ k. HoldsScalar e k (x.bytes ++ c ∷ [])) (sym is) (
         word-on d.name d.word m x.bytes c x.held.0 same leads,
@@ -650,7 +650,7 @@ module _ (d : OpenDocument) (t : List ℕ) (x : Unfinished d t token.Word) (m : 
 -- ---- a byte of a number
 
 -- None is taken: it holds the same ones.
-number-same : (n m : OpenNumber) (w : List ℕ) → HoldsNumber n w → string_bytes m.text ≡ string_bytes n.text
+number-same : (n m : PartialNumber) (w : List ℕ) → HoldsNumber n w → string_bytes m.text ≡ string_bytes n.text
     → m.stage ≡ n.stage → HoldsNumber m w
 number-same n m w h text stage = record {
   text = text ∙ h.text;
@@ -659,12 +659,12 @@ number-same n m w h text stage = record {
       h.goes names t b stands ∙ ap (λ s. number_from names s t (b + length w)) (sym stage);
 }
 
-pub number-stays : (d : OpenDocument) (m : OpenNumber) (t : List ℕ) → HasArrived d t → d.fault ≡ None
+pub number-stays : (d : PartialDocument) (m : PartialNumber) (t : List ℕ) → HasArrived d t → d.fault ≡ None
     → d.token ≡ token.Number → string_bytes m.text ≡ string_bytes d.number.text → m.stage ≡ d.number.stage
     → HasArrived (record d { number = m }) t
 number-stays d m t h unset is text stage =
     let x = number-open d t h unset is in
-    let e : OpenDocument = record d { number = m } in
+    let e : PartialDocument = record d { number = m } in
     record {
       read =
           record {
@@ -672,7 +672,7 @@ number-stays d m t h unset is text stage =
             known = number-known anything d m t (in_scalar x.frames x.begin) x.known;
             held = λ none. (
               x.bytes,
-              record { front = x.from.front; is = x.from.is; begin = x.from.begin; place = x.from.place },
+              record { prefix = x.from.prefix; is = x.from.is; begin = x.from.begin; place = x.from.place },
               subst (λ k. HoldsScalar e k x.bytes) (sym is)
                   (number-same d.number m x.bytes x.held.0 text stage, x.held.1),
               x.left,
@@ -684,18 +684,18 @@ number-stays d m t h unset is text stage =
     }
 
 -- It goes on with these bytes.
-pub number-takes : (d : OpenDocument) (m : OpenNumber) (t v : List ℕ) → HasArrived d t → d.fault ≡ None
+pub number-takes : (d : PartialDocument) (m : PartialNumber) (t v : List ℕ) → HasArrived d t → d.fault ≡ None
     → d.token ≡ token.Number → ((w : List ℕ) → HoldsNumber d.number w → HoldsNumber m (w ++ v))
     → HasTakenIn anything (record d { number = m }) (t ++ v)
 number-takes d m t v h unset is more =
     let x = number-open d t h unset is in
-    let e : OpenDocument = record d { number = m } in
+    let e : PartialDocument = record d { number = m } in
     token-on d t token.Number x e v record { settings = refl; fault = refl; first = refl } refl refl
     (subst (λ k. HoldsScalar e k (x.bytes ++ v)) (sym is)
     (more x.bytes x.held.0, begins-more x.bytes v start.Number x.held.1))
 
-module _ (d : OpenDocument) (t : List ℕ) (x : Unfinished d t token.Number) (c : ℕ) where
-  -- what is said of the byte behind its bytes
+module _ (d : PartialDocument) (t : List ℕ) (x : Unfinished d t token.Number) (c : ℕ) where
+  -- what is said of the byte after its bytes
   extent-by : (w : Went) → Leads d.number.stage c w → (names : Bool) (u : List ℕ)
       → number_extent names (t ++ c ∷ u) x.begin ≡ number_by names (t ++ c ∷ u) (length t) w
   extent-by w leads names u =
@@ -737,8 +737,8 @@ module _ (d : OpenDocument) (t : List ℕ) (x : Unfinished d t token.Number) (c 
   -- or its minus stands alone.
   pub number-minus : x.bytes ≡ 45 ∷ [] → HoldsMinus d t x.frames x.begin
   number-minus minus = record {
-    front = x.from.front;
-    is = x.from.is ∙ ap (λ w. x.from.front ++ w) minus;
+    prefix = x.from.prefix;
+    is = x.from.is ∙ ap (λ w. x.from.prefix ++ w) minus;
     begin = x.from.begin;
     place = x.from.place;
     left = x.left;
@@ -746,7 +746,7 @@ module _ (d : OpenDocument) (t : List ℕ) (x : Unfinished d t token.Number) (c 
     room = x.room;
   }
 
--- ---- a number that lies whole in a piece, with the byte behind it
+-- ---- a number that lies whole in a piece, with the byte after it
 
 pub decimal-starts : (c : ℕ) → begins_decimal c ≡ true → start_of c ≡ start.Number
 decimal-starts c h = grind (arith, nat_tests, h)
@@ -762,7 +762,7 @@ range-first piece at e lt le =
     ∙ ap (λ w. w ++ slice_range piece (at + 1) e)
     (slice-one piece at (get_or piece at 0) (slice_get-get_or piece at 0 (omega arith)))
 
-module _ (d : OpenDocument) (t : List ℕ) (fs : List OpenFrame) (piece : List ℕ) (at : ℕ) (v : Tree) (e : ℕ)
+module _ (d : PartialDocument) (t : List ℕ) (fs : List OpenFrame) (piece : List ℕ) (at : ℕ) (v : Tree) (e : ℕ)
     (here : BeginsHere (get_or piece at 0) d t fs) (h : IsNumberWithin piece at v e) where
   abbrev first : ℕ
   first = get_or piece at 0
@@ -787,11 +787,11 @@ module _ (d : OpenDocument) (t : List ℕ) (fs : List OpenFrame) (piece : List �
       let count : b + length bytes ≡ b + (e - at) = omega (arith, bytes-long) in
       let stands = held-stands t bytes (t ++ bytes) b refl refl u in
       let place : length (t ++ bytes) ≡ b + (e - at) = omega (arith, length-append t bytes, bytes-long) in
-      let behind : slice_get all (b + (e - at)) ≡ Some (get_or piece e 0) =
+      let after : slice_get all (b + (e - at)) ≡ Some (get_or piece e 0) =
       ap (λ w. slice_get ((t ++ bytes) ++ w) (b + (e - at))) comes.1
       ∙ ap (slice_get ((t ++ bytes) ++ get_or piece e 0 ∷ comes.0)) (sym place)
       ∙ stands-last (t ++ bytes) comes.0 (get_or piece e 0) in
-      let same = behind ∙ sym (slice_get-get_or piece e 0 h.ends.within) in
+      let same = after ∙ sym (slice_get-get_or piece e 0 h.ends.within) in
       let standing : Stands all b (b + (e - at)) bytes = subst (λ k. Stands all b k bytes) count stands in
       let begun = subst (λ w. Stands all b (b + length bytes) w) bytes-are stands in
       let is : own_number bytes ≡ v =
@@ -817,7 +817,7 @@ range-more piece at e le h =
     (slice_range-split piece at e le (e + 1) (omega arith)
     ∙ ap (λ w. slice_range piece at e ++ w) (slice-one piece e (get_or piece e 0) (slice_get-get_or piece e 0 h)))
 
-pub range-behind : (t piece : List ℕ) (at e : ℕ) → at ≤ e → e < length piece
+pub range-after : (t piece : List ℕ) (at e : ℕ) → at ≤ e → e < length piece
     → (t ++ slice_range piece at e) ++ get_or piece e 0 ∷ [] ≡ t ++ slice_range piece at (e + 1)
-range-behind t piece at e le h =
+range-after t piece at e le h =
     append_assoc t (slice_range piece at e) (get_or piece e 0 ∷ []) ∙ ap (λ w. t ++ w) (range-more piece at e le h)

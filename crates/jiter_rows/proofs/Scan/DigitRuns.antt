@@ -1,4 +1,4 @@
--- Numbers whose digits come in runs of some lengths, with a comma behind them, by computation.
+-- Numbers whose digits come in runs of some lengths, with a comma after them, by computation.
 use Rattle.std.proofs.Common.{◌≡◌, ℕ, ◌+◌, ◌*◌, pos, negsuc, false, List, [], ◌∷◌, ◌++◌, refl, codes, map}
 use Rattle.std.specs.Prelude.{replicate}
 use Rattle.jiter_scan.specs.Scanned.{Scanned, taken}
@@ -33,7 +33,7 @@ numbers =
     (codes "-7777777777777777777777777,", taken (big (codes "-7777777777777777777777777")) 26) ∷
     (sevens 40 ++ codes ",", taken (big (sevens 40)) 40) ∷
     (codes "-" ++ (sevens 40 ++ codes ","), taken (big (codes "-" ++ sevens 40)) 41) ∷
-    -- what may stand behind
+    -- what may stand after
     (codes "-7777777777777777.5", taken (float (codes "-7777777777777777.5")) 19) ∷
     (codes "-7777777777777777.5]", taken (float (codes "-7777777777777777.5")) 19) ∷
     (codes "-7777777777777777.5 ", taken (float (codes "-7777777777777777.5")) 19) ∷

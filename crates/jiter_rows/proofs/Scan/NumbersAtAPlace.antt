@@ -18,7 +18,7 @@ without_names =
     (codes "1E+5", 0, taken (float (codes "1E+5")) 4) ∷
     (codes "[1.5e-05]", 1, taken (float (codes "1.5e-05")) 8) ∷
     (codes "0e0", 0, taken (float (codes "0e0")) 3) ∷
-    -- the byte behind a number is no part of it
+    -- the byte after a number is no part of it
     (codes "[1x]", 1, taken (integer (pos 1)) 2) ∷
     (codes "1.2.3", 0, taken (float (codes "1.2")) 3) ∷
     (codes "1e2e3", 0, taken (float (codes "1e2")) 3) ∷

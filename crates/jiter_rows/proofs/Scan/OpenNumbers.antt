@@ -1,11 +1,11 @@
--- What the bytes behind each stage of a number are read as, by computation.
+-- What the bytes after each stage of a number are read as, by computation.
 use Rattle.std.proofs.Common.{◌≡◌, ℕ, false, List, [], ◌∷◌, refl, codes, map}
 use Rattle.jiter_scan.specs.Kind.{eof_value, invalid_number, number_out_of_range}
-use Rattle.jiter_scan.specs.OpenNumber.{number_from}
+use Rattle.jiter_scan.specs.PartialNumber.{number_from}
 use Rattle.jiter_scan.specs.Scanned.{taken, failed}
 use Rattle.jiter_scan.specs.Word.{Extent}
-use Rattle.jiter_scan.specs.declared.open_number.Stage.{Stage}
-use Rattle.jiter_scan.specs.declared.open_number.Stage.TheVariants as stage
+use Rattle.jiter_scan.specs.declared.partial_number.Stage.{Stage}
+use Rattle.jiter_scan.specs.declared.partial_number.Stage.TheVariants as stage
 
 -- the stage, the text, the place reached, and where the number ends
 abbrev stages : List (Stage × List ℕ × ℕ × Extent)

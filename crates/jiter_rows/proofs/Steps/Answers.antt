@@ -26,7 +26,7 @@ literals_and_numbers : Give (answer false ∷ []) (
     (codes "trux", fault expected_ident 3 0) ∷
     (codes "nul", fault eof_value 3 0) ∷
     (codes "[tru]", fault expected_ident 4 1) ∷
-    -- behind the value
+    -- after the value
     (codes "[1, 2] extra", fault trailing_characters 7 7) ∷
     (codes "[] ]", fault trailing_characters 3 3) ∷
     (codes "1 2", fault trailing_characters 2 2) ∷
@@ -68,7 +68,7 @@ strings : Give (answer false ∷ []) (
     (codes "\"\\x\"", fault invalid_escape 2 0) ∷
     (codes "\"a", fault eof_string 2 0) ∷
     (codes "[\"" ++ 255 ∷ codes "\"]", fault invalid_code_point 2 1) ∷  -- broken UTF-8 in an array
-    (codes "\"\\n" ++ 255 ∷ codes "\"", fault invalid_code_point 2 0) ∷  -- broken UTF-8 behind an escape
+    (codes "\"\\n" ++ 255 ∷ codes "\"", fault invalid_code_point 2 0) ∷  -- broken UTF-8 after an escape
     (codes "\"" ++ 237 ∷ 160 ∷ 128 ∷ codes "\"", fault invalid_code_point 1 0) ∷  -- a surrogate in UTF-8
     (codes "\"" ++ 255 ∷ 31 ∷ codes "\"", fault control_character 2 0) ∷  -- a later fault before broken UTF-8
     -- a control character far in

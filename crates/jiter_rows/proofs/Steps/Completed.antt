@@ -23,7 +23,7 @@ use Rattle.jiter_steps.specs.Tree.{Text, Tree}
 use Rattle.jiter_steps.specs.Tree as tree
 use Rattle.jiter_steps.proofs.Reading.WholeTexts.{whole-fault}
 use Rattle.jiter_steps.proofs.Grammar.Blanks.{past_blanks-other}
-use Rattle.jiter_steps.proofs.Reading.Bodies.{body_at-portion_by, portion_by-end}
+use Rattle.jiter_steps.proofs.Reading.Bodies.{body_at-event_by, event_by-end}
 use Rattle.jiter_steps.proofs.Fault.Dead.{dead}
 use Rattle.jiter_steps.proofs.Grammar.Documents.{answer-of}
 use Rattle.jiter_steps.proofs.Computed.{computed_readings}
@@ -79,39 +79,39 @@ stops-sound : (t : List ℕ) (y : Reading Tree) → answer false t ≡ y → sto
 stops-sound t (done a e) is h = absurd (false≢true h)
 stops-sound t (fault k i stop) is h = λ rest n d.
     let kind = says_dead-sound k h in
-    let front = take (i + 1) t in
+    let prefix = take (i + 1) t in
     let back = drop (i + 1) t in
-    let all = ap (λ w. w ++ rest) (sym (take-append-drop (i + 1) t)) ∙ append_assoc front back rest in
+    let all = ap (λ w. w ++ rest) (sym (take-append-drop (i + 1) t)) ∙ append_assoc prefix back rest in
     dead false t k i stop is kind.0 kind.1 (back ++ rest) n (subst (λ w. IsDocument false w n) all d)
 
 -- a text that begins with bytes that begin no document
-begins-dead : (front w rest : List ℕ) (n : Node) → is_dead (front ++ w) ≡ true
-    → IsDocument false (front ++ (w ++ rest)) n → ⊥
-begins-dead front w rest n h d =
-    stops-sound (front ++ w) _ refl h rest n (subst (λ l. IsDocument false l n) (sym (append_assoc front w rest)) d)
+begins-dead : (prefix w rest : List ℕ) (n : Node) → is_dead (prefix ++ w) ≡ true
+    → IsDocument false (prefix ++ (w ++ rest)) n → ⊥
+begins-dead prefix w rest n h d =
+    stops-sound (prefix ++ w) _ refl h rest n (subst (λ l. IsDocument false l n) (sym (append_assoc prefix w rest)) d)
 
--- These bytes are no document, and with a filler or a closer behind them no document begins so.
+-- These bytes are no document, and with a filler or a closer after them no document begins so.
 abbrev is_over : List ℕ → List Bool
-is_over front =
-    not (is_document front) ∷ map (λ w. is_dead (front ++ w)) (codes "0" ∷ codes "\"\":0" ∷ codes "]" ∷ codes "}" ∷ [])
+is_over prefix =
+    not (is_document prefix) ∷ map (λ w. is_dead (prefix ++ w)) (codes "0" ∷ codes "\"\":0" ∷ codes "]" ∷ codes "}" ∷ [])
 
 abbrev Nowhere : List ℕ → Type 0
-Nowhere front = is_over front ≡ replicate 5 true
+Nowhere prefix = is_over prefix ≡ replicate 5 true
 
-closers-nowhere : (front cs : List ℕ) (n : Node) → AreClosers cs → Nowhere front → IsDocument false (front ++ cs) n → ⊥
-closers-nowhere front [] n all h d = no_document front n (cc) (subst (λ l. IsDocument false l n) (append-nil front) d)
-closers-nowhere front (c ∷ cs) n all h d = by all.0 where
+closers-nowhere : (prefix cs : List ℕ) (n : Node) → AreClosers cs → Nowhere prefix → IsDocument false (prefix ++ cs) n → ⊥
+closers-nowhere prefix [] n all h d = no_document prefix n (cc) (subst (λ l. IsDocument false l n) (append-nil prefix) d)
+closers-nowhere prefix (c ∷ cs) n all h d = by all.0 where
   by : ((c ≡ 93) ⊎ (c ≡ 125)) → ⊥
-  by (inl e) = begins-dead front (codes "]") cs n (cc) (rw e at d)
-  by (inr e) = begins-dead front (codes "}") cs n (cc) (rw e at d)
+  by (inl e) = begins-dead prefix (codes "]") cs n (cc) (rw e at d)
+  by (inr e) = begins-dead prefix (codes "}") cs n (cc) (rw e at d)
 
 -- No filler and closers complete such bytes.
-nowhere-sound : (front : List ℕ) → Nowhere front → CanBeCompleted false front → ⊥
-nowhere-sound front h c = by c.filler c.is_filler c.document where
-  by : (w : List ℕ) → IsFiller w → IsDocument false (front ++ (w ++ c.closers)) c.node → ⊥
-  by w (inl e) d = closers-nowhere front c.closers c.node c.are_closers h (rw e at d)
-  by w (inr (inl e)) d = begins-dead front (codes "0") c.closers c.node (cc) (rw e at d)
-  by w (inr (inr e)) d = begins-dead front (codes "\"\":0") c.closers c.node (cc) (rw e at d)
+nowhere-sound : (prefix : List ℕ) → Nowhere prefix → CanBeCompleted false prefix → ⊥
+nowhere-sound prefix h c = by c.filler c.is_filler c.document where
+  by : (w : List ℕ) → IsFiller w → IsDocument false (prefix ++ (w ++ c.closers)) c.node → ⊥
+  by w (inl e) d = closers-nowhere prefix c.closers c.node c.are_closers h (rw e at d)
+  by w (inr (inl e)) d = begins-dead prefix (codes "0") c.closers c.node (cc) (rw e at d)
+  by w (inr (inr e)) d = begins-dead prefix (codes "\"\":0") c.closers c.node (cc) (rw e at d)
 
 -- The other kinds: a text, its fault's kind and index, and the bytes before it cannot be completed.
 abbrev not_completed : List (List ℕ × Kind × ℕ)
@@ -147,26 +147,26 @@ none_completed-from (r ∷ rows) h = (nowhere-sound (take r.2 r.0) (cc), none_co
 none_completed : NoneCompleted not_completed
 none_completed = none_completed-from not_completed not_completed_nowhere.2
 
--- A control character: behind a quote that no other follows no string ends, and two quotes are a whole string.
-open_string-reads : (w : List ℕ) → ArePrinted w
+-- A control character: after a quote that no other follows no string ends, and two quotes are a whole string.
+partial_string-reads : (w : List ℕ) → ArePrinted w
     → string_at whole (34 ∷ w) 0 ≡ failed eof_string (length (34 ∷ w))
 unfolding content_at
-open_string-reads w printed =
+partial_string-reads w printed =
     let t = 34 ∷ w in
     let range : slice_range t 1 (1 + length w) ≡ w =
     ap (λ n. take n w) (omega arith) ∙ take_all (length w) w (omega arith) in
     let slice = stands-slice t 1 (1 + length w) (omega arith) (omega arith) in
     let stands = subst (Stands t 1 (1 + length w)) range slice in
-    let last = body_at-portion_by t (1 + length w) (over unclosed) (portion_by-end t (1 + length w) (omega arith)) in
+    let last = body_at-event_by t (1 + length w) (over unclosed) (event_by-end t (1 + length w) (omega arith)) in
     let body = bytes-read t 1 (1 + length w) w printed stands ∙ ap (before w false) last in
     ap (λ (b : Body). text_in_form whole t 1 b.bytes b.owned b.stop) body
 
-open_string-none : (w : List ℕ) (n : Node) → ArePrinted w → IsDocument false (34 ∷ w) n → ⊥
-open_string-none w n printed d =
+partial_string-none : (w : List ℕ) (n : Node) → ArePrinted w → IsDocument false (34 ∷ w) n → ⊥
+partial_string-none w n printed d =
     let t = 34 ∷ w in
     let names = false in
     let start = past_blanks-other t 0 (omega arith) refl in
-    let value = ap (λ x. scalar_at 0 (seen_as (λ (s : Text) (e : ℕ). tree.string s) x)) (open_string-reads w printed) in
+    let value = ap (λ x. scalar_at 0 (seen_as (λ (s : Text) (e : ℕ). tree.string s) x)) (partial_string-reads w printed) in
     let fault_is = whole-fault (whole_trees false) t 0 eof_string (length t) 0 start (omega arith) value in
     let clash = sym fault_is ∙ answer-of false t n d in
     cc
@@ -191,8 +191,8 @@ quote_completed c = by c.filler c.is_filler c.document where
   cs = closers-printed c.closers c.are_closers
 
   by : (w : List ℕ) → IsFiller w → IsDocument false (34 ∷ (w ++ c.closers)) c.node → ⊥
-  by w (inl e) d = open_string-none c.closers c.node cs (rw e at d)
+  by w (inl e) d = partial_string-none c.closers c.node cs (rw e at d)
   by w (inr (inl e)) d =
       let zero = printed 48 (omega arith) (λ q. omega arith) in
-      open_string-none (48 ∷ c.closers) c.node (zero, cs) (rw e at d)
+      partial_string-none (48 ∷ c.closers) c.node (zero, cs) (rw e at d)
   by w (inr (inr e)) d = begins-dead (34 ∷ []) (codes "\"\":0") c.closers c.node control_answer.1 (rw e at d)

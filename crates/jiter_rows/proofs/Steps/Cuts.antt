@@ -1,4 +1,4 @@
--- Documents cut before each of their bytes: what the cut of the node and what the reading of the front give.
+-- Documents cut before each of their bytes: what the cut of the node and what the reading of the prefix give.
 use Rattle.std.proofs.Common.{◌≡◌, ℕ, ◌-◌, ◌<◌, ◌≤◌, subst, Bool, true, false, List, [], ◌∷◌, ◌++◌, length, refl}
 use Rattle.std.proofs.Common.{codes, map, Some, None}
 use Rattle.std.specs.Prelude.{take, replicate}
@@ -107,7 +107,7 @@ it_is_cut_anywhere : (k : ℕ) (mode : PartialMode) → 0 < k → k ≤ 21
     × (cut false source document k mode ≡ Some v)
 it_is_cut_anywhere k mode = cut-law false source document k mode it_is_a_document tt
 
--- Arrays of one number, cut within it and behind it, with and without the names NaN and Infinity: the node of a text
+-- Arrays of one number, cut within it and after it, with and without the names NaN and Infinity: the node of a text
 -- that is one number between two brackets.
 abbrev around_number : List ℕ → Node
 around_number t = grammar.array 0 (length t) (node (grammar.number 1 (length t - 1)) no_nodes)

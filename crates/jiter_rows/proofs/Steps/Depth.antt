@@ -5,7 +5,7 @@ use Rattle.jiter_scan.specs.Kind.{eof_list, eof_value, is_forgiven, recursion_li
 use Rattle.jiter_scan.specs.declared.partial_mode.PartialMode.{PartialMode}
 use Rattle.jiter_scan.specs.declared.partial_mode.PartialMode.TheVariants.{Off, On, TrailingStrings}
 use Rattle.jiter_steps.specs.Tree.{Tree}
-use Rattle.jiter_steps.specs.Read.{Reading, done, fault, front_answer}
+use Rattle.jiter_steps.specs.Read.{Reading, done, fault, prefix_answer}
 use Rattle.jiter_steps.specs.Answer.{answer, answer_in, partial_answer, skip_at, trees}
 use Rattle.jiter_steps.specs.StringReading.{Form, kept, whole}
 use Rattle.jiter_rows.proofs.Steps.Trees.{borrowed, listed, paired, nested, times, Give}
@@ -40,7 +40,7 @@ too_deep_off : AllRefused (answer false) too_deep
 too_deep_off = unfold computed_readings in refl
 
 -- The partial modes differ in the form of strings alone, and no string is reached.
-too_deep_partial : (form : Form) → AllRefused (front_answer (trees is_forgiven form false)) too_deep
+too_deep_partial : (form : Form) → AllRefused (prefix_answer (trees is_forgiven form false)) too_deep
 too_deep_partial form = unfold computed_readings in refl
 
 too_deep_answer : (mode : PartialMode) → AllRefused (answer_in false mode) too_deep

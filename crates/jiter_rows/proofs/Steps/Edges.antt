@@ -4,7 +4,7 @@ use Rattle.std.proofs.Common.{◌≡◌, false, List, [], ◌∷◌, refl, codes
 use Rattle.jiter_scan.specs.Kind.{eof_list, eof_object, eof_value, expected_value}
 use Rattle.jiter_scan.specs.declared.partial_mode.PartialMode.TheVariants.{Off, On, TrailingStrings}
 use Rattle.jiter_steps.specs.declared.parse.Literal.TheVariants as literal
-use Rattle.jiter_steps.specs.declared.parse.Shape.TheVariants as shape
+use Rattle.jiter_steps.specs.declared.parse.ContainerKind.TheVariants as shape
 use Rattle.jiter_steps.specs.Tree.{null}
 use Rattle.jiter_steps.specs.Read.{fault}
 use Rattle.jiter_steps.specs.Answer.{answer, read_at, skip_at}
@@ -17,7 +17,7 @@ use Rattle.jiter_rows.proofs.Steps.Cuts.{piece}
 use Rattle.jiter_rows.proofs.Steps.Trees.{listed, word}
 use Rattle.jiter_steps.proofs.Computed.{computed_cuts, computed_readings}
 
--- A literal, a number and a string of no bytes are not reached by a cut at their place, as no other node is. Behind it
+-- A literal, a number and a string of no bytes are not reached by a cut at their place, as no other node is. After it
 -- the literal and the string are whole, and no bytes are no number.
 abbrev empty_nodes : List Node
 empty_nodes = grammar.literal literal.Null 2 2 ∷ grammar.number 2 2 ∷ grammar.string [] 2 2 ∷ []
@@ -26,7 +26,7 @@ empty_nodes_are_cut : map (λ k. map (λ n. cut false (codes "[1]") n k On) empt
     ≡ (None ∷ None ∷ None ∷ []) ∷ (Some null ∷ None ∷ Some (word "") ∷ []) ∷ []
 empty_nodes_are_cut = unfold computed_cuts in refl
 
--- Of pieces out of order those before the first that ends behind the place are left, not all that end before it.
+-- Of pieces out of order those before the first that ends after the place are left, not all that end before it.
 pieces_out_of_order : map (λ k. pieces_to k (piece 97 3 ∷ piece 98 5 ∷ piece 99 4 ∷ [])) (3 ∷ 4 ∷ 5 ∷ [])
     ≡ (piece 97 3 ∷ []) ∷ (piece 97 3 ∷ []) ∷ (piece 97 3 ∷ piece 98 5 ∷ piece 99 4 ∷ []) ∷ []
 pieces_out_of_order = refl
@@ -44,7 +44,7 @@ no_value_at_the_length :
     × (answer false [] ≡ fault eof_value 0 0)
 no_value_at_the_length = unfold computed_readings in (refl, refl, refl)
 
--- Where no bracket stands, the end of input is found behind it, past the length. Behind a part it is found there.
+-- Where no bracket stands, the end of input is found after it, past the length. After a part it is found there.
 no_bracket_at_the_length :
     (map (first_inside shape.Array (codes "[")) (0 ∷ 1 ∷ 2 ∷ [])
     ≡ fault eof_list 1 1 ∷ fault eof_list 2 2 ∷ fault eof_list 3 3 ∷ [])

@@ -10,7 +10,7 @@ use Rattle.jiter_steps.specs.declared.parse.Literal.{Literal}
 use Rattle.jiter_steps.specs.declared.parse.Literal.TheVariants as literal
 use Rattle.jiter_steps.proofs.Computed.{computed_strings}
 
--- behind a backslash
+-- after a backslash
 abbrev signs : List (ℕ × Option ℕ)
 signs =
     (34, Some 34) ∷

@@ -13,7 +13,7 @@ use Rattle.jiter_steps.proofs.Fault.Dead.{dead}
 use Rattle.jiter_rows.proofs.Steps.Trees.{times, Give}
 use Rattle.jiter_steps.proofs.Computed.{computed_readings}
 
--- a text, its fault's kind and index, and bytes that go on its front
+-- a text, its fault's kind and index, and bytes that go on its prefix
 abbrev Row : Type 0
 Row = List ℕ × Kind × ℕ × List ℕ
 

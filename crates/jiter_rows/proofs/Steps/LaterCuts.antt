@@ -53,7 +53,7 @@ a_number_is_cut (inr whole, rest) = omega arith
 no_number_is_cut : CutsNoNumber 3 (grammar.array 0 6 (node (grammar.number 1 3) (node (grammar.number 4 5) no_nodes)))
 no_number_is_cut = (inr (omega arith), (inl (omega arith), tt))
 
--- The mark of the text that goes on may change, since a later cut may show its first backslash: `["\n"]` cut behind the
+-- The mark of the text that goes on may change, since a later cut may show its first backslash: `["\n"]` cut after the
 -- quote, the backslash and the letter.
 a_backslash_comes :
     map (λ k. cut false (codes "[\"\\n\"]") (grammar.array 0 6 (node (grammar.string (piece 10 4 ∷ []) 1 5) no_nodes)) k
@@ -67,7 +67,7 @@ the_mark_goes_on = ([], refl, λ own. refl)
 a_text_keeps_its_own_memory : Extends (own_text []) (text []) → ⊥
 a_text_keeps_its_own_memory h = let own : false ≡ true = h.2 refl in cc
 
--- No other mark changes: not that of a text with another part behind it, and not that of a key.
+-- No other mark changes: not that of a text with another part after it, and not that of a key.
 marks_differ : {v w : List ℕ} → borrowed v ≡ owned w → ⊥
 marks_differ e = let marks = ap (λ (x : Text). x.owned) e in cc
 

@@ -5,11 +5,11 @@ use Rattle.jiter_scan.specs.Kind.{expected_object_comma_or_end, key_must_be_a_st
 use Rattle.jiter_scan.specs.Scanned.{taken, failed}
 use Rattle.jiter_steps.specs.Step.{more, closed, stuck, step, container_comma, colon, value_first, object_colon}
 use Rattle.jiter_steps.specs.Step.{array_first, array_step, object_first, object_step}
-use Rattle.jiter_steps.specs.declared.parse.Shape.TheVariants as shape
+use Rattle.jiter_steps.specs.declared.parse.ContainerKind.TheVariants as shape
 use Rattle.jiter_rows.proofs.Steps.Trees.{GiveAt}
 use Rattle.jiter_steps.proofs.Computed.{computed_steps}
 
--- behind an opening bracket
+-- after an opening bracket
 array_begins : GiveAt ((λ t. step t array_first) ∷ []) (
     (codes "[ ", 1, stuck eof_list 2) ∷
     (codes "[ ]", 1, closed 3) ∷
@@ -20,7 +20,7 @@ array_begins : GiveAt ((λ t. step t array_first) ∷ []) (
     [])
 array_begins = unfold computed_steps in refl
 
--- behind an item
+-- after an item
 item_ends : GiveAt ((λ t. step t (array_step t)) ∷ []) (
     (codes "[1 ", 2, stuck eof_list 3) ∷
     (codes "[1 ]", 2, closed 4) ∷
@@ -31,7 +31,7 @@ item_ends : GiveAt ((λ t. step t (array_step t)) ∷ []) (
     [])
 item_ends = unfold computed_steps in refl
 
--- behind a comma in an array
+-- after a comma in an array
 array_goes_on : GiveAt ((λ t. step t (container_comma shape.Array)) ∷ []) (
     (codes "[1, ", 3, stuck eof_value 4) ∷
     (codes "[1, ]", 3, stuck trailing_comma 4) ∷
@@ -40,7 +40,7 @@ array_goes_on : GiveAt ((λ t. step t (container_comma shape.Array)) ∷ []) (
     [])
 array_goes_on = unfold computed_steps in refl
 
--- behind an opening brace
+-- after an opening brace
 object_begins : GiveAt ((λ t. step t object_first) ∷ []) (
     (codes "{ ", 1, stuck eof_object 2) ∷
     (codes "{ }", 1, closed 3) ∷
@@ -49,7 +49,7 @@ object_begins : GiveAt ((λ t. step t object_first) ∷ []) (
     [])
 object_begins = unfold computed_steps in refl
 
--- behind a member
+-- after a member
 member_ends : GiveAt ((λ t. step t (object_step t)) ∷ []) (
     (codes "{\"a\":1 ", 6, stuck eof_object 7) ∷
     (codes "{\"a\":1 }", 6, closed 8) ∷
@@ -58,7 +58,7 @@ member_ends : GiveAt ((λ t. step t (object_step t)) ∷ []) (
     [])
 member_ends = unfold computed_steps in refl
 
--- behind a comma in an object
+-- after a comma in an object
 object_goes_on : GiveAt ((λ t. step t (container_comma shape.Object)) ∷ []) (
     (codes "{\"a\":1, ", 7, stuck eof_value 8) ∷
     (codes "{\"a\":1,}", 7, stuck trailing_comma 7) ∷
@@ -67,7 +67,7 @@ object_goes_on : GiveAt ((λ t. step t (container_comma shape.Object)) ∷ []) (
     [])
 object_goes_on = unfold computed_steps in refl
 
--- behind a key
+-- after a key
 key_ends : GiveAt ((λ t. step t colon) ∷ []) (
     (codes "{\"a\" ", 4, failed eof_object 5) ∷
     (codes "{\"a\" :1", 4, taken tt 6) ∷
@@ -75,14 +75,14 @@ key_ends : GiveAt ((λ t. step t colon) ∷ []) (
     [])
 key_ends = unfold computed_steps in refl
 
--- behind a colon
+-- after a colon
 colon_ends : GiveAt ((λ t. step t value_first) ∷ []) (
     (codes "{\"a\": ", 5, failed eof_value 6) ∷
     (codes "{\"a\": }", 5, taken tt 6) ∷
     [])
 colon_ends = unfold computed_steps in refl
 
--- behind a key, to where its value begins
+-- after a key, to where its value begins
 key_leads_on : GiveAt (object_colon ∷ []) (
     (codes "{\"a\" : 1", 4, taken tt 7) ∷
     (codes "{\"a\":", 4, failed eof_value 5) ∷

@@ -80,7 +80,7 @@ texts : GiveAt (string_at whole ∷ string_at kept ∷ []) (
     (codes "\"a\\n\"", 0, taken (owned (codes "a\n")) 5) ∷
     -- UTF-8 is tested at the close, over the decoded bytes
     (codes "\"" ++ 255 ∷ codes "\"", 0, failed invalid_code_point 1) ∷  -- broken UTF-8
-    (codes "\"\\n" ++ 255 ∷ codes "\"", 0, failed invalid_code_point 2) ∷  -- broken UTF-8 behind an escape
+    (codes "\"\\n" ++ 255 ∷ codes "\"", 0, failed invalid_code_point 2) ∷  -- broken UTF-8 after an escape
     (codes "\"aaaaaaaaaaaaaaa" ++ 128 ∷ codes "\"", 0, failed invalid_code_point 16) ∷  -- a byte 80 far in
     (codes "\"" ++ 192 ∷ 175 ∷ codes "\"", 0, failed invalid_code_point 1) ∷  -- overlong UTF-8
     (codes "\"" ++ 244 ∷ 144 ∷ 128 ∷ 128 ∷ codes "\"", 0, failed invalid_code_point 1) ∷  -- past the last character
@@ -122,7 +122,7 @@ bytes : GiveAt (string_at raw ∷ string_at raw_kept ∷ []) (
     (codes "\"\\u0061\"", 0, taken (ascii "\\u0061") 8) ∷  -- a letter escaped
     (codes "\"\\ud83d\\ude00\"", 0, taken (ascii "\\ud83d\\ude00") 14) ∷  -- a surrogate pair
     (codes "\"" ++ 255 ∷ codes "\"", 0, taken (borrowed (255 ∷ [])) 3) ∷  -- broken UTF-8
-    (codes "\"\\n" ++ 255 ∷ codes "\"", 0, taken (borrowed (92 ∷ 110 ∷ 255 ∷ [])) 5) ∷  -- broken UTF-8 behind an escape
+    (codes "\"\\n" ++ 255 ∷ codes "\"", 0, taken (borrowed (92 ∷ 110 ∷ 255 ∷ [])) 5) ∷  -- broken UTF-8 after an escape
     [])
 bytes = unfold computed_strings in refl
 

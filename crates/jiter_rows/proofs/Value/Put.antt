@@ -57,7 +57,7 @@ module _ (error : ReadError) where
         let put : done (boolean true) 4 ≡ done (view (value.Bool true)) 5 = h.value (settings Off) in
         cc
 
-    -- `[null,true]`: the second item, behind the first
+    -- `[null,true]`: the second item, after the first
     an_item : (more : Vec JsonValue Global) → es.items ≡ Null ∷ [] → more.items ≡ Null ∷ (value.Bool true ∷ [])
         → IsPutAt lent (codes "[null,true]") (stacks error es ms (outermost ∷ []) Null) 6 slot.Item
         (stacks error more ms (outermost ∷ []) Null) 10
@@ -97,7 +97,7 @@ module _ (error : ReadError) where
       within = omega arith;
     }
 
-    -- `{"a":1,"b":2}`: a key behind a member
+    -- `{"a":1,"b":2}`: a key after a member
     a_second_key : (l : CowStr Global) (v : JsonValue) → ms.items ≡ (l, v) ∷ []
         → more.items ≡ (l, v) ∷ ((k, Null) ∷ []) → text_view k ≡ ascii "b"
         → IsKeyAt lent (codes "{\"a\":1,\"b\":2}") (stacks error es ms (outermost ∷ []) Null) 7

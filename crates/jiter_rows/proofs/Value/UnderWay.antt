@@ -1,4 +1,4 @@
--- A machine under way, row by row: before its first turn, at the first byte and behind a bracket.
+-- A machine under way, row by row: before its first turn, at the first byte and after a bracket.
 use Rattle.std.proofs.Common.{◌≡◌, inl, inr, true, false, List, [], ◌∷◌, Vec, refl, ◌∙◌, arith, codes, pos}
 use Rattle.std.specs.declared.alloc.Global.{Global}
 use Rattle.jiter_steps.specs.Read.{done}
@@ -36,8 +36,8 @@ module _ (p : Settings) (error : ReadError) (es : Vec JsonValue Global) (ms : Ve
         refl,
       )
 
-  behind_the_bracket : IsUnderWay true (codes "[1]") p 1 state.Item (stacks error es ms (outermost ∷ []) Null)
-  behind_the_bracket =
+  after_the_bracket : IsUnderWay true (codes "[1]") p 1 state.Item (stacks error es ms (outermost ∷ []) Null)
+  after_the_bracket =
       unfold computed_readings in (
         record {
           reaches = (

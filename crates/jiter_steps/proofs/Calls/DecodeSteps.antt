@@ -1,4 +1,4 @@
--- Steps of the decoder: a run of plain bytes, and the escape behind it.
+-- Steps of the decoder: a run of plain bytes, and the escape after it.
 use Rattle.std.proofs.Common.{◌≡◌, ℕ, ◌+◌, ◌<◌, ◌≤◌, true, false, List, ◌++◌, length, sym, arith, append_assoc}
 use Rattle.std.proofs.Common.{◌≢◌, ◌-◌, Bool, subst, append-nil, ◌&&◌, ◌∙◌, refl, ap, [], ◌∷◌, take}
 use Rattle.std.specs.Prelude.{slice_get, slice_range, Some, IsTrue, nat_lt}
@@ -8,21 +8,21 @@ use Rattle.std.proofs.lemmas.Str.{IsUtf8-append, IsUtf8-encode}
 use Rattle.std.proofs.lemmas.Bool.Decides.{nat_tests}
 use Rattle.jiter_scan.specs.Scan.{scan_stop, is_ascii, is_plain, IsAsciiTo}
 use Rattle.jiter_scan.proofs.Runs.{run_end-ahead, run_end-within}
-use Rattle.jiter_steps.specs.StringReading.{part, over, portion_at, Stop, body_at, number, hex_digits_at}
+use Rattle.jiter_steps.specs.StringReading.{part, over, event_at, Stop, body_at, number, hex_digits_at}
 use Rattle.std.proofs.lemmas.Bool.{ne_eqb, lt-ltb, false≢true}
 use Rattle.jiter_scan.proofs.Choices.{if-true}
-use Rattle.jiter_steps.proofs.Grammar.Places.{portion_at-explains, Explains}
-use Rattle.jiter_steps.proofs.Reading.Bodies.{body_at-portion_by, part-ahead}
+use Rattle.jiter_steps.proofs.Grammar.Places.{event_at-explains, Explains}
+use Rattle.jiter_steps.proofs.Reading.Bodies.{body_at-event_by, part-ahead}
 use Rattle.std.specs.Char.{encode_utf8, IsScalar}
 use Rattle.jiter_steps.specs.Escape.{short_escape, is_high, is_low}
-use Rattle.jiter_steps.proofs.Calls.PlainRuns.{plain_run_front}
+use Rattle.jiter_steps.proofs.Calls.PlainRuns.{plain_run_prefix}
 use Rattle.jiter_steps.proofs.Calls.PlainAnswers.{plain-utf8}
 
 -- Escapes that one look shows to be whole, and no pair.
 module _ (t : List ℕ) (i : ℕ) (backslash : slice_get t i ≡ Some 92) where
   pub decode-unit : (u : ℕ) → slice_get t (i + 1) ≡ Some 117 → hex_digits_at t (i + 2) ≡ number u → IsScalar u
-      → portion_at t i ≡ part (encode_utf8 u) true (i + 6)
-  unfolding portion_at
+      → event_at t i ≡ part (encode_utf8 u) true (i + 6)
+  unfolding event_at
   decode-unit u letter digits scalar =
       let at : i + 1 + 1 ≡ i + 2 = omega arith in
       let end : i + 2 + 4 ≡ i + 6 = omega arith in
@@ -31,8 +31,8 @@ module _ (t : List ℕ) (i : ℕ) (backslash : slice_get t i ≡ Some 92) where
       rw (backslash, letter, at, digits, no_high, no_low, end)
 
   pub decode-letter : (b c : ℕ) → slice_get t (i + 1) ≡ Some b → b ≢ 117 → short_escape b ≡ Some c
-      → portion_at t i ≡ part (encode_utf8 c) true (i + 2)
-  unfolding portion_at
+      → event_at t i ≡ part (encode_utf8 c) true (i + 2)
+  unfolding event_at
   decode-letter b c letter other sign =
       let end : i + 1 + 1 ≡ i + 2 = omega arith in
       rw (backslash, letter, ne_eqb b 117 other, sign, end)
@@ -46,21 +46,21 @@ module _ (t whole : List ℕ) (s : Stop) (tape : List ℕ) (at : ℕ) (so_far : 
   pub decode-run : (next : List ℕ) (n : ℕ) → at ≤ length t → at + n ≤ scan_stop t at
       → next ≡ tape ++ slice_range t at (at + n) → Decoded t whole s next (at + n)
   decode-run next n within run added =
-      let b = plain_run_front t at n within run in
+      let b = plain_run_prefix t at n within run in
       (rw (so_far.0, b, added, append_assoc), rw (so_far.1, b))
 
   -- an escape
-  pub decode-more : (after bs : List ℕ) (end : ℕ) → part bs true end ≡ portion_at t at → after ≡ tape ++ bs
-      → Decoded t whole s after end × (at < end) × (end ≤ length t)
-  decode-more after bs end f added =
-      let b = body_at-portion_by t at (part bs true end) (sym f) in
-      let ahead = part-ahead t at end bs true (subst (Explains t at) (sym f) (portion_at-explains t at)) in
+  pub decode-more : (later bs : List ℕ) (end : ℕ) → part bs true end ≡ event_at t at → later ≡ tape ++ bs
+      → Decoded t whole s later end × (at < end) × (end ≤ length t)
+  decode-more later bs end f added =
+      let b = body_at-event_by t at (part bs true end) (sym f) in
+      let ahead = part-ahead t at end bs true (subst (Explains t at) (sym f) (event_at-explains t at)) in
       ((rw (so_far.0, b, added, append_assoc), rw (so_far.1, b)), ahead.0, ahead.1)
 
   -- or the string is over
-  pub decode-over : (x : Stop) → over x ≡ portion_at t at → (tape ≡ whole) × (x ≡ s)
+  pub decode-over : (x : Stop) → over x ≡ event_at t at → (tape ≡ whole) × (x ≡ s)
   decode-over x f =
-      let b = body_at-portion_by t at (over x) (sym f) in (rw (so_far.0, b, append-nil), rw (so_far.1, b))
+      let b = body_at-event_by t at (over x) (sym f) in (rw (so_far.0, b, append-nil), rw (so_far.1, b))
 
 -- What is known to be UTF-8 stays so, where plain bytes below 80 hex are added.
 pub known-run : (known low now : Bool) (tape run next : List ℕ) → (IsTrue known → IsUtf8 tape)
@@ -71,10 +71,10 @@ known-run true false now tape run next k l both added h = absurd (false≢true (
 known-run false low now tape run next k l both added h = absurd (false≢true (sym both ∙ h))
 
 -- and the character of an escape
-pub known-escape : (t tape after bs : List ℕ) (at end : ℕ) → IsUtf8 tape → part bs true end ≡ portion_at t at
-    → after ≡ tape ++ bs → IsUtf8 after
-known-escape t tape after bs at end u f added =
-    let e = subst (Explains t at) (sym f) (portion_at-explains t at) in
+pub known-escape : (t tape later bs : List ℕ) (at end : ℕ) → IsUtf8 tape → part bs true end ≡ event_at t at
+    → later ≡ tape ++ bs → IsUtf8 later
+known-escape t tape later bs at end u f added =
+    let e = subst (Explains t at) (sym f) (event_at-explains t at) in
     let utf8 : IsUtf8 bs = subst IsUtf8 (sym e.is) (IsUtf8-encode e.character e.scalar) in
     subst IsUtf8 (sym added) (IsUtf8-append tape bs u utf8)
 
@@ -83,7 +83,7 @@ pub encode-sign : (c : ℕ) → c < 128 → c ∷ [] ≡ encode_utf8 c
 unfolding encode_utf8
 encode-sign c h = sym (if-true (nat_lt c 128) _ _ (lt-ltb c 128 h))
 
--- The plain bytes up to the first stop are copied to the tape, after the bytes that count there.
+-- The plain bytes up to the first stop are copied to the tape, later the bytes that count there.
 module _ (t tape next : List ℕ) (at count end stop : ℕ) (within : at ≤ length t) (is : stop ≡ scan_stop t at)
     (put : take end next ≡ take count tape ++ slice_range t at (scan_stop t at)) where
   pub copied-within : stop ≤ length t

@@ -9,10 +9,10 @@ use Rattle.jiter_steps.specs.StringReading.{text_form, whole, string_at}
 use Rattle.jiter_steps.proofs.Grammar.StringLaws.{string_at-within}
 use Rattle.jiter_steps.proofs.Reading.StringForms.{content-kept}
 
--- fewer bytes of the front are those of the whole
-pub front-front : (items : List ℕ) (count n : ℕ) → n ≤ length (take count items)
+-- fewer bytes of the prefix are those of the whole
+pub prefix-prefix : (items : List ℕ) (count n : ℕ) → n ≤ length (take count items)
     → take n (take count items) ≡ take n items
-front-front items count n h = take-take n count items (omega (arith, length-take count items))
+prefix-prefix items count n h = take-take n count items (omega (arith, length-take count items))
 
 module _ (t : List ℕ) (at : ℕ) (items : List ℕ) where
   -- the first n bytes on the tape, as a text

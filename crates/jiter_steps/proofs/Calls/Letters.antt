@@ -4,14 +4,14 @@ use Rattle.std.specs.Prelude.{Option, Some, None, nat_lt, ◌==◌}
 use Rattle.std.proofs.lemmas.Bool.{agree_below_at, eqb-true}
 use Rattle.std.proofs.lemmas.Bool.Decides.{nat_tests}
 use Rattle.jiter_steps.specs.Escape.{short_escape}
-use Rattle.jiter_steps.specs.declared.escape.TheConstants.{SIGNS}
+use Rattle.jiter_steps.specs.declared.escape.TheConstants.{SIMPLE_ESCAPES}
 
 abbrev is_sign : Option ℕ → ℕ → Bool
 is_sign (Some c) n = (n == c) && nat_lt n 128
 is_sign None n = n == 0
 
-sign-right : (b : ℕ) → b < 256 → is_sign (short_escape b) (get_or SIGNS b 0) ≡ true
-sign-right b h = agree_below_at (λ k. is_sign (short_escape k) (get_or SIGNS k 0)) (λ _. true) 256 b refl h
+sign-right : (b : ℕ) → b < 256 → is_sign (short_escape b) (get_or SIMPLE_ESCAPES b 0) ≡ true
+sign-right b h = agree_below_at (λ k. is_sign (short_escape k) (get_or SIMPLE_ESCAPES k 0)) (λ _. true) 256 b refl h
 
 sign-some : (o : Option ℕ) (n : ℕ) → is_sign o n ≡ true → n ≢ 0 → o ≡ Some n
 sign-some (Some c) n is some =
@@ -22,8 +22,8 @@ sign-ascii : (o : Option ℕ) (n : ℕ) → is_sign o n ≡ true → n < 128
 sign-ascii (Some c) n is = grind (arith, nat_tests, is)
 sign-ascii None n is = rw (eqb-true n 0 is) (omega arith)
 
-pub letter-sign : (b : ℕ) → b < 256 → get_or SIGNS b 0 ≢ 0 → short_escape b ≡ Some (get_or SIGNS b 0)
+pub letter-sign : (b : ℕ) → b < 256 → get_or SIMPLE_ESCAPES b 0 ≢ 0 → short_escape b ≡ Some (get_or SIMPLE_ESCAPES b 0)
 letter-sign b h = sign-some (short_escape b) _ (sign-right b h)
 
-pub letter-ascii : (b : ℕ) → b < 256 → get_or SIGNS b 0 < 128
+pub letter-ascii : (b : ℕ) → b < 256 → get_or SIMPLE_ESCAPES b 0 < 128
 letter-ascii b h = sign-ascii (short_escape b) _ (sign-right b h)

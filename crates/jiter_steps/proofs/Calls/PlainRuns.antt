@@ -8,9 +8,9 @@ use Rattle.std.proofs.lemmas.List.Edits.{between_none, between_more}
 use Rattle.jiter_scan.specs.Scan.{is_stop, is_plain, scan_stop}
 use Rattle.jiter_scan.proofs.Runs.{run_end-ahead, run_end-within, run_end-passes, run_end-stops}
 use Rattle.jiter_steps.specs.StringReading.{part, before, body_at}
-use Rattle.jiter_steps.proofs.Grammar.StringComplete.{IsPrinted, portion_by-byte}
+use Rattle.jiter_steps.proofs.Grammar.StringComplete.{IsPrinted, event_by-byte}
 use Rattle.jiter_steps.proofs.Grammar.Places.{got}
-use Rattle.jiter_steps.proofs.Reading.Bodies.{before-before, body_at-portion_by}
+use Rattle.jiter_steps.proofs.Reading.Bodies.{before-before, body_at-event_by}
 
 plain_more : (t : List ℕ) (from at : ℕ) → body_at t from ≡ before (slice_range t from at) false (body_at t at)
     → from ≤ at → at < length t → IsPrinted (slice_index t at)
@@ -18,7 +18,7 @@ plain_more : (t : List ℕ) (from at : ℕ) → body_at t from ≡ before (slice
 plain_more t from at h le lt printed =
     let b = slice_index t at in
     let step =
-    body_at-portion_by t at (part (b ∷ []) false (at + 1)) (portion_by-byte t at b (got t at lt) printed) in
+    body_at-event_by t at (part (b ∷ []) false (at + 1)) (event_by-byte t at b (got t at lt) printed) in
     h ∙ ap (before (slice_range t from at) false) step
     ∙ before-before (slice_range t from at) (b ∷ []) false false (body_at t (at + 1))
     ∙ ap (λ l. before l false (body_at t (at + 1))) (sym (between_more t from at 0 le lt))
@@ -50,23 +50,23 @@ module _ (t : List ℕ) where
     by (Some b) h = plain_run_stops i b (ap (slice_get t) (sym e) ∙ h)
 
   -- so many plain bytes
-  pub plain_run_front : (i k : ℕ) → i ≤ length t → i + k ≤ scan_stop t i
+  pub plain_run_prefix : (i k : ℕ) → i ≤ length t → i + k ≤ scan_stop t i
       → body_at t i ≡ before (slice_range t i (i + k)) false (body_at t (i + k))
-  plain_run_front i zero w h =
+  plain_run_prefix i zero w h =
       let none : slice_range t i i ≡ [] = between_none t i in
       let at : i ≡ i + 0 = omega arith in
       ap (λ l. before l false (body_at t i)) (sym none) ∙ ap (λ j. before (slice_range t i j) false (body_at t j)) at
-  plain_run_front i (suc k) w h =
+  plain_run_prefix i (suc k) w h =
       let plain = run_end-passes is_plain t i (i + k) (omega arith) (omega arith) in
       let at : i + k + 1 ≡ i + suc k = omega arith in
-      plain_more t i (i + k) (plain_run_front i k w (omega arith)) (omega arith)
+      plain_more t i (i + k) (plain_run_prefix i k w (omega arith)) (omega arith)
       (omega (arith, run_end-within is_plain t i w))
       (plain-printed _ plain)
       ∙ ap (λ j. before (slice_range t i j) false (body_at t j)) at
 
   pub plain_run : (i : ℕ) → i ≤ length t
       → body_at t i ≡ before (slice_range t i (scan_stop t i)) false (body_at t (scan_stop t i))
-  plain_run i h = plain_run_front i (prefix_len is_plain (drop i t)) h (omega arith)
+  plain_run i h = plain_run_prefix i (prefix_len is_plain (drop i t)) h (omega arith)
 
   pub plain_run_to : (i to : ℕ) → i ≤ length t → to ≡ scan_stop t i
       → body_at t i ≡ before (slice_range t i to) false (body_at t to)

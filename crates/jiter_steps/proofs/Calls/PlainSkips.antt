@@ -11,14 +11,14 @@ use Rattle.jiter_steps.specs.Blank.{is_blank, past_blanks}
 use Rattle.jiter_steps.specs.Frames.{Frame, resume, value_from}
 use Rattle.jiter_steps.specs.Literal.{start_of, literal_at}
 use Rattle.jiter_steps.specs.Read.{Reading, done, follow, inside_at, scalar_at, value_with}
-use Rattle.jiter_steps.specs.Skip.{value_inside, first_inside, next_inside, frame_of, shape_of, open_frames, Continues}
-use Rattle.jiter_steps.specs.Skip.{inside, IsPlainEnd, LeadsBehind}
+use Rattle.jiter_steps.specs.Skip.{value_inside, first_inside, next_inside, frame_of, kind_of_container, open_frames, Continues}
+use Rattle.jiter_steps.specs.Skip.{inside, IsPlainEnd, LeadsAfter}
 use Rattle.jiter_steps.specs.Step.{opening, more, closed, step, begins_part, closer_of, container_first, container_step}
 use Rattle.jiter_steps.specs.Step.{container_comma, colon, value_first, object_colon}
 use Rattle.jiter_steps.specs.StringReading.{raw, string_at}
 use Rattle.jiter_steps.specs.declared.parse.Literal.{Literal}
-use Rattle.jiter_steps.specs.declared.parse.Shape.{Shape}
-use Rattle.jiter_steps.specs.declared.parse.Shape.TheVariants as shape
+use Rattle.jiter_steps.specs.declared.parse.ContainerKind.{ContainerKind}
+use Rattle.jiter_steps.specs.declared.parse.ContainerKind.TheVariants as shape
 use Rattle.jiter_steps.specs.declared.parse.Start.TheVariants as start
 use Rattle.jiter_scan.proofs.Runs.{run_end-stopping, run_end-stops}
 use Rattle.jiter_steps.proofs.Calls.RawStrings.{raw-closed, raw-over_run}
@@ -49,22 +49,22 @@ module _ (names : Bool) (t : List ℕ) where
       → Continues names t fs (Ok m) k y → Continues names t fs (Ok m) k x
   leads-from fs m k x y same h = subst (λ z. Continues names t fs (Ok m) k z) (sym same) h
 
-  -- behind a part: the value of the next one, and the container's end
-  pub plain-next : (b : Shape) (fs : Frames) (i v : ℕ) → i ≤ length t → next_inside b t i ≡ done true v
+  -- after a part: the value of the next one, and the container's end
+  pub plain-next : (b : ContainerKind) (fs : Frames) (i v : ℕ) → i ≤ length t → next_inside b t i ≡ done true v
       → resume (only_ends names) t (frame_of b ∷ fs) (done tt i) ≡ value_from (only_ends names) t (frame_of b ∷ fs) v
   plain-next b fs i v within is = next_inside-is names t b fs i within ∙ ap (led_on names t b fs) is
 
-  pub plain-ends : (b : Shape) (fs : Frames) (i e : ℕ) → i ≤ length t → next_inside b t i ≡ done false e
+  pub plain-ends : (b : ContainerKind) (fs : Frames) (i e : ℕ) → i ≤ length t → next_inside b t i ≡ done false e
       → resume (only_ends names) t (frame_of b ∷ fs) (done tt i) ≡ resume (only_ends names) t fs (done tt e)
   plain-ends b fs i e within is = next_inside-is names t b fs i within ∙ ap (led_on names t b fs) is
 
   -- Inside the innermost of some open containers: what a run of parts leads to, and the container's end.
-  module _ (b : Shape) (objects : List Bool) (d : ℕ) (few : d ≤ 200) (some : 0 < d)
-      (is : b ≡ shape_of (slice_index_or objects (d - 1) false)) where
+  module _ (b : ContainerKind) (objects : List Bool) (d : ℕ) (few : d ≤ 200) (some : 0 < d)
+      (is : b ≡ kind_of_container (slice_index_or objects (d - 1) false)) where
     innermost : open_frames objects d ≡ frame_of b ∷ open_frames objects (d - 1)
     innermost = open_frames-innermost objects d b some is
 
-    pub run-leads : (i j : ℕ) (awaited m : Bool) → awaited ≡ m → LeadsBehind b t i awaited j
+    pub run-leads : (i j : ℕ) (awaited m : Bool) → awaited ≡ m → LeadsAfter b t i awaited j
         → Continues names t (open_frames objects d) (Ok m) j
         (resume (only_ends names) t (open_frames objects d) (done tt i))
     run-leads i j awaited m same leads =
@@ -82,15 +82,15 @@ module _ (names : Bool) (t : List ℕ) where
 
   -- the first value inside a container
   pub plain-opens : (b : Bool) (objects : List Bool) (d i v : ℕ) → d ≤ 200 → d < length objects → i < length t
-      → start_of (slice_index t i) ≡ opening (shape_of b) → first_inside (shape_of b) t i ≡ done true v
+      → start_of (slice_index t i) ≡ opening (kind_of_container b) → first_inside (kind_of_container b) t i ≡ done true v
       → value_from (only_ends names) t (open_frames objects d) i
       ≡ value_from (only_ends names) t (open_frames (slice_set objects d b) (d + 1)) v
   plain-opens b objects d i v few place lt opens is =
-      first_inside-is names t (shape_of b) objects d i _ few lt opens is
+      first_inside-is names t (kind_of_container b) objects d i _ few lt opens is
       ∙ ap (λ fs. value_from (only_ends names) t fs v) (sym (open_frames-opens objects d b place))
 
 -- The steps, by the bytes that stand there.
-module _ (t : List ℕ) (b : Shape) where
+module _ (t : List ℕ) (b : ContainerKind) where
   first-part : (j c : ℕ) → slice_get t j ≡ Some c → begins_part b c ≡ true
       → container_first b j (slice_get t j) ≡ more j
   first-part j c here part = rw (here, part) refl
@@ -99,7 +99,7 @@ module _ (t : List ℕ) (b : Shape) where
       → container_comma b j (slice_get t j) ≡ more j
   comma-part j c here part = rw (here, part) refl
 
-  comma-step : (b : Shape) (i : ℕ) → container_step b t i (Some 44) ≡ step t (container_comma b) (i + 1)
+  comma-step : (b : ContainerKind) (i : ℕ) → container_step b t i (Some 44) ≡ step t (container_comma b) (i + 1)
   comma-step shape.Array i = refl
   comma-step shape.Object i = refl
 
@@ -113,11 +113,11 @@ module _ (t : List ℕ) (b : Shape) where
       ∙ ap (λ k. inside b t (container_comma b k (slice_get t k))) (sym at)
       ∙ ap (inside b t) (comma-part j _ (got t j within) part) ∙ is
 
-  closer-above : (b : Shape) → 32 < closer_of b
+  closer-above : (b : ContainerKind) → 32 < closer_of b
   closer-above shape.Array = omega arith
   closer-above shape.Object = omega arith
 
-  first-closes : (b : Shape) (j : ℕ) → container_first b j (Some (closer_of b)) ≡ closed (j + 1)
+  first-closes : (b : ContainerKind) (j : ℕ) → container_first b j (Some (closer_of b)) ≡ closed (j + 1)
   first-closes shape.Array j = refl
   first-closes shape.Object j = refl
 
@@ -128,7 +128,7 @@ module _ (t : List ℕ) (b : Shape) where
       ap (λ k. container_first b k (slice_get t k)) here
       ∙ ap (container_first b j) (got t j lt ∙ ap Some closer) ∙ first-closes b j
 
--- a colon, and a value right behind it
+-- a colon, and a value right after it
 pub colon-stands : (t : List ℕ) (i : ℕ) → i + 1 < length t → slice_index t i ≡ 58 → 32 < slice_index t (i + 1)
     → object_colon t i ≡ taken tt (i + 1)
 colon-stands t i lt sign above =
@@ -138,7 +138,7 @@ colon-stands t i lt sign above =
     ∙ ap (λ o. extent_then (colon i o) (step t value_first)) (got t i (omega arith) ∙ ap Some sign)
     ∙ ap (λ k. value_first k (slice_get t k)) next ∙ ap (value_first (i + 1)) (got t (i + 1) lt)
 
--- a colon, a space, and a value right behind it
+-- a colon, a space, and a value right after it
 pub colon-spaced : (t : List ℕ) (i : ℕ) → i + 2 < length t → slice_index t i ≡ 58 → slice_index t (i + 1) ≡ 32
     → 32 < slice_index t (i + 2) → object_colon t i ≡ taken tt (i + 2)
 colon-spaced t i lt sign space above =
@@ -187,7 +187,7 @@ module _ (t : List ℕ) (i : ℕ) where
   literal-ends l e begins is = λ names levels.
       ap (value_with (only_ends names) (λ j. inside_at (only_ends names) t levels j) t i) begins ∙ ap (scalar_at i) is
 
-  pub empty-ends : (b : Shape) → start_of (slice_index t i) ≡ opening b → i + 1 < length t
+  pub empty-ends : (b : ContainerKind) → start_of (slice_index t i) ≡ opening b → i + 1 < length t
       → slice_index t (i + 1) ≡ closer_of b → IsPlainEnd t i (i + 2)
   empty-ends shape.Array begins lt closer = λ names levels.
       let closes = plain-closes t shape.Array (i + 1) lt closer in

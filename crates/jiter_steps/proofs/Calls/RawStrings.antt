@@ -7,14 +7,14 @@ use Rattle.std.proofs.lemmas.Option.{none-some}
 use Rattle.jiter_scan.specs.Scan.{is_stop, scan_stop}
 use Rattle.jiter_scan.specs.Kind.{eof_string}
 use Rattle.jiter_scan.specs.Scanned.{taken, failed}
-use Rattle.jiter_steps.specs.StringReading.{Portion, part, over, Stop, closed, unclosed, cut, portion_by, portion_at}
+use Rattle.jiter_steps.specs.StringReading.{Event, part, over, Stop, closed, unclosed, cut, event_by, event_at}
 use Rattle.jiter_steps.specs.StringReading.{Body}
 use Rattle.jiter_steps.specs.StringReading.{body_at, Form, raw, raw_kept, raw_form, between, text_in_form, content_at}
 use Rattle.jiter_steps.specs.RawString.{EndsAt}
-use Rattle.jiter_steps.proofs.Reading.Bodies.{body_at-portion_by, part-ahead}
-use Rattle.jiter_steps.proofs.Grammar.Places.{Explains, portion_at-explains, got}
+use Rattle.jiter_steps.proofs.Reading.Bodies.{body_at-event_by, part-ahead}
+use Rattle.jiter_steps.proofs.Grammar.Places.{Explains, event_at-explains, got}
 use Rattle.jiter_steps.proofs.Calls.PlainRuns.{plain_run-within, plain_run_stops, plain_run_to}
-use Rattle.jiter_steps.proofs.Grammar.StringComplete.{portion_by-quote}
+use Rattle.jiter_steps.proofs.Grammar.StringComplete.{event_by-quote}
 
 same-over : (s x : Stop) → over s ≡ over x → s ≡ x
 same-over s x h = cc
@@ -27,7 +27,7 @@ plain-no_stop : (b : ℕ) → 32 ≤ b → b ≢ 34 → b ≢ 92 → is_stop b �
 plain-no_stop b p q s h = grind (arith, nat_tests, h)
 
 module _ (t : List ℕ) where
-  -- behind a run of plain bytes the content goes on as it does from there, and a stop stands there or nothing
+  -- after a run of plain bytes the content goes on as it does from there, and a stop stands there or nothing
   pub raw-run : (i to : ℕ) → i ≤ length t → to ≡ scan_stop t i
       → ((body_at t i).stop ≡ (body_at t to).stop) × (i ≤ to) × (to ≤ length t)
       × IfSome (slice_get t to) (λ b. is_stop b ≡ true)
@@ -40,19 +40,19 @@ module _ (t : List ℕ) where
             (λ b q. plain_run_stops t i b (subst (λ j. slice_get t j ≡ Some b) e q)),
       )
 
-  -- an escape ends behind its begin
-  pub raw-escape_ahead : (i j : ℕ) (bs : List ℕ) → part bs true j ≡ portion_at t i → (i < j) × (j ≤ length t)
-  raw-escape_ahead i j bs p = part-ahead t i j bs true (subst (Explains t i) (sym p) (portion_at-explains t i))
+  -- an escape ends after its begin
+  pub raw-escape_ahead : (i j : ℕ) (bs : List ℕ) → part bs true j ≡ event_at t i → (i < j) × (j ≤ length t)
+  raw-escape_ahead i j bs p = part-ahead t i j bs true (subst (Explains t i) (sym p) (event_at-explains t i))
 
-  -- and behind an escape and the run that follows it
-  pub raw-escape : (i to j : ℕ) (bs : List ℕ) → part bs true j ≡ portion_at t i → to ≡ scan_stop t j
+  -- and after an escape and the run that follows it
+  pub raw-escape : (i to j : ℕ) (bs : List ℕ) → part bs true j ≡ event_at t i → to ≡ scan_stop t j
       → ((body_at t i).stop ≡ (body_at t to).stop) × (i < to) × (to ≤ length t)
       × IfSome (slice_get t to) (λ b. is_stop b ≡ true)
   raw-escape i to j bs p e =
-      let here : portion_at t i ≡ part bs true j = sym p in
+      let here : event_at t i ≡ part bs true j = sym p in
       let ahead = raw-escape_ahead i j bs p in
       let run = raw-run j to ahead.1 e in (
-        ap (λ (b : Body). b.stop) (body_at-portion_by t i (part bs true j) here) ∙ run.0,
+        ap (λ (b : Body). b.stop) (body_at-event_by t i (part bs true j) here) ∙ run.0,
         omega (arith, ahead.0, run.1),
         run.2,
         run.3,
@@ -62,17 +62,17 @@ module _ (t : List ℕ) where
   raw-over_again i j k h o = o ∙ ap over (sym h)
 
   -- what stands where it is over
-  pub raw-over_here : (i j : ℕ) (s : Stop) → (body_at t i).stop ≡ (body_at t j).stop → over s ≡ portion_at t j
+  pub raw-over_here : (i j : ℕ) (s : Stop) → (body_at t i).stop ≡ (body_at t j).stop → over s ≡ event_at t j
       → EndsAt t i j
   raw-over_here i j s h p =
-      let stop : (body_at t j).stop ≡ s = ap (λ (b : Body). b.stop) (body_at-portion_by t j (over s) (sym p)) in
+      let stop : (body_at t j).stop ≡ s = ap (λ (b : Body). b.stop) (body_at-event_by t j (over s) (sym p)) in
       sym p ∙ ap over (sym (h ∙ stop))
 
   -- where a stop other than a backslash stands, or nothing, a content is over
   pub over-unless : (j : ℕ) → IfSome (slice_get t j) (λ b. is_stop b ≡ true) → slice_get t j ≢ Some 92
-      → (s : Stop) × (portion_at t j ≡ over s)
-  over-unless j h ne = by (portion_at t j) (portion_at-explains t j) refl where
-    by : (p : Portion) → Explains t j p → portion_at t j ≡ p → (s : Stop) × (portion_at t j ≡ over s)
+      → (s : Stop) × (event_at t j ≡ over s)
+  over-unless j h ne = by (event_at t j) (event_at-explains t j) refl where
+    by : (p : Event) → Explains t j p → event_at t j ≡ p → (s : Stop) × (event_at t j ≡ over s)
     by (part bs true k) x e = absurd (ne x.backslash)
     by (part bs false k) x e =
         let stops = subst (λ o. IfSome o (λ b. is_stop b ≡ true)) x.here h in
@@ -85,15 +85,15 @@ module _ (t : List ℕ) where
       let o = over-unless to run.3 ne in
       raw-over_here i to o.0 run.0 (sym o.1)
 
-  -- where it goes on behind some plain bytes, it is over at the same place
-  pub raw-over_behind : (i from j : ℕ) → i ≤ length t → from ≤ length t → scan_stop t i ≡ scan_stop t from
+  -- where it goes on after some plain bytes, it is over at the same place
+  pub raw-over_after : (i from j : ℕ) → i ≤ length t → from ≤ length t → scan_stop t i ≡ scan_stop t from
       → EndsAt t from j → EndsAt t i j
-  raw-over_behind i from j h w same o =
+  raw-over_after i from j h w same o =
       let stop = scan_stop t from in
       raw-over_again i from j ((raw-run i stop h (sym same)).0 ∙ sym (raw-run from stop w refl).0) o
 
   -- what a form makes of a content that is over at j, by what stands there
-  pub raw-by : (form : Form) (i j : ℕ) (s : Stop) → EndsAt t i j → over s ≡ portion_at t j
+  pub raw-by : (form : Form) (i j : ℕ) (s : Stop) → EndsAt t i j → over s ≡ event_at t j
       → content_at form t i ≡ text_in_form form t i (body_at t i).bytes (body_at t i).owned s
   unfolding content_at
   raw-by form i j s o p =
@@ -102,7 +102,7 @@ module _ (t : List ℕ) where
   pub raw-closed : (keep : Bool) (i j : ℕ) → EndsAt t i j → slice_get t j ≡ Some 34
       → content_at (raw_form keep) t i ≡ taken (between t i j) (j + 1)
   raw-closed keep i j o q =
-      raw-by (raw_form keep) i j (closed (j + 1)) o (sym (portion_by-quote t j q)) ∙ by keep where
+      raw-by (raw_form keep) i j (closed (j + 1)) o (sym (event_by-quote t j q)) ∙ by keep where
         by : (keep : Bool) → text_in_form (raw_form keep) t i (body_at t i).bytes (body_at t i).owned (closed (j + 1))
             ≡ taken (between t i j) (j + 1)
         by true = let last : j + 1 - 1 ≡ j = omega arith in rw last
@@ -110,28 +110,28 @@ module _ (t : List ℕ) where
 
   pub raw-unclosed : (i j : ℕ) → EndsAt t i j → slice_get t j ≡ None
       → content_at raw_kept t i ≡ taken (between t i (length t)) (length t)
-  unfolding portion_at
-  raw-unclosed i j o q = raw-by raw_kept i j unclosed o (sym (ap (portion_by t j) q))
+  unfolding event_at
+  raw-unclosed i j o q = raw-by raw_kept i j unclosed o (sym (ap (event_by t j) q))
 
   -- a byte stands there where it is not the end of input
-  not-unclosed : (j : ℕ) → over unclosed ≡ portion_at t j → j < length t → ⊥
+  not-unclosed : (j : ℕ) → over unclosed ≡ event_at t j → j < length t → ⊥
   not-unclosed j p h =
-      let none : slice_get t j ≡ None = subst (Explains t j) (sym p) (portion_at-explains t j) in
+      let none : slice_get t j ≡ None = subst (Explains t j) (sym p) (event_at-explains t j) in
       none-some _ (sym none ∙ got t j h)
 
   -- without its quote it is refused, unless it is kept and the input ends there
-  pub raw-no_quote : (keep : Bool) (i j : ℕ) → EndsAt t i j → over unclosed ≡ portion_at t j
+  pub raw-no_quote : (keep : Bool) (i j : ℕ) → EndsAt t i j → over unclosed ≡ event_at t j
       → (IsTrue keep → j < length t)
       → content_at (raw_form keep) t i ≡ failed eof_string (length t)
   raw-no_quote true i j o p h = absurd (not-unclosed j p (h refl))
   raw-no_quote false i j o p h = raw-by raw i j unclosed o p
 
   -- and cut within an escape it is refused
-  pub raw-cut : (keep : Bool) (i j : ℕ) → EndsAt t i j → over cut ≡ portion_at t j
+  pub raw-cut : (keep : Bool) (i j : ℕ) → EndsAt t i j → over cut ≡ event_at t j
       → content_at (raw_form keep) t i ≡ failed eof_string (length t)
   raw-cut true i j o p = raw-by raw_kept i j cut o p
   raw-cut false i j o p = raw-by raw i j cut o p
 
-  pub raw-quote : (j e : ℕ) → over (closed e) ≡ portion_at t j → slice_get t j ≡ Some 34
+  pub raw-quote : (j e : ℕ) → over (closed e) ≡ event_at t j → slice_get t j ≡ Some 34
   raw-quote j e p =
-      let x : Explains t j (over (closed e)) = subst (Explains t j) (sym p) (portion_at-explains t j) in x.0
+      let x : Explains t j (over (closed e)) = subst (Explains t j) (sym p) (event_at-explains t j) in x.0

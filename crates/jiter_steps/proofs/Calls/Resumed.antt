@@ -6,15 +6,15 @@ use Rattle.jiter_scan.specs.Scanned.{taken, failed}
 use Rattle.jiter_scan.proofs.Choices.{if_case}
 use Rattle.jiter_steps.specs.Literal.{start_of}
 use Rattle.jiter_steps.specs.Step.{Step, more, closed, stuck, step, opening, container_first, object_colon}
-use Rattle.jiter_steps.specs.Read.{Reading, done, fault, Rules, Container, if_forgiven, follow, behind_part}
+use Rattle.jiter_steps.specs.Read.{Reading, done, fault, Rules, Container, if_forgiven, follow, after_part}
 use Rattle.jiter_steps.specs.Read.{container_at, value_with, inside_at, value_at}
-use Rattle.jiter_steps.specs.declared.parse.Shape.{Shape}
-use Rattle.jiter_steps.specs.declared.parse.Shape.TheVariants as shape
+use Rattle.jiter_steps.specs.declared.parse.ContainerKind.{ContainerKind}
+use Rattle.jiter_steps.specs.declared.parse.ContainerKind.TheVariants as shape
 use Rattle.jiter_steps.proofs.Reading.Values.{Advances, Goes, inside_at-within, inside_at-suc, inside_at-starts}
 use Rattle.jiter_steps.proofs.Reading.Values.{inside_at-none, array_of-goes, object_of-goes, parts_at_is, parts-fault}
 use Rattle.jiter_steps.proofs.Reading.Values.{member-key, member-colon, member-value}
 use Rattle.jiter_steps.specs.Frames.{Frame, items_frame, members_frame, resolve_step, parts_from, parts_step}
-use Rattle.jiter_steps.specs.Frames.{value_in, array_in, object_in, behind_value, resume, value_from, key_from}
+use Rattle.jiter_steps.specs.Frames.{value_in, array_in, object_in, after_value, resume, value_from, key_from}
 
 -- Where a container begins is not built into its value.
 pub record IgnoresBegin {K A : Type 0} (r : Rules K A) : Type 0 where
@@ -26,12 +26,12 @@ module _ {K A : Type 0} (r : Rules K A) (t : List ℕ) where
   Frames = List (Frame K A)
 
   -- what the parts of a container are
-  abbrev pub Part : Shape → Type 0
+  abbrev pub Part : ContainerKind → Type 0
   Part shape.Array = A
   Part shape.Object = K × A
 
   -- an array or an object that stands in so many open containers
-  abbrev pub container_in : (b : Shape) → ℕ → Container (Part b) A
+  abbrev pub container_in : (b : ContainerKind) → ℕ → Container (Part b) A
   container_in shape.Array depth = array_in r t depth
   container_in shape.Object depth = object_in r t depth
 
@@ -71,23 +71,23 @@ module _ {K A : Type 0} (r : Rules K A) (t : List ℕ) where
       (λ h. if_forgiven-yes close k j j h) (λ h. refl)
 
   -- a fault of the value that an open container awaits
-  behind-fault : (depth : ℕ) (f : Frame K A) (k : Kind) (i stop : ℕ)
-      → behind_value r t depth f (fault k i stop) ≡ if_forgiven r (build_of f) k i stop
-  behind-fault depth (items_frame items) k i stop = refl
-  behind-fault depth (members_frame members m) k i stop = refl
+  after-fault : (depth : ℕ) (f : Frame K A) (k : Kind) (i stop : ℕ)
+      → after_value r t depth f (fault k i stop) ≡ if_forgiven r (build_of f) k i stop
+  after-fault depth (items_frame items) k i stop = refl
+  after-fault depth (members_frame members m) k i stop = refl
 
   -- A fault that is not forgiven passes all containers; one that is closes the innermost.
   pub resume-fault : (fs : Frames) (k : Kind) (i stop : ℕ) → r.forgives k ≡ false
       → resume r t fs (fault k i stop) ≡ fault k i stop
   resume-fault [] k i stop h = refl
   resume-fault (f ∷ fs) k i stop h =
-      ap (resume r t fs) (behind-fault (length fs) f k i stop ∙ if_forgiven-no (build_of f) k i stop h)
+      ap (resume r t fs) (after-fault (length fs) f k i stop ∙ if_forgiven-no (build_of f) k i stop h)
       ∙ resume-fault fs k i stop h
 
   pub resume-forgiven : (f : Frame K A) (fs : Frames) (k : Kind) (i stop : ℕ) → r.forgives k ≡ true
       → resume r t (f ∷ fs) (fault k i stop) ≡ resume r t fs (done (build_of f stop) stop)
   resume-forgiven f fs k i stop h =
-      ap (resume r t fs) (behind-fault (length fs) f k i stop ∙ if_forgiven-yes (build_of f) k i stop h)
+      ap (resume r t fs) (after-fault (length fs) f k i stop ∙ if_forgiven-yes (build_of f) k i stop h)
 
   -- A step inside these containers, by where it leads.
   module _ {P : Type 0} (c : Container P A) (fs : Frames) (parts : List P) where
@@ -104,7 +104,7 @@ module _ {K A : Type 0} (r : Rules K A) (t : List ℕ) where
         ∙ resume-fault fs k j j bad
 
   module _ (good : Advances r t) where
-    pub container_in-goes : (b : Shape) (depth : ℕ) → Goes (container_in b depth) t
+    pub container_in-goes : (b : ContainerKind) (depth : ℕ) → Goes (container_in b depth) t
     container_in-goes shape.Array depth =
         array_of-goes r t good (value_in r t (suc depth)) (inside_at-within r t good (201 - suc depth)) 0
     container_in-goes shape.Object depth =
@@ -124,7 +124,7 @@ module _ {K A : Type 0} (r : Rules K A) (t : List ℕ) where
     key-value fs members j e m k h free v w =
         let c = object_in r t (length fs) in
         ap (resume r t fs) (parts_at_is r t c (container_in-goes shape.Object (length fs)) members j h free
-        ∙ ap (behind_part r c t (parts_from r t c) members)
+        ∙ ap (after_part r c t (parts_from r t c) members)
         (member-value r t (value_in r t (suc (length fs))) j e m k _ v w refl))
 
     -- a fault of the key or of the colon
@@ -152,12 +152,12 @@ module _ {K A : Type 0} (r : Rules K A) (t : List ℕ) where
     -- A container begins.
     module _ (any : IgnoresBegin r) (fs : Frames) (i : ℕ) (u : Step) (few : length fs ≤ 200) where
       -- what is read at its bracket
-      begun : (b : Shape) → value_with r (value_in r t (suc (length fs))) t i (opening b)
+      begun : (b : ContainerKind) → value_with r (value_in r t (suc (length fs))) t i (opening b)
           ≡ parts_step r t (container_in b (length fs)) [] (step t (container_first b) (i + 1))
       begun shape.Array = ap (λ build. container_at r (rebuilt (array_in r t (length fs)) build) t i) (any.array i)
       begun shape.Object = ap (λ build. container_at r (rebuilt (object_in r t (length fs)) build) t i) (any.object i)
 
-      pub container-begins : (b : Shape) → start_of (slice_index t i) ≡ opening b
+      pub container-begins : (b : ContainerKind) → start_of (slice_index t i) ≡ opening b
           → resolve_step r.forgives (step t (container_first b) (i + 1)) ≡ u
           → value_from r t fs i ≡ resume r t fs (parts_step r t (container_in b (length fs)) [] u)
       container-begins b is h =

@@ -11,13 +11,13 @@ use Rattle.jiter_steps.specs.Answer.{seen_as, only_ends, nothing_forgiven}
 use Rattle.jiter_steps.specs.Literal.{start_of}
 use Rattle.jiter_steps.specs.Step.{Step, more, closed, stuck, step, opening, container_first, container_step}
 use Rattle.jiter_steps.specs.Step.{object_colon}
-use Rattle.jiter_steps.specs.declared.parse.Shape.{Shape}
+use Rattle.jiter_steps.specs.declared.parse.ContainerKind.{ContainerKind}
 use Rattle.jiter_steps.specs.StringReading.{raw, string_at}
-use Rattle.jiter_steps.specs.declared.parse.Shape.TheVariants as shape
-use Rattle.jiter_steps.specs.Read.{Reading, done, fault, Container, with_key, behind_colon, behind_key, follow}
-use Rattle.jiter_steps.specs.Read.{behind_part, parts_at, value_at}
+use Rattle.jiter_steps.specs.declared.parse.ContainerKind.TheVariants as shape
+use Rattle.jiter_steps.specs.Read.{Reading, done, fault, Container, with_key, after_colon, after_key, follow}
+use Rattle.jiter_steps.specs.Read.{after_part, parts_at, value_at}
 use Rattle.jiter_steps.specs.Frames.{Frame, resolve_step, parts_from, parts_step, value_in, resume, value_from}
-use Rattle.jiter_steps.specs.Skip.{awaits_value, value_inside, inside, first_inside, next_inside, frame_of, shape_of}
+use Rattle.jiter_steps.specs.Skip.{awaits_value, value_inside, inside, first_inside, next_inside, frame_of, kind_of_container}
 use Rattle.jiter_steps.specs.Skip.{open_frames, Continues}
 use Rattle.jiter_steps.proofs.Reading.Bounds.{Ahead, container_first-ahead, container_step-ahead}
 use Rattle.jiter_steps.proofs.Reading.Instances.{only_ends-advances}
@@ -50,15 +50,15 @@ open_frames-set : (objects : List Bool) (d n : ℕ) (o : Bool) → n ≤ d
 open_frames-set objects d zero o h = refl
 open_frames-set objects d (suc n) o h =
     let other : n ≢ d = omega arith in
-    ap₂ (λ x fs. frame_of (shape_of x) ∷ fs) (get_or-set_other objects d n o false other)
+    ap₂ (λ x fs. frame_of (kind_of_container x) ∷ fs) (get_or-set_other objects d n o false other)
     (open_frames-set objects d n o (omega arith))
 
 pub open_frames-opens : (objects : List Bool) (d : ℕ) (o : Bool) → d < length objects
-    → open_frames (slice_set objects d o) (d + 1) ≡ frame_of (shape_of o) ∷ open_frames objects d
+    → open_frames (slice_set objects d o) (d + 1) ≡ frame_of (kind_of_container o) ∷ open_frames objects d
 open_frames-opens objects d o h =
     let e : d + 1 ≡ suc d = omega arith in
     ap (open_frames (slice_set objects d o)) e
-    ∙ ap₂ (λ x fs. frame_of (shape_of x) ∷ fs) (get_or-set_same objects d o false h)
+    ∙ ap₂ (λ x fs. frame_of (kind_of_container x) ∷ fs) (get_or-set_same objects d o false h)
     (open_frames-set objects d d o (omega arith))
 
 -- nothing is forgiven
@@ -74,29 +74,29 @@ module _ (names : Bool) (t : List ℕ) where
   any : IgnoresBegin (only_ends names)
   any = record { array = λ b. refl; object = λ b. refl }
 
-  -- what the open containers make of a reading, and of one behind some parts of a container inside them
+  -- what the open containers make of a reading, and of one after some parts of a container inside them
   abbrev resumed : Frames → Reading (Unit {0}) → Reading (Unit {0})
   resumed fs x = resume (only_ends names) t fs x
 
-  abbrev behind : {P : Type 0} → Container P (Unit {0}) → Frames → List P → Reading P → Reading (Unit {0})
-  behind c fs ps x = resumed fs (behind_part (only_ends names) c t (parts_from (only_ends names) t c) ps x)
+  abbrev after : {P : Type 0} → Container P (Unit {0}) → Frames → List P → Reading P → Reading (Unit {0})
+  after c fs ps x = resumed fs (after_part (only_ends names) c t (parts_from (only_ends names) t c) ps x)
 
   -- the one inside them
-  abbrev innermost : (b : Shape) → Frames → Container (Part (only_ends names) t b) (Unit {0})
+  abbrev innermost : (b : ContainerKind) → Frames → Container (Part (only_ends names) t b) (Unit {0})
   innermost b fs = container_in (only_ends names) t b (length fs)
 
   -- Which parts a container has makes no difference.
   module _ {P : Type 0} (c : Container P (Unit {0}))
       (same : (e : ℕ) (ps qs : List P) → c.build e ps ≡ c.build e qs)
       (free : (ps : List P) (i : ℕ) → c.refuses ps i ≡ None) where
-    behind_part-any : (go : List P → ℕ → Reading (Unit {0}))
+    after_part-any : (go : List P → ℕ → Reading (Unit {0}))
         → ((ps qs : List P) (j : ℕ) → go ps j ≡ go qs j) → (ps qs : List P) (x : Reading P)
-        → behind_part (only_ends names) c t go ps x ≡ behind_part (only_ends names) c t go qs x
-    behind_part-any go all ps qs (done p e) =
+        → after_part (only_ends names) c t go ps x ≡ after_part (only_ends names) c t go qs x
+    after_part-any go all ps qs (done p e) =
         let us = ps ++ p ∷ [] in
         let vs = qs ++ p ∷ [] in
         λ k. follow (only_ends names) (λ j. all us vs j k) (λ e. same e us vs k) (step t c.next e)
-    behind_part-any go all ps qs (fault k i stop) = refl
+    after_part-any go all ps qs (fault k i stop) = refl
 
     parts_at-any : (n : ℕ) (ps qs : List P) (i : ℕ)
         → parts_at (only_ends names) c t n ps i ≡ parts_at (only_ends names) c t n qs i
@@ -104,17 +104,17 @@ module _ (names : Bool) (t : List ℕ) where
     parts_at-any zero ps qs i = refl
     parts_at-any (suc n) ps qs i =
         let go = parts_at (only_ends names) c t n in
-        ap (behind_part (only_ends names) c t go ps) (part-free c ps i (free ps i))
-        ∙ behind_part-any go (λ us vs j. parts_at-any n us vs j) ps qs (c.part i)
-        ∙ sym (ap (behind_part (only_ends names) c t go qs) (part-free c qs i (free qs i)))
+        ap (after_part (only_ends names) c t go ps) (part-free c ps i (free ps i))
+        ∙ after_part-any go (λ us vs j. parts_at-any n us vs j) ps qs (c.part i)
+        ∙ sym (ap (after_part (only_ends names) c t go qs) (part-free c qs i (free qs i)))
 
-    behind-any : (fs : Frames) (ps qs : List P) (x : Reading P) → behind c fs ps x ≡ behind c fs qs x
-    behind-any fs ps qs x =
+    after-any : (fs : Frames) (ps qs : List P) (x : Reading P) → after c fs ps x ≡ after c fs qs x
+    after-any fs ps qs x =
         ap (resumed fs)
-        (behind_part-any (parts_from (only_ends names) t c) (λ us vs j. parts_at-any (length t) us vs j) ps qs x)
+        (after_part-any (parts_from (only_ends names) t c) (λ us vs j. parts_at-any (length t) us vs j) ps qs x)
 
   -- What a step inside the innermost container leads to: a value awaited, or the container's end.
-  abbrev pub led_on : Shape → Frames → Reading Bool → Reading (Unit {0})
+  abbrev pub led_on : ContainerKind → Frames → Reading Bool → Reading (Unit {0})
   led_on b fs (done true m) = value_from (only_ends names) t (frame_of b ∷ fs) m
   led_on b fs (done false e) = resumed fs (done tt e)
   led_on b fs (fault k i stop) = fault k i stop
@@ -127,37 +127,37 @@ module _ (names : Bool) (t : List ℕ) where
     abbrev inner : ℕ → Reading (Unit {0})
     inner j = value_in (only_ends names) t (suc (length fs)) j
 
-    abbrev behind_member : Reading (Unit {0} × Unit {0}) → Reading (Unit {0})
-    behind_member x = behind (innermost shape.Object fs) fs members x
+    abbrev after_member : Reading (Unit {0} × Unit {0}) → Reading (Unit {0})
+    after_member x = after (innermost shape.Object fs) fs members x
 
     colon-step : (u : Unit {0}) (x : Extent)
-        → behind_member (behind_colon u inner x)
-        ≡ led_on shape.Object fs (awaits_value (behind_colon u (λ j. done tt j) x))
+        → after_member (after_colon u inner x)
+        ≡ led_on shape.Object fs (awaits_value (after_colon u (λ j. done tt j) x))
     colon-step u (taken v j) =
-        behind-any (innermost shape.Object fs) (λ e ps qs. refl) (λ ps j. refl) fs members []
+        after-any (innermost shape.Object fs) (λ e ps qs. refl) (λ ps j. refl) fs members []
         (with_key tt (inner j))
     colon-step u (failed k j) = fault-passes fs k j j
 
     key-step : (i : ℕ) (x : Scanned (Unit {0}))
-        → behind_member (behind_key inner t i x)
-        ≡ led_on shape.Object fs (awaits_value (behind_key (λ j. done tt j) t i x))
+        → after_member (after_key inner t i x)
+        ≡ led_on shape.Object fs (awaits_value (after_key (λ j. done tt j) t i x))
     key-step i (taken u e) = colon-step u (object_colon t e)
     key-step i (failed k j) = fault-passes fs k j i
 
   -- a part of the innermost container, and a step to one
-  part-led : (b : Shape) (fs : Frames) (parts : List (Part (only_ends names) t b)) (j : ℕ)
-      → behind (innermost b fs) fs parts ((innermost b fs).part j) ≡ led_on b fs (value_inside b t j)
+  part-led : (b : ContainerKind) (fs : Frames) (parts : List (Part (only_ends names) t b)) (j : ℕ)
+      → after (innermost b fs) fs parts ((innermost b fs).part j) ≡ led_on b fs (value_inside b t j)
   part-led shape.Array fs items j =
-      behind-any (innermost shape.Array fs) (λ e ps qs. refl) (λ ps j. refl) fs items []
+      after-any (innermost shape.Array fs) (λ e ps qs. refl) (λ ps j. refl) fs items []
       (value_in (only_ends names) t (suc (length fs)) j)
   part-led shape.Object fs members j = key-step fs members j (seen_as (λ s e. tt) (string_at raw t j))
 
-  innermost-free : (b : Shape) (fs : Frames) (parts : List (Part (only_ends names) t b)) (i : ℕ)
+  innermost-free : (b : ContainerKind) (fs : Frames) (parts : List (Part (only_ends names) t b)) (i : ℕ)
       → (innermost b fs).refuses parts i ≡ None
   innermost-free shape.Array fs parts i = refl
   innermost-free shape.Object fs parts i = refl
 
-  parts-led : (b : Shape) (fs : Frames) (parts : List (Part (only_ends names) t b)) (i : ℕ) (s : Step) → Ahead t i s
+  parts-led : (b : ContainerKind) (fs : Frames) (parts : List (Part (only_ends names) t b)) (i : ℕ) (s : Step) → Ahead t i s
       → resumed fs (parts_step (only_ends names) t (innermost b fs) parts s) ≡ led_on b fs (inside b t s)
   parts-led b fs parts i (more j) h =
       ap (resumed fs)
@@ -167,8 +167,8 @@ module _ (names : Bool) (t : List ℕ) where
   parts-led b fs parts i (closed e) h = refl
   parts-led b fs parts i (stuck k j) h = fault-passes fs k j j
 
-  -- Behind a value inside a container: the next one, or the container's end.
-  pub next_inside-is : (b : Shape) (fs : Frames) (e : ℕ) → e ≤ length t
+  -- After a value inside a container: the next one, or the container's end.
+  pub next_inside-is : (b : ContainerKind) (fs : Frames) (e : ℕ) → e ≤ length t
       → resumed (frame_of b ∷ fs) (done tt e) ≡ led_on b fs (next_inside b t e)
   next_inside-is shape.Array fs e h =
       parts-led shape.Array fs (tt ∷ []) e (step t (container_step shape.Array t) e)
@@ -178,7 +178,7 @@ module _ (names : Bool) (t : List ℕ) where
       (container_step-ahead t shape.Object e h)
 
   -- At a container's bracket: the first value inside, or the container's end.
-  pub first_inside-is : (b : Shape) (objects : List Bool) (d i : ℕ) (x : Reading Bool) → d ≤ 200 → i < length t
+  pub first_inside-is : (b : ContainerKind) (objects : List Bool) (d i : ℕ) (x : Reading Bool) → d ≤ 200 → i < length t
       → start_of (slice_index t i) ≡ opening b → first_inside b t i ≡ x
       → value_from (only_ends names) t (open_frames objects d) i ≡ led_on b (open_frames objects d) x
   first_inside-is b objects d i x few h opens is =
@@ -210,15 +210,15 @@ module _ (names : Bool) (t : List ℕ) where
   continues-along fs (Ok true) i x y q h = (q ∙ h.0, h.1)
   continues-along fs result i x y q h = q ∙ h
 
--- the innermost one of some, and what it leads to behind a value
-pub open_frames-innermost : (objects : List Bool) (d : ℕ) (b : Shape) → 0 < d
-    → b ≡ shape_of (slice_index_or objects (d - 1) false)
+-- the innermost one of some, and what it leads to after a value
+pub open_frames-innermost : (objects : List Bool) (d : ℕ) (b : ContainerKind) → 0 < d
+    → b ≡ kind_of_container (slice_index_or objects (d - 1) false)
     → open_frames objects d ≡ frame_of b ∷ open_frames objects (d - 1)
 open_frames-innermost objects d b h is =
     let e : d ≡ suc (d - 1) = omega arith in
     ap (open_frames objects) e ∙ ap (λ x. frame_of x ∷ open_frames objects (d - 1)) (sym is)
 
-pub innermost-led : (names : Bool) (t u : List ℕ) (objects : List Bool) (d : ℕ) (b : Shape) (e : ℕ) (x : Reading Bool)
+pub innermost-led : (names : Bool) (t u : List ℕ) (objects : List Bool) (d : ℕ) (b : ContainerKind) (e : ℕ) (x : Reading Bool)
     → open_frames objects d ≡ frame_of b ∷ open_frames objects (d - 1) → u ≡ t → e ≤ length u → next_inside b u e ≡ x
     → resume (only_ends names) t (open_frames objects d) (done tt e) ≡ led_on names t b (open_frames objects (d - 1)) x
 innermost-led names t u objects d b e x inner same within at =

@@ -18,17 +18,17 @@ use Rattle.jiter_scan.proofs.Choices.{if-true, if-false}
 use Rattle.jiter_scan.proofs.Scanning.{ScalarWithin}
 use Rattle.jiter_steps.specs.ReadError.{UnlessRefused}
 use Rattle.jiter_steps.specs.StringDecoder.{text_view}
-use Rattle.jiter_steps.specs.StringReading.{Portion, part, over, portion_by, portion_at, Stop, closed, unclosed, cut}
+use Rattle.jiter_steps.specs.StringReading.{Event, part, over, event_by, event_at, Stop, closed, unclosed, cut}
 use Rattle.jiter_steps.specs.StringReading.{wrong}
 use Rattle.jiter_steps.specs.StringReading.{is_cut, Body, before, join, body_at, Form, text_form, checked}
 use Rattle.jiter_steps.specs.StringReading.{text_in_form, content_at, string_at}
 use Rattle.jiter_steps.specs.declared.read_error.ReadError.{ReadError}
 use Rattle.jiter_steps.specs.declared.read_error.ReadError.TheVariants as error
 use Rattle.jiter_steps.proofs.Calls.PlainRuns.{plain_run_to, plain_run_stops}
-use Rattle.jiter_steps.proofs.Grammar.Places.{portion_at-explains, Explains}
-use Rattle.jiter_steps.proofs.Grammar.StringComplete.{portion_by-quote}
+use Rattle.jiter_steps.proofs.Grammar.Places.{event_at-explains, Explains}
+use Rattle.jiter_steps.proofs.Grammar.StringComplete.{event_by-quote}
 use Rattle.jiter_steps.proofs.Grammar.StringLaws.{string_at-within}
-use Rattle.jiter_steps.proofs.Reading.Bodies.{body_at-is, body_at-portion_by}
+use Rattle.jiter_steps.proofs.Reading.Bodies.{body_at-is, body_at-event_by}
 use Rattle.jiter_steps.proofs.Reading.StringForms.{kept-valid}
 
 -- Decoded bytes as a text, by whether they are UTF-8.
@@ -50,12 +50,12 @@ pub string_closed : (keep : Bool) (t : List ℕ) (i : ℕ) (bs : List ℕ) (o : 
 string_closed true t i bs o e = refl
 string_closed false t i bs o e = refl
 
--- Behind a backslash a text lies in memory of its own, so that nothing hangs on the mark.
+-- After a backslash a text lies in memory of its own, so that nothing hangs on the mark.
 module _ (t : List ℕ) (i : ℕ) (backslash : slice_get t i ≡ Some 92) (form : Form) (from : ℕ) (bs : List ℕ) where
   abbrev Marked : Bool → Stop → Type 0
   Marked o s = text_in_form form t from bs o s ≡ text_in_form form t from bs true s
 
-  marked-by : (x : Portion) → Explains t i x → Marked (join (body_at t) x).owned (join (body_at t) x).stop
+  marked-by : (x : Event) → Explains t i x → Marked (join (body_at t) x).owned (join (body_at t) x).stop
   marked-by (part bs true j) x = refl
   marked-by (part bs false j) x = absurd (x.no_backslash (same_Some _ _ (sym x.here ∙ backslash)))
   marked-by (over (closed f)) x = let no = same_Some _ _ (sym x.0 ∙ backslash) in absurd (omega arith)
@@ -66,10 +66,10 @@ module _ (t : List ℕ) (i : ℕ) (backslash : slice_get t i ≡ Some 92) (form 
   marked : Marked (body_at t i).owned (body_at t i).stop
   marked =
       subst (λ (b : Body). Marked b.owned b.stop) (sym (body_at-is t i))
-      (marked-by (portion_at t i) (portion_at-explains t i))
+      (marked-by (event_at t i) (event_at-explains t i))
 
 module _ (t : List ℕ) (at : ℕ) (inside : at < length t) where
-  -- a text ends behind its begin and within the bytes
+  -- a text ends after its begin and within the bytes
   pub string-advances : (form : Form) (r : Result (CowStr Global × ℕ) ReadError)
       → UnlessRefused r (λ x. Scans (with_end text_view) x (string_at form t at))
       → IfOk r (λ x. (at < x.1) × (x.1 ≤ length t))
@@ -86,33 +86,33 @@ module _ (t : List ℕ) (at : ℕ) (inside : at < length t) where
     run = plain_run_to t (at + 1) to (omega arith) stop
 
     -- it is over there
-    string-over : (form : Form) (s : Stop) → portion_at t to ≡ over s
+    string-over : (form : Form) (s : Stop) → event_at t to ≡ over s
         → string_at form t at ≡ text_in_form form t (at + 1) plain (is_cut s) s
     unfolding content_at
     string-over form s e =
         ap (λ (b : Body). text_in_form form t (at + 1) b.bytes b.owned b.stop)
-        (run ∙ ap (before plain false) (body_at-portion_by t to (over s) e))
+        (run ∙ ap (before plain false) (body_at-event_by t to (over s) e))
         ∙ ap (λ l. text_in_form form t (at + 1) l (is_cut s) s) (append-nil plain)
 
     pub string-none : (form : Form) → slice_get t to ≡ None
         → string_at form t at ≡ text_in_form form t (at + 1) plain false unclosed
-    unfolding portion_at
-    string-none form e = string-over form unclosed (ap (portion_by t to) e)
+    unfolding event_at
+    string-none form e = string-over form unclosed (ap (event_by t to) e)
 
     pub string-quote : (keep : Bool) → slice_get t to ≡ Some 34
         → string_at (text_form keep) t at ≡ checked keep (at + 1) false plain (to + 1)
     string-quote keep e =
-        string-over (text_form keep) (closed (to + 1)) (portion_by-quote t to e)
+        string-over (text_form keep) (closed (to + 1)) (event_by-quote t to e)
         ∙ string_closed keep t (at + 1) plain false (to + 1)
 
     pub string-control : (form : Form) (b : ℕ) → slice_get t to ≡ Some b → b ≢ 34 → b ≢ 92
         → string_at form t at ≡ failed control_character to
-    unfolding portion_at
+    unfolding event_at
     string-control form b e q s =
         let stops = plain_run_stops t (at + 1) b (subst (λ j. slice_get t j ≡ Some b) stop e) in
         let low : b < 32 = grind (arith, nat_tests, stops, q, s) in
         string-over form (wrong control_character to)
-        (ap (portion_by t to) e ∙ if-false (b == 34) _ _ (ne_eqb b 34 q) ∙ if-false (b == 92) _ _ (ne_eqb b 92 s)
+        (ap (event_by t to) e ∙ if-false (b == 34) _ _ (ne_eqb b 34 q) ∙ if-false (b == 92) _ _ (ne_eqb b 92 s)
         ∙ if-true (nat_lt b 32) _ _ (lt-ltb b 32 low))
 
     -- it goes on with a backslash

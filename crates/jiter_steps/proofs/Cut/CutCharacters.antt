@@ -12,10 +12,10 @@ use Rattle.std.proofs.lemmas.List.{take-append-drop, length-take, length-drop, t
 use Rattle.std.proofs.lemmas.Str.{encode_same, IsUtf8-drop, IsCharBoundary-from_take, utf8_valid_len-IsUtf8}
 use Rattle.std.proofs.lemmas.Str.{utf8_valid_len-IsValidUpTo}
 use lib.Utf8.{encode, encodes, scalars}
-use Rattle.jiter_steps.proofs.Grammar.Utf8Shape.{Follows, Shape, of1, of2, of3, of4, shape}
+use Rattle.jiter_steps.proofs.Grammar.Utf8Shape.{Follows, ContainerKind, of1, of2, of3, of4, shape}
 
--- w is a front of a character's bytes, and not all of them
-pub record IsFront (w : List ℕ) : Type 0 where
+-- w is a prefix of a character's bytes, and not all of them
+pub record IsPrefix (w : List ℕ) : Type 0 where
   pub c : ℕ
   pub more : List ℕ
   pub scalar : IsScalar c
@@ -46,7 +46,7 @@ three-unfinished a b d l h u v f =
     )
 
 -- so many of its bytes, and not all
-unfinished : (c n : ℕ) → Shape c → n < length (encode c) → utf8_error_len (take n (encode c)) ≡ None
+unfinished : (c n : ℕ) → ContainerKind c → n < length (encode c) → utf8_error_len (take n (encode c)) ≡ None
 unfolding utf8_error_len
 unfinished c zero s h = refl
 unfinished c (suc n) (of1 l is) h = absurd (omega (arith, ap length is))
@@ -62,10 +62,10 @@ unfinished c (suc (suc (suc zero))) (of4 a b d g u v k l m f o r is) h =
     rw is (three-unfinished a b d (omega arith) m u v o)
 unfinished c (suc (suc (suc (suc n)))) (of4 a b d g u v k l m f o r is) h = absurd (omega (arith, ap length is))
 
-pub front-unfinished : (w : List ℕ) → IsFront w → utf8_error_len w ≡ None
-front-unfinished w f =
-    let front : take (length w) (encode f.c) ≡ w = ap (take (length w)) f.is ∙ take-append_seam w f.more in
-    subst (λ x. utf8_error_len x ≡ None) front
+pub prefix-unfinished : (w : List ℕ) → IsPrefix w → utf8_error_len w ≡ None
+prefix-unfinished w f =
+    let prefix : take (length w) (encode f.c) ≡ w = ap (take (length w)) f.is ∙ take-append_seam w f.more in
+    subst (λ x. utf8_error_len x ≡ None) prefix
     (unfinished f.c (length w) (shape f.c f.scalar) (omega (arith, ap length f.is, length-append w f.more, f.some)))
 
 -- no text ends in it
@@ -80,18 +80,18 @@ no-text v more c u some is h = by u.0 u.1.0 u.1.1 where
       let same = encode_same d c (encodes ds ++ more) [] all in
       omega (arith, ap length same.1, length-append (encodes ds) more)
 
-module _ (text w : List ℕ) (u : IsUtf8 text) (f : IsFront w) where
+module _ (text w : List ℕ) (u : IsUtf8 text) (f : IsPrefix w) where
   valid-some : 0 < length w → IsValidUpTo (text ++ w) (length text)
   valid-some some = record {
     short = omega (arith, length-append text w);
-    front = subst IsUtf8 (sym (take-append_seam text w)) u;
+    prefix = subst IsUtf8 (sym (take-append_seam text w)) u;
     longest = λ m h t.
         let l = take m (text ++ w) in
         let long = length-take m (text ++ w) in
         let both = length-append text w in
-        let front : take (length text) l ≡ text =
+        let prefix : take (length text) l ≡ text =
         take-take (length text) m (text ++ w) (omega arith) ∙ take-append_seam text w in
-        let bound = IsCharBoundary-from_take l (length text) t (omega arith) (subst IsUtf8 (sym front) u) in
+        let bound = IsCharBoundary-from_take l (length text) t (omega arith) (subst IsUtf8 (sym prefix) u) in
         let v = drop (length text) l in
         let rest : w ≡ v ++ drop m (text ++ w) =
         sym (drop-append_seam text w) ∙ ap (drop (length text)) (sym (take-append-drop m (text ++ w)))
@@ -103,22 +103,22 @@ module _ (text w : List ℕ) (u : IsUtf8 text) (f : IsFront w) where
         (omega (arith, f.some, length-append (drop m (text ++ w)) f.more));
   }
 
-  valid-front : (w ≡ []) ⊎ (0 < length w) → utf8_valid_len (text ++ w) ≡ length text
-  valid-front (inl e) =
+  valid-prefix : (w ≡ []) ⊎ (0 < length w) → utf8_valid_len (text ++ w) ≡ length text
+  valid-prefix (inl e) =
       ap (λ x. utf8_valid_len (text ++ x)) e ∙ ap utf8_valid_len (append-nil text) ∙ utf8_valid_len-IsUtf8 text u
-  valid-front (inr s) = utf8_valid_len-IsValidUpTo (text ++ w) (length text) (valid-some s)
+  valid-prefix (inr s) = utf8_valid_len-IsValidUpTo (text ++ w) (length text) (valid-some s)
 
   empty-or : (w : List ℕ) → (w ≡ []) ⊎ (0 < length w)
   empty-or [] = inl refl
   empty-or (x ∷ w) = inr (omega arith)
 
   pub tail-valid : utf8_valid_len (text ++ w) ≡ length text
-  tail-valid = valid-front (empty-or w)
+  tail-valid = valid-prefix (empty-or w)
 
   pub tail-unfinished : utf8_error_len (drop (utf8_valid_len (text ++ w)) (text ++ w)) ≡ None
   tail-unfinished =
       ap (λ n. utf8_error_len (drop n (text ++ w))) tail-valid ∙ ap utf8_error_len (drop-append_seam text w)
-      ∙ front-unfinished w f
+      ∙ prefix-unfinished w f
 
   pub tail-taken : take (utf8_valid_len (text ++ w)) (text ++ w) ≡ text
   tail-taken = ap (λ n. take n (text ++ w)) tail-valid ∙ take-append_seam text w

@@ -105,7 +105,7 @@ module _ (names : Bool) (t : List ℕ) (k : ℕ) (mode : PartialMode) where
       → cut names t (grammar.object b e ms) k mode ≡ Some (tree.object (members_of (members_left ms)))
   object-left b e ms lt = begun b k _ lt ∙ ap (λ x. Some (tree.object x)) (members-left ms)
 
-  -- What begins behind k leaves nothing.
+  -- What begins after k leaves nothing.
   pub node-late : (n : Node) → k ≤ begin n → cut names t n k mode ≡ None
   node-late (grammar.literal l b e) le = if-true (nat_le k b) None _ (le-leb k b le)
   node-late (grammar.number b e) le = if-true (nat_le k b) None _ (le-leb k b le)

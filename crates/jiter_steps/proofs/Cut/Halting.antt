@@ -14,12 +14,12 @@ use Rattle.jiter_steps.specs.Literal.{start_of}
 use Rattle.jiter_steps.specs.Node as grammar
 use Rattle.jiter_steps.specs.Node.{Node, begin, Spells}
 use Rattle.jiter_steps.specs.Step.{Step, stuck, step, closer_of, end_kind_of, comma_kind_of, container_step}
-use Rattle.jiter_steps.specs.declared.parse.Shape.{Shape}
+use Rattle.jiter_steps.specs.declared.parse.ContainerKind.{ContainerKind}
 use Rattle.jiter_steps.specs.declared.parse.Start.TheVariants as start
 use Rattle.jiter_steps.proofs.Grammar.Blanks.{past_blanks-end}
 use Rattle.jiter_steps.proofs.Reading.BothShapes.{end_kind-early, comma_kind-forgiven, closer-begins_none}
 use Rattle.jiter_steps.proofs.Fault.Completions.{no-blanks}
-use Rattle.jiter_steps.proofs.Cut.Fronts.{front-get, front-past}
+use Rattle.jiter_steps.proofs.Cut.DocumentPrefixes.{prefix-get, prefix-past}
 use Rattle.jiter_steps.proofs.Grammar.RowSteps.{row-at}
 use Rattle.jiter_steps.proofs.Grammar.SpelledParts.{start_is, begins-value}
 
@@ -53,16 +53,16 @@ node-begins n h = cc
 pub byte-halts : (t : List ℕ) (p c : ℕ) → slice_get t p ≡ Some c → start_of c ≢ start.Nothing → Halts t p
 byte-halts t p c here h = subst (λ o. IfSome o (λ c. start_of c ≢ start.Nothing)) (sym here) h
 
--- A reading of the front halts at the cut, and at a value's first byte.
+-- A reading of the prefix halts at the cut, and at a value's first byte.
 module _ (t : List ℕ) (k : ℕ) (within : k ≤ length t) where
   pub cut-halts : Halts (take k t) k
-  cut-halts = subst (λ o. IfSome o (λ c. start_of c ≢ start.Nothing)) (sym (front-past t k within k (omega arith))) tt
+  cut-halts = subst (λ o. IfSome o (λ c. start_of c ≢ start.Nothing)) (sym (prefix-past t k within k (omega arith))) tt
 
 pub begin-halts : (names : Bool) (t : List ℕ) (k : ℕ) (within : k ≤ length t) (n : Node) → Spells names t n
     → begin n < k → Halts (take k t) (begin n)
 begin-halts names t k within n h lt =
     let first = begins-value names t n h in
-    byte-halts (take k t) (begin n) first.byte (front-get t k within (begin n) first.byte lt first.here)
+    byte-halts (take k t) (begin n) first.byte (prefix-get t k within (begin n) first.byte lt first.here)
     (λ e. node-begins n (sym first.starts ∙ e))
 
 -- There a step between parts is stuck.
@@ -80,8 +80,8 @@ module _ (t : List ℕ) where
         let here = no-blanks t p p refl (omega arith) in
         subst (StuckAt p) (sym (row-at t row p p c here e (begins-no_blank c h))) (some p c h)
 
-  -- behind a part
-  pub container-halts : (b : Shape) (p : ℕ) → Halts t p → StuckAt p (step t (container_step b t) p)
+  -- after a part
+  pub container-halts : (b : ContainerKind) (p : ℕ) → Halts t p → StuckAt p (step t (container_step b t) p)
   container-halts b =
       row-halts (container_step b t) (λ p. (end_kind_of b, refl, end-forgiven _ (end_kind-early b)))
       (λ p c h. (

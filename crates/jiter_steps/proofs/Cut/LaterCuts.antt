@@ -61,11 +61,11 @@ mutual
   members-same (tree.member k v ms) = members-more k v ms (extends-same v) (members-same ms)
 
 -- The pieces before a place begin those before a later one, and all.
-pieces-front : (k l : ℕ) → k ≤ l → (ps : List Piece) → (rest : List Piece) × (pieces_to l ps ≡ pieces_to k ps ++ rest)
-pieces-front k l h [] = ([], refl)
-pieces-front k l h (p ∷ ps) =
+pieces-prefix : (k l : ℕ) → k ≤ l → (ps : List Piece) → (rest : List Piece) × (pieces_to l ps ≡ pieces_to k ps ++ rest)
+pieces-prefix k l h [] = ([], refl)
+pieces-prefix k l h (p ∷ ps) =
     if_case (λ x. (rest : List Piece) × (pieces_to l (p ∷ ps) ≡ x ++ rest)) (nat_le p.end k) (p ∷ pieces_to k ps) []
-    (λ e. let r = pieces-front k l h ps in let within = leb-true p.end k e in
+    (λ e. let r = pieces-prefix k l h ps in let within = leb-true p.end k e in
     (r.0, if-true (nat_le p.end l) (p ∷ pieces_to l ps) [] (le-leb p.end l (omega arith)) ∙ ap (λ x. p ∷ x) r.1))
     (λ e. (pieces_to l (p ∷ ps), refl))
 
@@ -76,8 +76,8 @@ pieces-all k (p ∷ ps) =
     (λ e. let r = pieces-all k ps in (r.0, ap (λ x. p ∷ x) r.1))
     (λ e. (p ∷ ps, refl))
 
-text-front : (ps qs : List Piece) (rest : List Piece) → qs ≡ ps ++ rest → text_of qs ≡ text_of ps ++ text_of rest
-text-front ps qs rest e =
+text-prefix : (ps qs : List Piece) (rest : List Piece) → qs ≡ ps ++ rest → text_of qs ≡ text_of ps ++ text_of rest
+text-prefix ps qs rest e =
     ap text_of e ∙ ap encode_utf8_all (map-append (λ (p : Piece). p.character) ps rest)
     ∙ encodes-append (characters ps) (characters rest)
 
@@ -88,7 +88,7 @@ backslash-stays t i k l ahead later h =
     ∙ list_any-append (λ c. c == 92) (slice_range t i k) (slice_range t k l)
     ∙ ap (λ b. b || has_backslash t k l) h
 
--- What there is goes on; and so does a list, where its last one may and others come behind it.
+-- What there is goes on; and so does a list, where its last one may and others come after it.
 abbrev Grows : {A : Type 0} → (A → A → Type 0) → Option A → Option A → Type 0
 Grows More None y = Unit {0}
 Grows More (Some v) None = ⊥
@@ -281,11 +281,11 @@ module _ (names : Bool) (t : List ℕ) (mode : PartialMode) where
         (if_case Kept (nat_le e l) (Some (tree.string (text_at t ps b e)))
         (cut_string_if names t l mode ps b (allows_trailing_strings mode))
         (λ y. let f = pieces-all k ps in
-        (text_of f.0, text-front (pieces_to k ps) ps f.0 f.1, backslash-stays t b k e (omega arith) (omega arith)))
+        (text_of f.0, text-prefix (pieces_to k ps) ps f.0 f.1, backslash-stays t b k e (omega arith) (omega arith)))
         (λ y. subst Kept (sym (if-true (allows_trailing_strings mode) (Some (cut_string t ps b l)) None kept))
-        (let f = pieces-front k l later ps in (
+        (let f = pieces-prefix k l later ps in (
           text_of f.0,
-          text-front (pieces_to k ps) (pieces_to l ps) f.0 f.1,
+          text-prefix (pieces_to k ps) (pieces_to l ps) f.0 f.1,
           backslash-stays t b k l (omega arith) later,
         )))))
         (λ none. tt) where

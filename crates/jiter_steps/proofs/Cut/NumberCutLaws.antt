@@ -1,4 +1,4 @@
--- A number that the front of a text cuts is read up to the cut exactly where its bytes up to there are a number's text.
+-- A number that the prefix of a text cuts is read up to the cut exactly where its bytes up to there are a number's text.
 use Rattle.std.proofs.Common.{◌≡◌, ℕ, ◌<◌, ◌≤◌, Bool, true, false, List, length, take, sym, ap, ◌∙◌, subst, arith}
 use Rattle.std.proofs.Common.{refl, IfSome}
 use Rattle.std.specs.Prelude.{slice_range}
@@ -11,27 +11,27 @@ use Rattle.jiter_scan.proofs.Choices.{failed-taken}
 use Rattle.jiter_scan.proofs.NumberLaws.{continues_number}
 use Rattle.jiter_scan.proofs.NumberTests.{number_text-decides}
 use Rattle.jiter_steps.specs.Node.{SpellsNumber}
-use Rattle.jiter_steps.proofs.Cut.Fronts.{front-length, front-if, front-past, front-range, number-front}
+use Rattle.jiter_steps.proofs.Cut.DocumentPrefixes.{prefix-length, prefix-if, prefix-past, prefix-range, number-prefix}
 use Rattle.jiter_steps.proofs.Cut.NumberCut.{CutAt, number_at-cut}
 use Rattle.jiter_steps.proofs.Grammar.ScalarLaws.{ScalarLaws, scalar-laws, EndsNumber}
 
 module _ (names : Bool) (t : List ℕ) (k : ℕ) (within : k ≤ length t) where
-  abbrev front : List ℕ
-  front = take k t
+  abbrev prefix : List ℕ
+  prefix = take k t
 
-  laws : ScalarLaws names front
-  laws = scalar-laws names front
+  laws : ScalarLaws names prefix
+  laws = scalar-laws names prefix
 
-  quiet-front : (i : ℕ) → EndsNumber t i → EndsNumber front i
-  quiet-front i q = front-if t k within (λ c. continues_number c ≡ false) i q
+  quiet-prefix : (i : ℕ) → EndsNumber t i → EndsNumber prefix i
+  quiet-prefix i q = prefix-if t k within (λ c. continues_number c ≡ false) i q
 
   -- a number that ends by the cut is read as it was
   pub number_at-before : (b e : ℕ) → SpellsNumber names t b e → EndsNumber t e → e ≤ k
-      → number_at names front b ≡ taken (number_value (slice_range t b e)) e
+      → number_at names prefix b ≡ taken (number_value (slice_range t b e)) e
   number_at-before b e h q le =
-      let g = number-front t k within names b e h le in
-      laws.number-complete b e g.ordered g.within g.text (quiet-front e q)
-      ∙ ap (λ w. taken (number_value w) e) (front-range t k within b e h.ordered le)
+      let g = number-prefix t k within names b e h le in
+      laws.number-complete b e g.ordered g.within g.text (quiet-prefix e q)
+      ∙ ap (λ w. taken (number_value w) e) (prefix-range t k within b e h.ordered le)
 
   -- read up to the cut, where that is a number's text; or the input ends too early, where it is none
   abbrev pub CutNumber : ℕ → Scanned Number → Type 0
@@ -40,9 +40,9 @@ module _ (names : Bool) (t : List ℕ) (k : ℕ) (within : k ≤ length t) where
   CutNumber b (failed kind j) =
       (is_number_text names (slice_range t b k) ≡ false) × (is_end_kind kind ≡ true)
 
-  cut-number : (b : ℕ) (x : Scanned Number) → b < k → number_at names front b ≡ x → CutAt k x → CutNumber b x
+  cut-number : (b : ℕ) (x : Scanned Number) → b < k → number_at names prefix b ≡ x → CutAt k x → CutNumber b x
   cut-number b (taken n e) lt is at =
-      let same = front-range t k within b k (omega arith) (omega arith) in
+      let same = prefix-range t k within b k (omega arith) (omega arith) in
       let sound = laws.number-sound b k n (is ∙ ap (taken n) at) in
       let text = subst (IsNumberText names) same sound.0 in
       ((number_text-decides names (slice_range t b k)).1 text, sound.1 ∙ ap number_value same, at)
@@ -50,17 +50,17 @@ module _ (names : Bool) (t : List ℕ) (k : ℕ) (within : k ≤ length t) where
     by : (y : Bool) → is_number_text names (slice_range t b k) ≡ y → y ≡ false
     by false e = refl
     by true e =
-        let same = front-range t k within b k (omega arith) (omega arith) in
+        let same = prefix-range t k within b k (omega arith) (omega arith) in
         let text = (number_text-decides names (slice_range t b k)).0 e in
         let none = subst (λ o. IfSome o (λ c. continues_number c ≡ false))
-        (sym (front-past t k within k (omega arith))) tt in
-        let read = laws.number-complete b k (omega arith) (omega (arith, front-length t k within))
+        (sym (prefix-past t k within k (omega arith))) tt in
+        let read = laws.number-complete b k (omega arith) (omega (arith, prefix-length t k within))
         (subst (IsNumberText names) (sym same) text) none in
-        absurd (failed-taken kind j (number_value (slice_range front b k)) k (sym is ∙ read))
+        absurd (failed-taken kind j (number_value (slice_range prefix b k)) k (sym is ∙ read))
 
   pub number_at-cuts : (b e : ℕ) → SpellsNumber names t b e → EndsNumber t e → b < k → k < e
-      → CutNumber b (number_at names front b)
+      → CutNumber b (number_at names prefix b)
   number_at-cuts b e h q lt gt =
       let read = (scalar-laws names t).number-complete b e h.ordered h.within h.text q in
-      cut-number b (number_at names front b) lt refl
+      cut-number b (number_at names prefix b) lt refl
       (number_at-cut t k within names b e (number_value (slice_range t b e)) (omega arith) gt read)

@@ -10,39 +10,39 @@ use Rattle.jiter_scan.specs.Stands.{Stands}
 use Rattle.jiter_steps.specs.Piece.{IsPlain, IsEscape, Piece, SpellsChar, SpellsPieces, SpellsString, characters}
 use Rattle.jiter_steps.specs.Piece.{text_of, pieces_to}
 use Rattle.jiter_scan.specs.Scanned.{taken, failed}
-use Rattle.jiter_steps.specs.StringReading.{Stop, unclosed, cut, over, few, hex_digits_at, behind_high, portion_at}
-use Rattle.jiter_steps.specs.StringReading.{Body, before, body_at, kept, valid_front, content_at, string_at, whole}
+use Rattle.jiter_steps.specs.StringReading.{Stop, unclosed, cut, over, few, hex_digits_at, after_high, event_at}
+use Rattle.jiter_steps.specs.StringReading.{Body, before, body_at, kept, valid_prefix, content_at, string_at, whole}
 use Rattle.jiter_steps.specs.StringReading.{raw}
 use Rattle.jiter_steps.proofs.Grammar.Utf8Shape.{lead}
 use Rattle.jiter_scan.proofs.Standing.{stands-split}
-use Rattle.jiter_steps.proofs.Cut.Fronts.{front-length, front-get, front-stands}
+use Rattle.jiter_steps.proofs.Cut.DocumentPrefixes.{prefix-length, prefix-get, prefix-stands}
 use Rattle.jiter_steps.proofs.Fault.SameSpelling.{string-too}
 use Rattle.jiter_steps.proofs.Grammar.Places.{UnitAt}
-use Rattle.jiter_steps.proofs.Reading.Bodies.{body_at-portion_by, portion_by-end}
+use Rattle.jiter_steps.proofs.Reading.Bodies.{body_at-event_by, event_by-end}
 use Rattle.jiter_steps.proofs.Grammar.StringMarks.{EndOf}
 use Rattle.jiter_steps.proofs.Grammar.StringComplete.{ArePrinted, plain-printed, bytes-read, char-read}
-use Rattle.jiter_steps.proofs.Grammar.StringComplete.{portion_by-backslash, portion_by-number, unit-at}
+use Rattle.jiter_steps.proofs.Grammar.StringComplete.{event_by-backslash, event_by-number, unit-at}
 use Rattle.jiter_scan.specs.Kind.{eof_string}
-use Rattle.jiter_steps.proofs.Cut.CutCharacters.{IsFront, tail-unfinished, tail-taken}
+use Rattle.jiter_steps.proofs.Cut.CutCharacters.{IsPrefix, tail-unfinished, tail-taken}
 
 module _ (t : List ℕ) (k : ℕ) (within : k ≤ length t) where
   abbrev u : List ℕ
   u = take k t
 
   pub long : length u ≡ k
-  long = front-length t k within
+  long = prefix-length t k within
 
   pub same : (x b : ℕ) → x < k → slice_get t x ≡ Some b → slice_get u x ≡ Some b
-  same x b h e = front-get t k within x b h e
+  same x b h e = prefix-get t k within x b h e
 
   char-cut : (i j c : ℕ) → SpellsChar t i j c → j ≤ k → SpellsChar u i j c
   char-cut i j c s l =
-      record { bytes = s.bytes; stands = front-stands t k within i j s.bytes s.stands l; piece = s.piece }
+      record { bytes = s.bytes; stands = prefix-stands t k within i j s.bytes s.stands l; piece = s.piece }
 
-  -- of these pieces, which begin at i, those before k are read, and a front of the next one's bytes
+  -- of these pieces, which begin at i, those before k are read, and a prefix of the next one's bytes
   record CutAt (i : ℕ) (ps : List Piece) : Type 0 where
     rest : List ℕ
-    front : IsFront rest
+    prefix : IsPrefix rest
     bytes : (body_at u i).bytes ≡ text_of (pieces_to k ps) ++ rest
     stop : ((body_at u i).stop ≡ unclosed) ⊎ ((body_at u i).stop ≡ cut)
     scalars : all_scalars (characters (pieces_to k ps)) ≡ true
@@ -51,8 +51,8 @@ module _ (t : List ℕ) (k : ℕ) (within : k ≤ length t) where
   abbrev EndsAt : ℕ → Type 0
   EndsAt i = CutAt i []
 
-  any-front : IsFront []
-  any-front = record {
+  any-prefix : IsPrefix []
+  any-prefix = record {
     c = 65;
     more = encode_utf8 65;
     scalar = refl;
@@ -60,38 +60,38 @@ module _ (t : List ℕ) (k : ℕ) (within : k ≤ length t) where
     some = let l = lead 65 refl in subst (λ x. 0 < length x) (sym l.is) (omega arith);
   }
 
-  ends-at : (i : ℕ) (s : Stop) → portion_at u i ≡ over s → (s ≡ unclosed) ⊎ (s ≡ cut) → EndsAt i
+  ends-at : (i : ℕ) (s : Stop) → event_at u i ≡ over s → (s ≡ unclosed) ⊎ (s ≡ cut) → EndsAt i
   ends-at i s e h =
-      let b = body_at-portion_by u i (over s) e in
-      record { rest = []; front = any-front; bytes = ap (λ (x : Body). x.bytes) b; stop = rw b h; scalars = refl }
+      let b = body_at-event_by u i (over s) e in
+      record { rest = []; prefix = any-prefix; bytes = ap (λ (x : Body). x.bytes) b; stop = rw b h; scalars = refl }
 
   ends-here : (i : ℕ) → k ≤ i → EndsAt i
-  ends-here i h = ends-at i unclosed (portion_by-end u i (omega (arith, long))) (inl refl)
+  ends-here i h = ends-at i unclosed (event_by-end u i (omega (arith, long))) (inl refl)
 
-  -- a plain character's front
-  front-split : (i j : ℕ) (w : List ℕ) → Stands t i j w → i ≤ k → k < j → (v : List ℕ) × (more : List ℕ)
+  -- a plain character's prefix
+  prefix-split : (i j : ℕ) (w : List ℕ) → Stands t i j w → i ≤ k → k < j → (v : List ℕ) × (more : List ℕ)
       × (w ≡ v ++ more) × Stands u i k v × (0 < length more)
-  front-split i j [] h l m = absurd (omega (arith, h))
-  front-split i j (b ∷ w) h l m = elim (cases_lt i k) [
+  prefix-split i j [] h l m = absurd (omega (arith, h))
+  prefix-split i j (b ∷ w) h l m = elim (cases_lt i k) [
     | inl lt ↦
-        let r = front-split (i + 1) j w h.1 (omega arith) m in
+        let r = prefix-split (i + 1) j w h.1 (omega arith) m in
         (b ∷ r.0, r.1, ap (λ x. b ∷ x) r.2, (same i b lt h.0, r.3), r.4)
     | inr ge ↦ ([], b ∷ w, refl, (let e : i ≡ k = omega arith in e), (let e : 0 < suc (length w) = omega arith in e))
   ]
 
-  printed-front : (v more : List ℕ) → ArePrinted (v ++ more) → ArePrinted v
-  printed-front [] more h = tt
-  printed-front (b ∷ v) more h = (h.0, printed-front v more h.1)
+  printed-prefix : (v more : List ℕ) → ArePrinted (v ++ more) → ArePrinted v
+  printed-prefix [] more h = tt
+  printed-prefix (b ∷ v) more h = (h.0, printed-prefix v more h.1)
 
   plain-ends : (i j c : ℕ) (p : List ℕ) → IsPlain p c → Stands t i j p → i ≤ k → k < j → EndsAt i
   plain-ends i j c p is s l m =
-      let r = front-split i j (encode_utf8 c) (subst (Stands t i j) is.is s) l m in
-      let printed = printed-front r.0 r.1 (subst ArePrinted r.2 (plain-printed p c is)) in
-      let e = body_at-portion_by u k (over unclosed) (portion_by-end u k (omega (arith, long))) in
+      let r = prefix-split i j (encode_utf8 c) (subst (Stands t i j) is.is s) l m in
+      let printed = printed-prefix r.0 r.1 (subst ArePrinted r.2 (plain-printed p c is)) in
+      let e = body_at-event_by u k (over unclosed) (event_by-end u k (omega (arith, long))) in
       let both = bytes-read u i k r.0 printed r.3 ∙ ap (before r.0 false) e in
       record {
         rest = r.0;
-        front = record { c = c; more = r.1; scalar = is.scalar; is = r.2; some = r.4 };
+        prefix = record { c = c; more = r.1; scalar = is.scalar; is = r.2; some = r.4 };
         bytes = ap (λ (x : Body). x.bytes) both ∙ append-nil r.0;
         stop = rw both (inl refl);
         scalars = refl;
@@ -100,16 +100,16 @@ module _ (t : List ℕ) (k : ℕ) (within : k ≤ length t) where
   digits-few : (x : ℕ) → k < x + 4 → hex_digits_at u x ≡ few
   digits-few x h = rw (lt-ltb (length u) (x + 4) (omega (arith, long)))
 
-  -- an escape's front
-  unit-ends : (i e n : ℕ) → UnitAt t i e n → i < k → k < i + 6 → portion_at u i ≡ over cut
-  unit-ends i e n x l m = rw (portion_by-backslash u i (same i 92 l x.slash)) (elim (cases_lt (i + 1) k) [
+  -- an escape's prefix
+  unit-ends : (i e n : ℕ) → UnitAt t i e n → i < k → k < i + 6 → event_at u i ≡ over cut
+  unit-ends i e n x l m = rw (event_by-backslash u i (same i 92 l x.slash)) (elim (cases_lt (i + 1) k) [
     | inl lt ↦ rw (same (i + 1) 117 lt x.letter, digits-few (i + 1 + 1) (omega arith))
     | inr ge ↦ rw (slice_get_past u (i + 1) (omega (arith, long)))
   ])
 
-  behind_high-ends : (o j high low : ℕ) → UnitAt t o j low → o ≤ k → k < o + 6
-      → behind_high u high o (slice_get u o) ≡ over cut
-  behind_high-ends o j high low y ge m = elim (cases_lt o k) [
+  after_high-ends : (o j high low : ℕ) → UnitAt t o j low → o ≤ k → k < o + 6
+      → after_high u high o (slice_get u o) ≡ over cut
+  after_high-ends o j high low y ge m = elim (cases_lt o k) [
     | inr none ↦ rw (slice_get_past u o (omega (arith, long)))
     | inl some ↦ rw (same o 92 some y.slash) (elim (cases_lt (o + 1) k) [
       | inr none ↦ rw (slice_get_past u (o + 1) (omega (arith, long)))
@@ -117,26 +117,26 @@ module _ (t : List ℕ) (k : ℕ) (within : k ≤ length t) where
     ])
   ]
 
-  escape-ends : (i j c : ℕ) (p : List ℕ) → IsEscape p c → Stands t i j p → i < k → k < j → portion_at u i ≡ over cut
+  escape-ends : (i j c : ℕ) (p : List ℕ) → IsEscape p c → Stands t i j p → i < k → k < j → event_at u i ≡ over cut
   escape-ends i j c p (inl is) s l m =
       let h : Stands t i j (92 ∷ is.sign ∷ []) = subst (Stands t i j) is.is s in
-      rw (portion_by-backslash u i (same i 92 l h.0), slice_get_past u (i + 1) (omega (arith, long, h.1.1)))
+      rw (event_by-backslash u i (same i 92 l h.0), slice_get_past u (i + 1) (omega (arith, long, h.1.1)))
   escape-ends i j c p (inr (inl is)) s l m =
       let x = unit-at t i j c p is.0 s in
       unit-ends i j c x l (omega (arith, x.ends))
   escape-ends i j c p (inr (inr is)) s l m =
-      let h = stands-split t i j is.front is.back (subst (Stands t i j) is.is s) in
-      let x = unit-at t i h.0 is.high is.front is.first h.1 in
+      let h = stands-split t i j is.prefix is.back (subst (Stands t i j) is.is s) in
+      let x = unit-at t i h.0 is.high is.prefix is.first h.1 in
       let o = i + 1 + 1 + 4 in
       let at : h.0 ≡ o = omega (arith, x.ends) in
       let y = unit-at t o j is.low is.back is.second (subst (λ o. Stands t o j is.back) at h.2) in
       elim (cases_lt k o) [
         | inl lt ↦ unit-ends i h.0 is.high x l (omega arith)
         | inr ge ↦
-            let first = front-stands t k within i h.0 is.front h.1 (omega (arith, at)) in
-            let z = unit-at u i h.0 is.high is.front is.first first in
-            rw (portion_by-number u i h.0 is.high z, is.is_high)
-            (behind_high-ends o j is.high is.low y ge (omega (arith, y.ends)))
+            let first = prefix-stands t k within i h.0 is.prefix h.1 (omega (arith, at)) in
+            let z = unit-at u i h.0 is.high is.prefix is.first first in
+            rw (event_by-number u i h.0 is.high z, is.is_high)
+            (after_high-ends o j is.high is.low y ge (omega (arith, y.ends)))
       ]
 
   char-ends : (i j c : ℕ) → SpellsChar t i j c → i ≤ k → k < j → EndsAt i
@@ -154,14 +154,14 @@ module _ (t : List ℕ) (k : ℕ) (within : k ≤ length t) where
     | inl lt ↦
         let e = char-ends i p.end p.character s.0 l lt in
         let none = lt-leb p.end k lt in
-        record { rest = e.rest; front = e.front; bytes = rw none e.bytes; stop = e.stop; scalars = rw none }
+        record { rest = e.rest; prefix = e.prefix; bytes = rw none e.bytes; stop = e.stop; scalars = rw none }
     | inr ge ↦
         let x = char-read u i p.end p.character (char-cut i p.end p.character s.0 ge) in
         let r = pieces-cut ps p.end q s.1 ge m in
         let some = le-leb p.end k ge in
         record {
           rest = r.rest;
-          front = r.front;
+          prefix = r.prefix;
           bytes = rw (some, x.1, r.bytes, append_assoc);
           stop = rw x.1 r.stop;
           scalars = rw (some, x.2, r.scalars);
@@ -177,9 +177,9 @@ module _ (t : List ℕ) (k : ℕ) (within : k ≤ length t) where
       let b = body_at u (i + 1) in
       let text = text_of (pieces_to k ps) in
       let utf8 : IsUtf8 text = (characters (pieces_to k ps), (c.scalars, refl)) in
-      let kept_so : valid_front (i + 1) b.owned b.bytes (length u)
+      let kept_so : valid_prefix (i + 1) b.owned b.bytes (length u)
       ≡ taken (record { owned = b.owned; bytes = text }) k =
-      rw (c.bytes, tail-unfinished text c.rest utf8 c.front, tail-taken text c.rest utf8 c.front, long) in
+      rw (c.bytes, tail-unfinished text c.rest utf8 c.prefix, tail-taken text c.rest utf8 c.prefix, long) in
       elim c.stop [ inl x ↦ rw x (long, kept_so) | inr x ↦ rw x (long, kept_so) ]
 
   -- and where it isn't kept, the end of input is the fault

@@ -7,14 +7,14 @@ use Rattle.jiter_steps.specs.Piece.{Piece, SpellsString, text_of, pieces_to}
 use Rattle.jiter_steps.specs.Node.{has_backslash, text_at}
 use Rattle.jiter_steps.specs.StringReading.{body_at, whole, kept, raw, string_at}
 use Rattle.jiter_steps.proofs.Grammar.StringMarks.{mark-is}
-use Rattle.jiter_steps.proofs.Cut.Fronts.{front-length, front-get, front-range}
+use Rattle.jiter_steps.proofs.Cut.DocumentPrefixes.{prefix-length, prefix-get, prefix-range}
 use Rattle.jiter_steps.proofs.Cut.StringCut.{string-still, kept-cut, whole-cut}
 use Rattle.jiter_steps.proofs.Grammar.StringLaws.{string_at-complete, string-ordered, kept-whole}
 
 module _ (t : List ℕ) (k : ℕ) (within : k ≤ length t) where
   -- before the cut the bytes are the same
   has_backslash-take : (i e : ℕ) → i ≤ e → e ≤ k → has_backslash (take k t) i e ≡ has_backslash t i e
-  has_backslash-take i e l m = ap (list_any (λ c. c == 92)) (front-range t k within i e l m)
+  has_backslash-take i e l m = ap (list_any (λ c. c == 92)) (prefix-range t k within i e l m)
 
   -- a string that is cut is kept as its pieces before the cut
   pub string_at-cut : (i e : ℕ) (ps : List Piece) → SpellsString t i ps e → i < k → k < e
@@ -22,7 +22,7 @@ module _ (t : List ℕ) (k : ℕ) (within : k ≤ length t) where
   string_at-cut i e ps s l m =
       let r = kept-cut t k within i e ps s l m in
       let mark : (body_at (take k t) (i + 1)).owned ≡ has_backslash t i k =
-      mark-is (take k t) i k (front-get t k within i 34 l s.opens) (omega (arith, front-length t k within)) r.0
+      mark-is (take k t) i k (prefix-get t k within i 34 l s.opens) (omega (arith, prefix-length t k within)) r.0
       ∙ has_backslash-take i k (omega arith) (omega arith) in
       r.1 ∙ ap (λ (o : Bool). taken (record { owned = o; bytes = text_of (pieces_to k ps) }) k) mark
 

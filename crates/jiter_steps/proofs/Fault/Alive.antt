@@ -7,9 +7,9 @@ use Rattle.jiter_steps.specs.Answer.{answer}
 use Rattle.jiter_steps.specs.Blank.{past_blanks, IsBlank}
 use Rattle.jiter_steps.specs.FirstFault.{can_go_on, CanBeCompleted}
 use Rattle.jiter_steps.specs.Node.{Node, end, nesting_limit, value_of, IsDocument}
-use Rattle.jiter_steps.specs.Read.{Reading, done, fault, value_at, if_last, to_end, if_begun, front_answer}
+use Rattle.jiter_steps.specs.Read.{Reading, done, fault, value_at, if_last, to_end, if_begun, prefix_answer}
 use Rattle.jiter_steps.specs.Read.{whole_answer}
-use Rattle.jiter_steps.proofs.Fault.Completions.{CanClose, OpenTo, close-map, no-blanks, taken-length, front-kept}
+use Rattle.jiter_steps.proofs.Fault.Completions.{CanClose, OpenTo, close-map, no-blanks, taken-length, prefix-kept}
 use Rattle.jiter_steps.proofs.Grammar.Documents.{answer-value}
 use Rattle.jiter_steps.proofs.Reading.Fused.{mapped}
 use Rattle.jiter_steps.proofs.Grammar.NodeRules.{nodes}
@@ -26,24 +26,24 @@ module _ (names : Bool) (t : List ℕ) where
   abbrev Completed : ℕ → Type 0
   Completed x = CanClose t x (λ u. (n : Node) × IsDocument names u n)
 
-  -- a value that ends where the text ends, behind blanks
+  -- a value that ends where the text ends, after blanks
   value-document : (i x : ℕ) → IsBlank t 0 i → CanEndHere (IsValue names nesting_limit) t i x → Completed x
   value-document i x before (le, ends) =
       close-map t x _ _
       (λ w within here.
       let u = take x t ++ w in
-      let blanks = blanks-too t u x (front-kept t x within w) 0 i le before in (
+      let blanks = blanks-too t u x (prefix-kept t x within w) 0 i le before in (
         here.0,
         record {
           before = subst (IsBlank u 0) (sym here.1.0.begins) blanks;
           spelled = here.1.0.spelled;
-          after = no-blanks u (end here.0) (length u) here.1.0.ends (omega arith);
+          later = no-blanks u (end here.0) (length u) here.1.0.ends (omega arith);
           limit = here.1.1;
         },
       ))
       ends
 
-  -- a value with bytes behind it: the document ends before these
+  -- a value with bytes after it: the document ends before these
   trailing-document : (i e : ℕ) (n : Node) → IsBlank t 0 i → Sound names t nesting_limit i (done n e)
       → Completed (past_blanks t e)
   trailing-document i e n before is =
@@ -55,14 +55,14 @@ module _ (names : Bool) (t : List ℕ) where
       let begins = is.0.begins in
       let ahead = node-ahead names t n is.0.spelled in
       let u = take x t ++ [] in
-      let same = front-kept t x within [] in
+      let same = prefix-kept t x within [] in
       let long = taken-length t x within [] in
-      let behind : IsBlank u e (length u) =
+      let after : IsBlank u e (length u) =
       subst (IsBlank u e) (omega arith) (blanks-too t u x same e x (omega arith) blanks) in
       let document : IsDocument names u n = record {
         before = subst (IsBlank u 0) (sym begins) (blanks-too t u x same 0 i (omega arith) before);
         spelled = spells-too names t u x same n (omega arith) is.0.spelled;
-        after = subst (λ k. IsBlank u k (length u)) (sym ends) behind;
+        later = subst (λ k. IsBlank u k (length u)) (sym ends) after;
         limit = is.1;
       } in
       record { filler = []; closers = []; is_filler = inl refl; are_closers = tt; within = within; is = (n, document) }
@@ -90,7 +90,7 @@ module _ (names : Bool) (t : List ℕ) where
       (value_at-sound names t nesting_limit i inside) (value_at-open names t nesting_limit i inside)
 
   whole-open : Opens (whole_answer (nodes names) t)
-  unfolding whole_answer front_answer
+  unfolding whole_answer prefix_answer
   whole-open =
       if_begun-open (past_blanks t 0) (passed-blank t 0 (omega arith)) (slice_get t (past_blanks t 0)) refl
 

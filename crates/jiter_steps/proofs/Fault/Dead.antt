@@ -51,9 +51,9 @@ answer-stays names t u m same =
     whole_answer-stays t u m same (whole_trees names) (λ k. refl) (trees-advances t nothing_forgiven whole names)
     (trees-advances u nothing_forgiven whole names) (trees-keep t u m same names)
 
--- a front of a text, with whatever follows it
-pub front-same : (t : List ℕ) (k : ℕ) (rest : List ℕ) → SameBefore t (take k t ++ rest) k
-front-same t k rest j c le e =
+-- a prefix of a text, with whatever follows it
+pub prefix-same : (t : List ℕ) (k : ℕ) (rest : List ℕ) → SameBefore t (take k t ++ rest) k
+prefix-same t k rest j c le e =
     let lt = slice_get_within t j c e in
     let here = slice_get-get_or (take k t) j 0 (omega (arith, length-take k t)) in
     longer-same (take k t) rest k j c le (here ∙ ap Some (get_or-take k t j 0 le ∙ get_or_from_slice_get t j c 0 e))
@@ -65,4 +65,4 @@ pub dead : (names : Bool) (t : List ℕ) (k : Kind) (i stop : ℕ) → answer na
 dead names t k i stop is byte utf8 rest n d =
     let u = take (i + 1) t ++ rest in
     let shown = subst (ShownFault (i + 1)) (sym is) (omega arith, (byte, utf8)) in
-    subst IsFault (answer-of names u n d) (answer-stays names t u (i + 1) (front-same t (i + 1) rest) shown)
+    subst IsFault (answer-of names u n d) (answer-stays names t u (i + 1) (prefix-same t (i + 1) rest) shown)

@@ -16,7 +16,7 @@ use Rattle.jiter_scan.proofs.Standing.{stands-length, stands-within, stands-appe
 use Rattle.jiter_steps.specs.FirstFault.{can_go_on}
 use Rattle.jiter_steps.specs.Node.{SpellsNumber}
 use Rattle.jiter_steps.proofs.Reading.Bounds.{either}
-use Rattle.jiter_steps.proofs.Fault.Completions.{CanClose, taken-length, taken-first, front-kept}
+use Rattle.jiter_steps.proofs.Fault.Completions.{CanClose, taken-length, taken-first, prefix-kept}
 use Rattle.jiter_steps.proofs.Fault.SameSpelling.{stands-too}
 
 -- where a fault that can go on stands
@@ -81,11 +81,11 @@ module _ (t : List ℕ) where
       let u = take x t ++ (f ++ []) in
       let size = ap length (append-nil f) in
       let long = taken-length t x within (f ++ []) in
-      let order = stands-length t i x h.front h.stands in
+      let order = stands-length t i x h.prefix h.stands in
       let at_end : x + length f ≡ length u = omega arith in
-      let front = stands-too t u x (front-kept t x within (f ++ [])) i x h.front (omega arith) h.stands in
-      let all = stands-append u i x (x + length f) h.front f front (zero-stands x within f h.zero) in
-      let text = subst (IsNumberText names) (slice-stands u i (x + length f) (h.front ++ f) all) h.is in (
+      let prefix = stands-too t u x (prefix-kept t x within (f ++ [])) i x h.prefix (omega arith) h.stands in
+      let all = stands-append u i x (x + length f) h.prefix f prefix (zero-stands x within f h.zero) in
+      let text = subst (IsNumberText names) (slice-stands u i (x + length f) (h.prefix ++ f) all) h.is in (
         omega arith,
         record {
           filler = f;
@@ -105,7 +105,7 @@ module _ (t : List ℕ) where
       → LiveIs (CanEndNumber names i) (with_value t i x)
   number-live names i le (taken u e) s = tt
   number-live names i le (failed k j) s =
-      λ live. let h = s.1 (go_on-ends k live) in number-ends names i j (stands-within t i j h.front le h.stands) h
+      λ live. let h = s.1 (go_on-ends k live) in number-ends names i j (stands-within t i j h.prefix le h.stands) h
 
   -- A number whose fault can go on.
   pub number-open : (names : Bool) (i : ℕ) → i ≤ length t → LiveIs (CanEndNumber names i) (number_at names t i)

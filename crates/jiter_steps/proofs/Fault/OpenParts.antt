@@ -1,4 +1,4 @@
--- A container that is not read to its end can be closed behind the parts before the fault.
+-- A container that is not read to its end can be closed after the parts before the fault.
 use Rattle.std.proofs.Common.{◌≡◌, inl, inr, ℕ, zero, suc, ◌+◌, ◌<◌, ◌≤◌, true, false, List, [], ◌∷◌, ◌++◌, length}
 use Rattle.std.proofs.Common.{take, refl, sym, ap, ◌∙◌, subst, arith, append-nil, append_assoc}
 use Rattle.std.specs.Prelude.{None}
@@ -6,17 +6,17 @@ use Rattle.jiter_scan.specs.Kind.{Kind}
 use Rattle.jiter_scan.proofs.Choices.{if-false}
 use Rattle.jiter_steps.specs.Blank.{IsBlank}
 use Rattle.jiter_steps.specs.FirstFault.{IsFiller, AreClosers, can_go_on}
-use Rattle.jiter_steps.specs.Read.{Reading, done, fault, Rules, Container, if_forgiven, follow, behind_part, parts_at}
+use Rattle.jiter_steps.specs.Read.{Reading, done, fault, Rules, Container, if_forgiven, follow, after_part, parts_at}
 use Rattle.jiter_steps.specs.Read.{container_at}
 use Rattle.jiter_steps.specs.Step.{Step, more, closed, stuck, step}
 use Rattle.jiter_steps.proofs.Reading.Bounds.{Within}
-use Rattle.jiter_steps.proofs.Fault.Completions.{CanClose, OpenTo, longer-same, no-blanks, ends-behind, taken-length}
-use Rattle.jiter_steps.proofs.Fault.Completions.{front-kept}
-use Rattle.jiter_steps.proofs.Cut.Fronts.{front-length, front-get}
+use Rattle.jiter_steps.proofs.Fault.Completions.{CanClose, OpenTo, longer-same, no-blanks, ends-after, taken-length}
+use Rattle.jiter_steps.proofs.Fault.Completions.{prefix-kept}
+use Rattle.jiter_steps.proofs.Cut.DocumentPrefixes.{prefix-length, prefix-get}
 use Rattle.jiter_steps.proofs.Fault.OpenNumbers.{no_live}
 use Rattle.jiter_steps.proofs.Reading.Parts.{MoreParts, Parts}
-use Rattle.jiter_steps.proofs.Grammar.RowSteps.{PartBehind, Behind, StepIs, Delimits}
-use Rattle.jiter_steps.proofs.Fault.SameSpelling.{SameBefore, same-sooner, blanks-too, behind-too}
+use Rattle.jiter_steps.proofs.Grammar.RowSteps.{PartAfter, After, StepIs, Delimits}
+use Rattle.jiter_steps.proofs.Fault.SameSpelling.{SameBefore, same-sooner, blanks-too, after-too}
 use Rattle.jiter_steps.proofs.Fault.StuckSteps.{BlanksOrComma, Sticks}
 use Rattle.jiter_steps.proofs.Reading.Values.{Goes, part-free}
 
@@ -28,7 +28,7 @@ closers-more : (cs : List ℕ) (closer : ℕ) → AreClosers (closer ∷ []) →
 closers-more [] closer h all = h
 closers-more (c ∷ cs) closer h all = (all.0, closers-more cs closer h all.1)
 
--- with a filler and closers behind x, something stands from i to the text's end
+-- with a filler and closers after x, something stands from i to the text's end
 abbrev pub CanEndHere : {P : Type 0} → (List ℕ → ℕ → P → ℕ → Type 0) → List ℕ → ℕ → ℕ → Type 0
 CanEndHere {P} Is t i x = (i ≤ x) × CanClose t x (λ u. (p : P) × Is u i p (length u))
 
@@ -39,7 +39,7 @@ module _ {P : Type 0} (closer : ℕ) (IsPart : List ℕ → ℕ → P → ℕ �
   abbrev pub PartsOf : List ℕ → List P → ℕ → ℕ → Type 0
   PartsOf u ps i e = Parts u closer Anywhere (IsPart u) ps i e
 
-  -- parts and the closer, behind a bracket
+  -- parts and the closer, after a bracket
   abbrev pub CanEnd : List ℕ → ℕ → ℕ → Type 0
   CanEnd t b x = (b ≤ x) × CanClose t x (λ u. (ps : List P) × PartsOf u ps b (length u))
 
@@ -60,7 +60,7 @@ module _ {K P A : Type 0} (r : Rules K A) (strict : (k : Kind) → r.forgives k 
     (IsPart : List ℕ → ℕ → P → ℕ → Type 0)
     (delimits : Delimits t c.first c.next closer Begins) (sticks : Sticks t c.first c.next) (goes : Goes c t)
     (fillable : Fillable closer IsPart t c Begins) where
-  -- behind these parts from b on the next one is to begin at i; so it is in each text with the same bytes before i
+  -- after these parts from b on the next one is to begin at i; so it is in each text with the same bytes before i
   record SoFar (b i : ℕ) (ps : List P) : Type 0 where
     ordered : b ≤ i
     parts : (u : List ℕ) (p : P) (rest : List P) (m e : ℕ) → SameBefore t u i → IsPart u i p m
@@ -75,15 +75,15 @@ module _ {K P A : Type 0} (r : Rules K A) (strict : (k : Kind) → r.forgives k 
   }
 
   next-part : (b i j m : ℕ) (ps : List P) (p : P) → SoFar b i ps → i ≤ m → IsPart t i p m
-      → Behind t m 44 (IsBlank t) j → SoFar b j (ps ++ p ∷ [])
+      → After t m 44 (IsBlank t) j → SoFar b j (ps ++ p ∷ [])
   next-part b i j m ps p so le is h =
       let before_comma = h.1.blanks.ordered in
       let comma_ends = h.1.ends in
-      let behind_comma = h.2.ordered in
+      let after_comma = h.2.ordered in
       record {
         ordered = omega (arith, so.ordered);
         parts = λ u q rest n e same also more_parts.
-            let comma = behind-too t u j same m 44 h.0 behind_comma h.1 in
+            let comma = after-too t u j same m 44 h.0 after_comma h.1 in
             let blanks = blanks-too t u j same h.0 j (omega arith) h.2 in
             let here = fillable.too t u i m p (same-sooner t u m j (omega arith) same) is in
             subst (λ l. PartsOf closer IsPart u l b e) (sym (append_assoc ps (p ∷ []) (q ∷ rest)))
@@ -91,7 +91,7 @@ module _ {K P A : Type 0} (r : Rules K A) (strict : (k : Kind) → r.forgives k 
             (h.0, comma, record { begin = j; end = n; blanks = blanks; begins = tt; is = also; rest = more_parts }));
       }
 
-  -- the closer behind a last part
+  -- the closer after a last part
   close-part : (b i x m : ℕ) (ps : List P) (p : P) (filler closers : List ℕ) → SoFar b i ps → i ≤ x → x ≤ length t
       → IsFiller filler → AreClosers closers → IsPart (take x t ++ (filler ++ closers)) i p m
       → IsBlank (take x t ++ (filler ++ closers)) m (length (take x t ++ (filler ++ closers)))
@@ -100,10 +100,10 @@ module _ {K P A : Type 0} (r : Rules K A) (strict : (k : Kind) → r.forgives k 
       let u = take x t ++ (filler ++ closers) in
       let v = u ++ closer ∷ [] in
       let here = fillable.too u v i m p (longer-same u (closer ∷ []) m) is in
-      let front = front-kept t x within (filler ++ closers) in
+      let prefix = prefix-kept t x within (filler ++ closers) in
       let same : SameBefore t v i =
-      λ j c lt e. longer-same u (closer ∷ []) x j c (omega arith) (front j c (omega arith) e) in
-      let all = so.parts v p [] m (length v) same here (ends-behind u m closer blanks) in
+      λ j c lt e. longer-same u (closer ∷ []) x j c (omega arith) (prefix j c (omega arith) e) in
+      let all = so.parts v p [] m (length v) same here (ends-after u m closer blanks) in
       let text : v ≡ take x t ++ (filler ++ (closers ++ closer ∷ [])) =
       append_assoc (take x t) (filler ++ closers) (closer ∷ [])
       ∙ ap (λ w. take x t ++ w) (append_assoc filler closers (closer ∷ [])) in (
@@ -118,12 +118,12 @@ module _ {K P A : Type 0} (r : Rules K A) (strict : (k : Kind) → r.forgives k 
         },
       )
 
-  -- the closer behind the bracket
+  -- the closer after the bracket
   close-bracket : (b x : ℕ) → IsBlank t b x → CanEnd closer IsPart t b x
   close-bracket b x h =
-      let long : length (take x t) ≡ x = front-length t x h.within in
-      let blanks = blanks-too t (take x t) x (front-get t x h.within) b x (omega arith) h in
-      let ends = ends-behind (take x t) b closer (subst (IsBlank (take x t) b) (sym long) blanks) in (
+      let long : length (take x t) ≡ x = prefix-length t x h.within in
+      let blanks = blanks-too t (take x t) x (prefix-get t x h.within) b x (omega arith) h in
+      let ends = ends-after (take x t) b closer (subst (IsBlank (take x t) b) (sym long) blanks) in (
         h.ordered,
         record {
           filler = [];
@@ -146,18 +146,18 @@ module _ {K P A : Type 0} (r : Rules K A) (strict : (k : Kind) → r.forgives k 
   abbrev GoesOn : ℕ → (List P → ℕ → Reading A) → Type 0
   GoesOn b next = (ps : List P) (j : ℕ) → Begins j → SoFar b j ps → Open b (next ps j)
 
-  -- stuck behind a part: at once, or behind a comma
-  stuck-behind : (b i m x : ℕ) (ps : List P) (p : P) → SoFar b i ps → i ≤ m → IsPart t i p m → BlanksOrComma t m x
+  -- stuck after a part: at once, or after a comma
+  stuck-after : (b i m x : ℕ) (ps : List P) (p : P) → SoFar b i ps → i ≤ m → IsPart t i p m → BlanksOrComma t m x
       → CanEnd closer IsPart t b x
-  stuck-behind b i m x ps p so le is (inl h) =
+  stuck-after b i m x ps p so le is (inl h) =
       let u = take x t ++ ([] ++ []) in
-      let same = front-kept t x h.within ([] ++ []) in
+      let same = prefix-kept t x h.within ([] ++ []) in
       let long = taken-length t x h.within ([] ++ []) in
       let here = fillable.too t u i m p (same-sooner t u m x h.ordered same) is in
       let at_end : x ≡ length u = omega arith in
       let blanks = subst (IsBlank u m) at_end (blanks-too t u x same m x (omega arith) h) in
       close-part b i x m ps p [] [] so (omega (arith, h.ordered)) h.within (inl refl) tt here blanks
-  stuck-behind b i m x ps p so le is (inr h) =
+  stuck-after b i m x ps p so le is (inr h) =
       let w = fillable.filler in
       let within = h.2.within in
       let part = fillable.fills i m p is x within in
@@ -171,17 +171,17 @@ module _ {K P A : Type 0} (r : Rules K A) (strict : (k : Kind) → r.forgives k 
 
   follow-open : (b i m : ℕ) (ps : List P) (p : P) (next : List P → ℕ → Reading A) → GoesOn b next → SoFar b i ps
       → i ≤ m → m ≤ length t → IsPart t i p m → (s : Step) → step t c.next m ≡ s
-      → StepIs t m closer (Behind t m 44 (PartBehind t Begins)) s
+      → StepIs t m closer (After t m 44 (PartAfter t Begins)) s
       → Open b (follow r (next (ps ++ p ∷ [])) (λ e. c.build e (ps ++ p ∷ [])) s)
   follow-open b i m ps p next go so le within is (more j) step h =
       go (ps ++ p ∷ []) j h.2.begins (next-part b i j m ps p so le is (h.0, h.1, h.2.blanks))
   follow-open b i m ps p next go so le within is (closed e) step h = tt
   follow-open b i m ps p next go so le within is (stuck k x) step h =
       fault-open b (λ e. c.build e (ps ++ p ∷ [])) k x x
-      (λ live. stuck-behind b i m x ps p so le is (sticks.next-stuck m x k within step))
+      (λ live. stuck-after b i m x ps p so le is (sticks.next-stuck m x k within step))
 
   part-open : (b i : ℕ) (ps : List P) (next : List P → ℕ → Reading A) → GoesOn b next → Begins i → SoFar b i ps
-      → (x : Reading P) → c.part i ≡ x → Within t i x → Open b (behind_part r c t next ps x)
+      → (x : Reading P) → c.part i ≡ x → Within t i x → Open b (after_part r c t next ps x)
   part-open b i ps next go at so (done p m) is w =
       follow-open b i m ps p next go so (omega (arith, w.0)) w.1 (fillable.is i m p at is) (step t c.next m) refl
       (delimits.next-is m w.1)
@@ -197,11 +197,11 @@ module _ {K P A : Type 0} (r : Rules K A) (strict : (k : Kind) → r.forgives k 
   unfolding parts_at
   parts-open b zero ps i at so = no_live
   parts-open b (suc n) ps i at so =
-      subst (λ x. Open b (behind_part r c t (parts_at r c t n) ps x)) (sym (part-free c ps i (free ps i)))
+      subst (λ x. Open b (after_part r c t (parts_at r c t n) ps x)) (sym (part-free c ps i (free ps i)))
       (part-open b i ps (parts_at r c t n) (parts-open b n) at so (c.part i) refl (goes.part i (delimits.within i at)))
 
   bracket-open : (b : ℕ) → b ≤ length t → (s : Step) → step t c.first b ≡ s
-      → StepIs t b closer (PartBehind t Begins b) s
+      → StepIs t b closer (PartAfter t Begins b) s
       → Open b (follow r (parts_at r c t (length t) []) (λ e. c.build e []) s)
   bracket-open b within (more j) step h = parts-open b (length t) [] j h.begins (first-part b j h.blanks)
   bracket-open b within (closed e) step h = tt

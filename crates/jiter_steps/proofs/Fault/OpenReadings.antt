@@ -1,4 +1,4 @@
--- A value whose reading meets a fault that can go on can be ended behind the bytes before it.
+-- A value whose reading meets a fault that can go on can be ended after the bytes before it.
 use Rattle.std.proofs.Common.{◌≡◌, inl, inr, ℕ, zero, suc, ◌+◌, ◌<◌, ◌≤◌, Bool, false, List, [], ◌++◌, length, take}
 use Rattle.std.proofs.Common.{refl, sym, ◌∙◌, subst, arith, codes}
 use Rattle.std.specs.Prelude.{slice_get, slice_index, Option, Some, None, ◌==◌}
@@ -16,9 +16,9 @@ use Rattle.jiter_steps.specs.Blank.{past_blanks}
 use Rattle.jiter_steps.specs.FirstFault.{can_go_on}
 use Rattle.jiter_steps.specs.Literal.{start_of, literal_at, word_of}
 use Rattle.jiter_steps.specs.Node as grammar
-use Rattle.jiter_steps.specs.Node.{Key, Node, begin, end, StandsBehind, SpellsNumber, SpellsKey, Spells, nesting}
+use Rattle.jiter_steps.specs.Node.{Key, Node, begin, end, StandsAfter, SpellsNumber, SpellsKey, Spells, nesting}
 use Rattle.jiter_steps.specs.Piece.{SpellsString}
-use Rattle.jiter_steps.specs.Read.{Reading, done, fault, scalar_at, with_key, behind_colon, behind_key, value_with}
+use Rattle.jiter_steps.specs.Read.{Reading, done, fault, scalar_at, with_key, after_colon, after_key, value_with}
 use Rattle.jiter_steps.specs.Read.{Container, container_at, inside_at, value_at}
 use Rattle.jiter_steps.specs.Step.{step, colon, value_first, object_colon}
 use Rattle.jiter_steps.specs.StringReading.{Stop, closed, unclosed, cut, wrong, whole, body_at, text_in_form}
@@ -28,16 +28,16 @@ use Rattle.jiter_steps.specs.declared.parse.Start.{Start}
 use Rattle.jiter_steps.specs.declared.parse.Start.TheVariants as start
 use Rattle.jiter_steps.proofs.Reading.Bodies.{StopWithin, body_at-within}
 use Rattle.jiter_steps.proofs.Reading.Bounds.{either}
-use Rattle.jiter_steps.proofs.Fault.Completions.{close-map, OpenTo, open-map, no-blanks, taken-length, taken-behind}
-use Rattle.jiter_steps.proofs.Fault.Completions.{taken-first, front-kept}
+use Rattle.jiter_steps.proofs.Fault.Completions.{close-map, OpenTo, open-map, no-blanks, taken-length, taken-after}
+use Rattle.jiter_steps.proofs.Fault.Completions.{taken-first, prefix-kept}
 use Rattle.jiter_steps.proofs.Grammar.NodeRules.{nodes, nodes_of, node_members_of, key_of, pieces_from}
 use Rattle.jiter_steps.proofs.Fault.OpenNumbers.{LiveIs, map-live, then-live, word-live, no_live, zero-number}
 use Rattle.jiter_steps.proofs.Fault.OpenNumbers.{CanEndNumber, number-open}
 use Rattle.jiter_steps.proofs.Fault.OpenParts.{Anywhere, CanEndHere, Fillable, container_at-open}
 use Rattle.jiter_steps.proofs.Reading.Parts.{Grammar, parts-are}
 use Rattle.jiter_steps.proofs.Grammar.Places.{IsPlaceKind}
-use Rattle.jiter_steps.specs.declared.parse.Shape.TheVariants as shape
-use Rattle.jiter_steps.proofs.Grammar.RowSteps.{Delimits, ByteAt, PartAt, begins-quote, PartBehind, Behind, ExtentIs}
+use Rattle.jiter_steps.specs.declared.parse.ContainerKind.TheVariants as shape
+use Rattle.jiter_steps.proofs.Grammar.RowSteps.{Delimits, ByteAt, PartAt, begins-quote, PartAfter, After, ExtentIs}
 use Rattle.jiter_steps.proofs.Grammar.RowSteps.{delimits, object_colon-is}
 use Rattle.jiter_steps.proofs.Fault.SameSpelling.{SameBefore, place-too, key-too, spells-too}
 use Rattle.jiter_steps.proofs.Grammar.Sound.{array-byte, object-byte, byte-here, IsNodeAt, IsItemAt, IsMemberAt}
@@ -53,7 +53,7 @@ use Rattle.jiter_steps.proofs.Reading.Values.{Goes}
 abbrev pub OpenAs : {P A : Type 0} → (List ℕ → ℕ → P → ℕ → Type 0) → List ℕ → ℕ → Reading A → Type 0
 OpenAs Is t i x = OpenTo (CanEndHere Is t i) x
 
--- Faults of strings, and of the colon behind a key, are of other kinds.
+-- Faults of strings, and of the colon after a key, are of other kinds.
 place-dead : (k : Kind) → IsPlaceKind k → can_go_on k ≡ false
 place-dead k h = grind (arith, h)
 
@@ -123,7 +123,7 @@ module _ (names : Bool) where
   zero-node u x e last h =
       number-node u x e (subst (SpellsNumber names u x) last (zero-number names u x h))
 
-  -- a zero behind an empty key
+  -- a zero after an empty key
   zero-member : (levels : ℕ) (t : List ℕ) (x : ℕ) → x ≤ length t → 0 < levels
       → (m : Key × Node) × IsMember levels (take x t ++ codes "\"\":0") x m (x + 4)
   zero-member levels t x within some =
@@ -135,19 +135,19 @@ module _ (names : Bool) where
         opens = taken-first t x within w 34 refl;
         close = x + 1;
         spelled = refl;
-        closes = taken-behind t x within w 1 34 refl;
+        closes = taken-after t x within w 1 34 refl;
         ends = omega arith;
       } in
-      let behind : StandsBehind u (x + 2) 58 (x + 3) = record {
+      let after : StandsAfter u (x + 2) 58 (x + 3) = record {
         at = x + 2;
         blanks = no-blanks u (x + 2) (x + 2) refl (omega arith);
-        here = taken-behind t x within w 2 58 refl;
+        here = taken-after t x within w 2 58 refl;
         ends = omega arith;
       } in
       let blanks = no-blanks u (x + 3) (x + 3) refl (omega arith) in
-      let value = zero-node u (x + 3) (x + 4) (omega arith) (taken-behind t x within w 3 48 refl) in
+      let value = zero-node u (x + 3) (x + 4) (omega arith) (taken-after t x within w 3 48 refl) in
       let spelled : SpellsKey u key (x + 3) =
-      record { string = string; colon = x + 3; behind = behind; blanks = blanks } in
+      record { string = string; colon = x + 3; after = after; blanks = blanks } in
       ((key, _), record { begins = refl; key = spelled; value = value; limit = omega arith })
 
   -- Inside a container with so many levels left.
@@ -183,7 +183,7 @@ module _ (names : Bool) where
             close-map t x _ _
                 (λ w within here.
                 let u = take x t ++ w in
-                let same = front-kept t x within w in
+                let same = prefix-kept t x within w in
                 let at = sym here.1.0.begins in
                 let value = subst (λ b. IsNodeAt names u b here.0 (length u)) at here.1.0 in
                 let too = subst (SpellsKey u key) at (key-too t u x same key j le spelled) in
@@ -191,24 +191,24 @@ module _ (names : Bool) where
                 ends,
           )
 
-    behind_colon-open : (i : ℕ) (key : Key) → key.begin ≡ i → SpellsString t key.begin key.pieces key.end
-        → (x : Extent) → ExtentIs (Behind t key.end 58 (PartBehind t (ByteAt t))) x
-        → LiveIs (CanEndHere (IsMember levels) t i) x → OpenAs (IsMember levels) t i (behind_colon key inner x)
-    behind_colon-open i key begins string (taken u j) h dead =
-        with_key-open i j key begins (record { string = string; colon = h.0; behind = h.1; blanks = h.2.blanks })
+    after_colon-open : (i : ℕ) (key : Key) → key.begin ≡ i → SpellsString t key.begin key.pieces key.end
+        → (x : Extent) → ExtentIs (After t key.end 58 (PartAfter t (ByteAt t))) x
+        → LiveIs (CanEndHere (IsMember levels) t i) x → OpenAs (IsMember levels) t i (after_colon key inner x)
+    after_colon-open i key begins string (taken u j) h dead =
+        with_key-open i j key begins (record { string = string; colon = h.0; after = h.1; blanks = h.2.blanks })
         (inner j)
         (all j (slice_get_within t j h.2.begins.byte h.2.begins.here))
-    behind_colon-open i key begins string (failed k j) h dead = dead
+    after_colon-open i key begins string (failed k j) h dead = dead
 
-    behind_key-open : (i : ℕ) → slice_get t i ≡ Some 34 → (x : Scanned Text) → string_at whole t i ≡ x
+    after_key-open : (i : ℕ) → slice_get t i ≡ Some 34 → (x : Scanned Text) → string_at whole t i ≡ x
         → ScalarWithin t i x
         → LiveIs (CanEndHere (IsMember levels) t i) x
-        → OpenAs (IsMember levels) t i (behind_key inner t i (seen_as (key_of t i) x))
-    behind_key-open i quote (taken s e) is w dead =
+        → OpenAs (IsMember levels) t i (after_key inner t i (seen_as (key_of t i) x))
+    after_key-open i quote (taken s e) is w dead =
         let string = (scalar-laws names t).string-sound i e s quote is in
-        behind_colon-open i (key_of t i s e) refl string.0 (object_colon t e) (object_colon-is t e w.1)
+        after_colon-open i (key_of t i s e) refl string.0 (object_colon t e) (object_colon-is t e w.1)
         (object_colon-live t (CanEndHere (IsMember levels) t i) e)
-    behind_key-open i quote (failed k j) is w dead = dead
+    after_key-open i quote (failed k j) is w dead = dead
 
     members-fillable : (b : ℕ) → Fillable 125 (IsMember levels) t (object names t levels b) (PartAt shape.Object t)
     members-fillable b = record {
@@ -218,7 +218,7 @@ module _ (names : Bool) where
       begun = λ i x stop k at is.
           let within = slice_get_within t i at.byte at.here in
           subst (OpenAs (IsMember levels) t i) is
-          (behind_key-open i (begins-quote t i at) (string_at whole t i) refl
+          (after_key-open i (begins-quote t i at) (string_at whole t i) refl
           ((scalar-laws names t).string-within i within)
           (string-live t (CanEndHere (IsMember levels) t i) i));
       filler = codes "\"\":0";
@@ -243,7 +243,7 @@ module _ (names : Bool) where
           close-map t x _ _
               (λ w within parts.
               let u = take x t ++ w in
-              build u parts.0 (front-kept t x within w i b (omega (arith, ends.0)) here)
+              build u parts.0 (prefix-kept t x within w i b (omega (arith, ends.0)) here)
               (parts-are u _ Anywhere _ (Are u) (MoreAre u) (are u) parts.0 (i + 1) (length u) parts.1))
               ends.1,
         ))

@@ -54,7 +54,7 @@ module _ (OfByte : Kind → Type 0) (late : (k : Kind) → OfByte k → is_end_k
         let r = some c (slice_get_within t i c e) s in
         (r.0, r.1, ap g (same i c r.0 e) ∙ r.2)
 
-  -- one part behind another
+  -- one part after another
   pub then-same : (i : ℕ) (x y : Extent) (f g : ℕ → Extent) → Same i x y → ((j : ℕ) → Same j (f j) (g j))
       → Same i (extent_then x f) (extent_then y g)
   then-same i (taken w j) y f g h all s =
@@ -89,7 +89,7 @@ module _ (OfByte : Kind → Type 0) (late : (k : Kind) → OfByte k → is_end_k
     fault = λ Is k i c lt r s. (s.0, lt, refl);
     run = λ i c lt d. run-taken i lt;
     limit = λ i c lt d other. limit-same i lt;
-    behind = λ Is Then i c x y lt all. later i x y;
+    after = λ Is Then i c x y lt all. later i x y;
     weaker = λ Is Then i x y all h. h;
     joined = λ A B i x y f g none. then-same i x y f g;
   }

@@ -13,11 +13,11 @@ use Rattle.jiter_steps.specs.Blank.{past_blanks}
 use Rattle.jiter_steps.specs.Literal.{start_of}
 use Rattle.jiter_steps.specs.Node.{nesting_limit}
 use Rattle.jiter_steps.specs.Step.{Step, more, closed, stuck, step, object_colon}
-use Rattle.jiter_steps.specs.Read.{Reading, done, fault, Rules, Container, scalar_at, with_key, behind_colon}
-use Rattle.jiter_steps.specs.Read.{behind_key, unless_refused, if_last, to_end, follow, behind_part, parts_at}
+use Rattle.jiter_steps.specs.Read.{Reading, done, fault, Rules, Container, scalar_at, with_key, after_colon}
+use Rattle.jiter_steps.specs.Read.{after_key, unless_refused, if_last, to_end, follow, after_part, parts_at}
 use Rattle.jiter_steps.specs.Read.{container_at, array_of}
-use Rattle.jiter_steps.specs.Read.{object_of, value_with, inside_at, value_at, if_begun, front_answer, whole_answer}
-use Rattle.jiter_steps.specs.declared.parse.Shape.TheVariants as shape
+use Rattle.jiter_steps.specs.Read.{object_of, value_with, inside_at, value_at, if_begun, prefix_answer, whole_answer}
+use Rattle.jiter_steps.specs.declared.parse.ContainerKind.TheVariants as shape
 use Rattle.jiter_steps.specs.declared.parse.Literal.{Literal}
 use Rattle.jiter_steps.specs.declared.parse.Start.{Start}
 use Rattle.jiter_steps.specs.declared.parse.Start.TheVariants as start
@@ -29,7 +29,7 @@ use Rattle.jiter_steps.proofs.Fault.SameStrings.{SameScalar}
 use Rattle.jiter_steps.proofs.Grammar.Blanks.{past_blanks-after}
 use Rattle.jiter_steps.proofs.Reading.Bounds.{Ahead, ExtentAhead, Within, object_colon-ahead}
 use Rattle.jiter_steps.proofs.Reading.Values.{Advances, AllWithin, Goes, array_of-goes}
-use Rattle.jiter_steps.proofs.Reading.Values.{object_of-goes, inside_at-within, part_behind, part-within}
+use Rattle.jiter_steps.proofs.Reading.Values.{object_of-goes, inside_at-within, part_after, part-within}
 use Rattle.jiter_steps.proofs.Reading.Values.{next_part-fault, next_part-done}
 
 -- an end before m, where the text goes on; or a fault of a byte there
@@ -77,7 +77,7 @@ module _ (t u : List ℕ) (m : ℕ) (same : SameBefore t u m) where
   pub record Keeps {P A : Type 0} (c d : Container P A) : Type 0 where
     pub first : (i : ℕ) → SameStep t u m same (ShownStep m) i (step t c.first i) (step u d.first i)
     pub next : (i : ℕ) → SameStep t u m same (ShownStep m) i (step t c.next i) (step u d.next i)
-    pub part : (parts : List P) (i : ℕ) → i < length t → Stays i (part_behind c parts i) (part_behind d parts i)
+    pub part : (parts : List P) (i : ℕ) → i < length t → Stays i (part_after c parts i) (part_after d parts i)
     pub build : (e : ℕ) (ps : List P) → d.build e ps ≡ c.build e ps
 
   module _ {K A : Type 0} (r : Rules K A) (strict : (k : Kind) → r.forgives k ≡ false) where
@@ -86,13 +86,13 @@ module _ (t u : List ℕ) (m : ℕ) (same : SameBefore t u m) where
       abbrev PartsToo : List P → ℕ → Reading A
       PartsToo parts i = parts_at r d u (length u) parts i
 
-      fault-too : (parts : List P) (i : ℕ) → i < length u → (y : Reading P) → part_behind d parts i ≡ y → IsFault y
+      fault-too : (parts : List P) (i : ℕ) → i < length u → (y : Reading P) → part_after d parts i ≡ y → IsFault y
           → IsFault (PartsToo parts i)
       fault-too parts i lt (done p e) is h = absurd h
       fault-too parts i lt (fault k j stop) is h =
           subst IsFault (sym (next_part-fault r u d goes_too i j stop parts k lt is ∙ if-false _ _ _ (strict k))) tt
 
-      -- behind these parts
+      -- after these parts
       next-stays : (go : List P → ℕ → Reading A) (parts : List P) (i : ℕ) (s z : Step)
           → ((j : ℕ) → j < length t → Stays j (go parts j) (PartsToo parts j)) → Ahead t i s
           → (ShownStep m s → (i < m) × (i < length t) × (z ≡ s))
@@ -117,17 +117,17 @@ module _ (t u : List ℕ) (m : ℕ) (same : SameBefore t u m) where
             let at = here shown in
             (at.0, at.1, subst IsFault (sym (ap other at.2 ∙ if-false _ _ _ (strict k))) tt))
 
-      behind_part-stays : (go : List P → ℕ → Reading A)
+      after_part-stays : (go : List P → ℕ → Reading A)
           → ((parts : List P) (j : ℕ) → j < length t → Stays j (go parts j) (PartsToo parts j))
           → (parts : List P) (i : ℕ) → i < length t → (x : Reading P) → Within t i x
-          → Stays i x (part_behind d parts i)
-          → Stays i (behind_part r c t go parts x) (PartsToo parts i)
-      behind_part-stays go all parts i lt (fault k j stop) within stays =
+          → Stays i x (part_after d parts i)
+          → Stays i (after_part r c t go parts x) (PartsToo parts i)
+      after_part-stays go all parts i lt (fault k j stop) within stays =
           subst (λ x. Stays i x (PartsToo parts i)) (sym (if-false _ (done _ stop) _ (strict k)))
           (λ shown.
           let at = stays shown in
-          (at.0, fault-too parts i (within-too t u m same i at.0 lt) (part_behind d parts i) refl at.1))
-      behind_part-stays go all parts i lt (done p e) within stays = λ shown.
+          (at.0, fault-too parts i (within-too t u m same i at.0 lt) (part_after d parts i) refl at.1))
+      after_part-stays go all parts i lt (done p e) within stays = λ shown.
           let more_parts = parts ++ p ∷ [] in
           let s = step t c.next e in
           let z = step u d.next e in
@@ -141,7 +141,7 @@ module _ (t u : List ℕ) (m : ℕ) (same : SameBefore t u m) where
       unfolding parts_at
       parts-stays zero parts i lt = λ shown. absurd (true≢false shown.1.0)
       parts-stays (suc n) parts i lt =
-          behind_part-stays (parts_at r c t n) (parts-stays n) parts i lt (part_behind c parts i)
+          after_part-stays (parts_at r c t n) (parts-stays n) parts i lt (part_after c parts i)
           (part-within r t c goes parts i lt) (keeps.part parts i lt)
 
       container-stays : (i : ℕ) → i < length t → Stays i (container_at r c t i) (container_at r d u i)
@@ -167,18 +167,18 @@ module _ (t u : List ℕ) (m : ℕ) (same : SameBefore t u m) where
     module _ (inner inner_too : ℕ → Reading A) (all : (i : ℕ) → i < length t → Stays i (inner i) (inner_too i)) where
       colon-stays : (key : K) (e : ℕ) (x y : Extent) → ExtentAhead t e 0 x
           → (Shown t m x → (e < m) × (e < length t) × (y ≡ x))
-          → StaysAhead e (behind_colon key inner x) (behind_colon key inner_too y)
+          → StaysAhead e (after_colon key inner x) (after_colon key inner_too y)
       colon-stays key e (taken w j) y ahead here = λ shown.
           let lt : j < length t = omega (arith, ahead.1) in
           let value = keyed-stays key j (inner j) (inner_too j) (all j lt) shown in
           let at = here (value.0, lt) in
-          (at.0, at.1, subst (λ y. Meets (with_key key (inner j)) (behind_colon key inner_too y)) (sym at.2) value.1)
+          (at.0, at.1, subst (λ y. Meets (with_key key (inner j)) (after_colon key inner_too y)) (sym at.2) value.1)
       colon-stays key e (failed k j) y ahead here = λ shown.
           let at = here shown in
-          (at.0, at.1, subst (λ y. IsFault (behind_colon key inner_too y)) (sym at.2) tt)
+          (at.0, at.1, subst (λ y. IsFault (after_colon key inner_too y)) (sym at.2) tt)
 
       key-stays : (i : ℕ) (x y : Scanned K) → ScalarWithin t i x → SameScalar t m i x y
-          → Stays i (behind_key inner t i x) (behind_key inner_too u i y)
+          → Stays i (after_key inner t i x) (after_key inner_too u i y)
       key-stays i (failed k j) (taken key e) within here = λ shown. absurd (here shown).1
       key-stays i (failed k j) (failed l x) within here = here
       key-stays i (taken key e) y within here = λ shown.
@@ -187,7 +187,7 @@ module _ (t u : List ℕ) (m : ℕ) (same : SameBefore t u m) where
           let ahead = object_colon-ahead t e within.1 in
           let rest = colon-stays key e x z ahead (object_colon-same t u m same e) shown in
           let at = here (rest.0, rest.1) in
-          (at.0, subst (λ y. Meets (behind_colon key inner x) (behind_key inner_too u i y)) (sym at.1) rest.2)
+          (at.0, subst (λ y. Meets (after_colon key inner x) (after_key inner_too u i y)) (sym at.1) rest.2)
 
     -- values
     module _ (good : Advances r t) (good_too : Advances r u) (kept : KeepsScalars r t u m) where
@@ -209,7 +209,7 @@ module _ (t u : List ℕ) (m : ℕ) (same : SameBefore t u m) where
 
         -- a member that is read begins its value at a byte of the text
         value-here : (ms : List (K × A)) (j e b : ℕ) (k : K) (p : K × A) → j < length t → r.key t j ≡ taken k e
-            → (x : Extent) → object_colon t e ≡ x → ExtentAhead t e 0 x → behind_colon k inner x ≡ done p b → b < m
+            → (x : Extent) → object_colon t e ≡ x → ExtentAhead t e 0 x → after_colon k inner x ≡ done p b → b < m
             → r.refuses ms t j ≡ None → r.refuses ms u j ≡ None
         value-here ms j e b k p lt key (failed kind v) colon ahead is before free = absurd (cc)
         value-here ms j e b k p lt key (taken w v) colon ahead is before free =
@@ -221,7 +221,7 @@ module _ (t u : List ℕ) (m : ℕ) (same : SameBefore t u m) where
               by (fault kind q stop) far same = absurd (cc)
 
         free-stays : (ms : List (K × A)) (j b : ℕ) (p : K × A) → j < length t → (x : Scanned K) → r.key t j ≡ x
-            → ScalarWithin t j x → behind_key inner t j x ≡ done p b → b < m → r.refuses ms t j ≡ None
+            → ScalarWithin t j x → after_key inner t j x ≡ done p b → b < m → r.refuses ms t j ≡ None
             → r.refuses ms u j ≡ None
         free-stays ms j b p lt (taken k e) key far is before free =
             value-here ms j e b k p lt key (object_colon t e) refl (object_colon-ahead t e far.1) is before free
@@ -242,7 +242,7 @@ module _ (t u : List ℕ) (m : ℕ) (same : SameBefore t u m) where
             let at = stays shown in (at.0, fault-either (r.refuses ms u j) (other_part j) at.1)
 
         member-stays : (ms : List (K × A)) (j : ℕ) → j < length t
-            → Stays j (part_behind (object_of r inner t i) ms j) (part_behind (object_of r inner_too u i) ms j)
+            → Stays j (part_after (object_of r inner t i) ms j) (part_after (object_of r inner_too u i) ms j)
         member-stays ms j lt = by (r.refuses ms t j) refl where
           by : (o : Option (Kind × ℕ)) → r.refuses ms t j ≡ o
               → Stays j (unless_refused o (here_part j)) (unless_refused (r.refuses ms u j) (other_part j))
@@ -297,11 +297,11 @@ module _ (t u : List ℕ) (m : ℕ) (same : SameBefore t u m) where
           (inside_at-within r u good_too levels) (inside-stays levels)
 
       -- whole texts
-      front-stays : (i : ℕ) (o : Option ℕ) → past_blanks t 0 ≡ i → slice_get t i ≡ o
-          → Stays i (if_begun r t i o) (front_answer r u)
-      unfolding front_answer
-      front-stays i None at here = λ shown. absurd (true≢false shown.1.0)
-      front-stays i (Some c) at here = λ shown.
+      prefix-stays : (i : ℕ) (o : Option ℕ) → past_blanks t 0 ≡ i → slice_get t i ≡ o
+          → Stays i (if_begun r t i o) (prefix_answer r u)
+      unfolding prefix_answer
+      prefix-stays i None at here = λ shown. absurd (true≢false shown.1.0)
+      prefix-stays i (Some c) at here = λ shown.
           let v = value_at-stays nesting_limit i (slice_get_within t i c here) shown in
           let place = past_blanks-same t u m same 0 i c at here v.0 in
           let begun = ap (λ j. if_begun r u j (slice_get u j)) place ∙ ap (if_begun r u i) (same i c v.0 here) in
@@ -312,7 +312,7 @@ module _ (t u : List ℕ) (m : ℕ) (same : SameBefore t u m) where
           → IsFault (to_end u y)
       trailing-fault a e y all j None at here shown = absurd shown
       trailing-fault a e y all j (Some c) at here shown =
-          let after = past_blanks-after t e in
+          let later = past_blanks-after t e in
           let lt = slice_get_within t j c here in
           let is = all (omega (arith, shown.0), omega arith) in
           let place = past_blanks-same t u m same e j c at here shown.0 in
@@ -328,7 +328,7 @@ module _ (t u : List ℕ) (m : ℕ) (same : SameBefore t u m) where
 
       -- A fault of a byte before m is a fault in the other text.
       pub whole_answer-stays : ShownFault m (whole_answer r t) → IsFault (whole_answer r u)
-      unfolding whole_answer front_answer
+      unfolding whole_answer prefix_answer
       whole_answer-stays =
-          end-stays (front_answer r t) (front_answer r u)
-          (λ shown. (front-stays (past_blanks t 0) (slice_get t (past_blanks t 0)) refl refl shown).1)
+          end-stays (prefix_answer r t) (prefix_answer r u)
+          (λ shown. (prefix-stays (past_blanks t 0) (slice_get t (past_blanks t 0)) refl refl shown).1)

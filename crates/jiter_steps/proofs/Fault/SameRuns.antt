@@ -8,7 +8,7 @@ use Rattle.jiter_scan.specs.Kind.{Kind, is_end_kind, invalid_code_point}
 use Rattle.jiter_scan.specs.Scan.{run_end}
 use Rattle.jiter_scan.proofs.Runs.{run_end-ahead, run_end-within, run_end-passes, run_end-stops}
 use Rattle.jiter_steps.specs.Blank.{past_blanks, IsBlank}
-use Rattle.jiter_steps.proofs.Grammar.Blanks.{past_blanks-after, blank-passed, passed-blank, no_blank-behind}
+use Rattle.jiter_steps.proofs.Grammar.Blanks.{past_blanks-after, blank-passed, passed-blank, no_blank-after}
 use Rattle.jiter_steps.proofs.Fault.SameSpelling.{SameBefore, here-too, index-same, blanks-too}
 
 -- a fault of a byte at its index, or before it: the input goes on, and its UTF-8 is not in question
@@ -46,11 +46,11 @@ module _ (t u : List ℕ) (m : ℕ) (same : SameBefore t u m) where
         let ahead = run_end-ahead test t i in
         let long = run-long test i (e - i) (omega arith) (omega arith) (omega arith) in omega arith
 
-  -- blanks, and the byte behind them
+  -- blanks, and the byte after them
   pub past_blanks-same : (i j c : ℕ) → past_blanks t i ≡ j → slice_get t j ≡ Some c → j < m → past_blanks u i ≡ j
   past_blanks-same i j c is here le =
       let lt = slice_get_within t j c here in
       let ahead = past_blanks-after t i in
       let blanks = subst (IsBlank t i) is (passed-blank t i (omega arith)) in
-      let other = no_blank-behind t i (Some c) (ap (slice_get t) is ∙ here) in
+      let other = no_blank-after t i (Some c) (ap (slice_get t) is ∙ here) in
       blank-passed u i j c (blanks-too t u m same i j (omega arith) blanks) (same j c le here) other

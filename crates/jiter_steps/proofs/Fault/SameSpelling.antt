@@ -9,7 +9,7 @@ use Rattle.jiter_steps.specs.Blank.{IsBlankByte, IsBlank}
 use Rattle.jiter_steps.specs.Literal.{word_of}
 use Rattle.jiter_steps.specs.Node as grammar
 use Rattle.jiter_steps.specs.Node.{Key, Node, Nodes, no_nodes, node, NodeMembers, no_members, member, begin, end}
-use Rattle.jiter_steps.specs.Node.{StandsBehind, SpellsNumber, SpellsKey, Spells, SpellsItems, SpellsMoreItems}
+use Rattle.jiter_steps.specs.Node.{StandsAfter, SpellsNumber, SpellsKey, Spells, SpellsItems, SpellsMoreItems}
 use Rattle.jiter_steps.specs.Node.{SpellsMembers, SpellsMoreMembers, nesting_round, nesting_round_members}
 use Rattle.jiter_steps.specs.Piece.{Piece, SpellsPieces, SpellsString}
 use Rattle.jiter_steps.proofs.Grammar.SpelledParts.{nodes_list, members_list, items-order, members-order, order-ahead}
@@ -39,14 +39,14 @@ module _ (t u : List ℕ) (k : ℕ) (same : SameBefore t u k) where
   pub stands-too : (i j : ℕ) (w : List ℕ) → j ≤ k → Stands t i j w → Stands u i j w
   stands-too i j [] le h = h
   stands-too i j (c ∷ w) le h =
-      let after = stands-length t (i + 1) j w h.1 in
+      let later = stands-length t (i + 1) j w h.1 in
       (same i c (omega arith) h.0, stands-too (i + 1) j w le h.1)
 
   pub range-same : (i j : ℕ) → i ≤ j → j ≤ k → j ≤ length t → slice_range u i j ≡ slice_range t i j
   range-same i j le lk h =
       sym (slice-stands u i j (slice_range t i j) (stands-too i j (slice_range t i j) lk (stands-slice t i j le h)))
 
-  -- blanks, and a byte behind them
+  -- blanks, and a byte after them
   pub blanks-too : (i j : ℕ) → j ≤ k → IsBlank t i j → IsBlank u i j
   blanks-too i j le b = record {
     ordered = b.ordered;
@@ -55,8 +55,8 @@ module _ (t u : List ℕ) (k : ℕ) (same : SameBefore t u k) where
         subst IsBlankByte (sym (index-same m (omega arith) (omega (arith, b.within)))) (b.each m l h);
   }
 
-  pub behind-too : (i c e : ℕ) → e ≤ k → StandsBehind t i c e → StandsBehind u i c e
-  behind-too i c e le h = record {
+  pub after-too : (i c e : ℕ) → e ≤ k → StandsAfter t i c e → StandsAfter u i c e
+  after-too i c e le h = record {
     at = h.at;
     blanks = blanks-too i h.at (omega (arith, h.ends)) h.blanks;
     here = same h.at c (omega (arith, h.ends)) h.here;
@@ -74,13 +74,13 @@ module _ (t u : List ℕ) (k : ℕ) (same : SameBefore t u k) where
   pieces-too : (ps : List Piece) (i e : ℕ) → e ≤ k → SpellsPieces t i ps e → SpellsPieces u i ps e
   pieces-too [] i e le h = h
   pieces-too (p ∷ ps) i e le h =
-      let after = pieces-ahead t ps p.end e h.1 in
+      let later = pieces-ahead t ps p.end e h.1 in
       let stands = stands-too i p.end h.0.bytes (omega arith) h.0.stands in
       (record { bytes = h.0.bytes; stands = stands; piece = h.0.piece }, pieces-too ps p.end e le h.1)
 
   pub string-too : (i e : ℕ) (ps : List Piece) → e ≤ k → SpellsString t i ps e → SpellsString u i ps e
   string-too i e ps le h =
-      let after = pieces-ahead t ps (i + 1) h.close h.spelled in
+      let later = pieces-ahead t ps (i + 1) h.close h.spelled in
       record {
         opens = same i 34 (omega (arith, h.ends)) h.opens;
         close = h.close;
@@ -93,11 +93,11 @@ module _ (t u : List ℕ) (k : ℕ) (same : SameBefore t u k) where
   pub key-too : (key : Key) (j : ℕ) → j ≤ k → SpellsKey t key j → SpellsKey u key j
   key-too key j le h =
       let colon = h.blanks.ordered in
-      let string_ends = h.behind.blanks.ordered in
+      let string_ends = h.after.blanks.ordered in
       record {
-        string = string-too key.begin key.end key.pieces (omega (arith, h.behind.ends)) h.string;
+        string = string-too key.begin key.end key.pieces (omega (arith, h.after.ends)) h.string;
         colon = h.colon;
-        behind = behind-too key.end 58 h.colon (omega arith) h.behind;
+        after = after-too key.end 58 h.colon (omega arith) h.after;
         blanks = blanks-too h.colon j le h.blanks;
       }
 
@@ -131,26 +131,26 @@ module _ (names : Bool) (t u : List ℕ) (k : ℕ) (same : SameBefore t u k) whe
         (same b 123 (omega arith) h.0, members-too ms (b + 1) e le h.1)
 
     items-too : (ns : Nodes) (i e : ℕ) → e ≤ k → SpellsItems names t i ns e → SpellsItems names u i ns e
-    items-too no_nodes i e le h = behind-too t u k same i 93 e le h
+    items-too no_nodes i e le h = after-too t u k same i 93 e le h
     items-too (node n ns) i e le h =
-        let after = items-after names t n ns i e h in
+        let later = items-after names t n ns i e h in
         let ahead = node-ahead names t n h.1 in
         let blanks = blanks-too t u k same i (begin n) (omega arith) h.0 in
         (blanks, spells-too n (omega arith) h.1, more_items-too ns (end n) e le h.2)
 
     more_items-too : (ns : Nodes) (i e : ℕ) → e ≤ k → SpellsMoreItems names t i ns e → SpellsMoreItems names u i ns e
-    more_items-too no_nodes i e le h = behind-too t u k same i 93 e le h
+    more_items-too no_nodes i e le h = after-too t u k same i 93 e le h
     more_items-too (node n ns) i e le h =
-        let after = items-after names t n ns h.0 e (h.2, h.3, h.4) in
+        let later = items-after names t n ns h.0 e (h.2, h.3, h.4) in
         let ahead = node-ahead names t n h.3 in
         let blanks = blanks-too t u k same h.0 (begin n) (omega arith) h.2 in
-        let comma = behind-too t u k same i 44 h.0 (omega (arith, h.2.ordered)) h.1 in
+        let comma = after-too t u k same i 44 h.0 (omega (arith, h.2.ordered)) h.1 in
         (h.0, comma, blanks, spells-too n (omega arith) h.3, more_items-too ns (end n) e le h.4)
 
     members-too : (ms : NodeMembers) (i e : ℕ) → e ≤ k → SpellsMembers names t i ms e → SpellsMembers names u i ms e
-    members-too no_members i e le h = behind-too t u k same i 125 e le h
+    members-too no_members i e le h = after-too t u k same i 125 e le h
     members-too (member key n ms) i e le h =
-        let after = members-after names t key n ms i e h in
+        let later = members-after names t key n ms i e h in
         let ahead = node-ahead names t n h.2 in
         let from_key = key-ahead names t key (begin n) h.1 in
         let blanks = blanks-too t u k same i key.begin (omega arith) h.0 in
@@ -159,12 +159,12 @@ module _ (names : Bool) (t u : List ℕ) (k : ℕ) (same : SameBefore t u k) whe
 
     more_members-too : (ms : NodeMembers) (i e : ℕ) → e ≤ k → SpellsMoreMembers names t i ms e
         → SpellsMoreMembers names u i ms e
-    more_members-too no_members i e le h = behind-too t u k same i 125 e le h
+    more_members-too no_members i e le h = after-too t u k same i 125 e le h
     more_members-too (member key n ms) i e le h =
-        let after = members-after names t key n ms h.0 e (h.2, h.3, h.4, h.5) in
+        let later = members-after names t key n ms h.0 e (h.2, h.3, h.4, h.5) in
         let ahead = node-ahead names t n h.4 in
         let from_key = key-ahead names t key (begin n) h.3 in
         let blanks = blanks-too t u k same h.0 key.begin (omega arith) h.2 in
-        let comma = behind-too t u k same i 44 h.0 (omega (arith, h.2.ordered)) h.1 in
+        let comma = after-too t u k same i 44 h.0 (omega (arith, h.2.ordered)) h.1 in
         let spelled_key = key-too t u k same key (begin n) (omega arith) h.3 in
         (h.0, comma, blanks, spelled_key, spells-too n (omega arith) h.4, more_members-too ms (end n) e le h.5)

@@ -7,7 +7,7 @@ use Rattle.jiter_scan.specs.Word.{Extent}
 use Rattle.jiter_steps.specs.Blank.{past_blanks}
 use Rattle.jiter_steps.specs.Step.{Step, more, closed, stuck, step, closer_of, begins_part, end_kind_of}
 use Rattle.jiter_steps.specs.Step.{container_first, container_comma, container_step, colon, value_first, object_colon}
-use Rattle.jiter_steps.specs.declared.parse.Shape.{Shape}
+use Rattle.jiter_steps.specs.declared.parse.ContainerKind.{ContainerKind}
 use Rattle.jiter_steps.proofs.Fault.SameSpelling.{SameBefore}
 use Rattle.jiter_steps.proofs.Fault.SameRuns.{IsOfByte, past_blanks-same}
 use Rattle.jiter_steps.proofs.Fault.SameNumbers.{Shown, late-byte, then-same}
@@ -26,7 +26,7 @@ module _ (t u : List ℕ) (m : ℕ) (same : SameBefore t u m) where
   abbrev pub SameStep : {A : Type 0} → (A → Type 0) → ℕ → A → A → Type 0
   SameStep ShownOf i x y = ShownOf x → (i < m) × (i < length t) × (y ≡ x)
 
-  -- so at the byte behind the blanks
+  -- so at the byte after the blanks
   abbrev SameHere : {A : Type 0} → (A → Type 0) → ℕ → A → A → Type 0
   SameHere ShownOf j x y = ShownOf x → (j < m) × (y ≡ x)
 
@@ -38,7 +38,7 @@ module _ (t u : List ℕ) (m : ℕ) (same : SameBefore t u m) where
     by None e s = absurd (none (past_blanks t i) s)
     by (Some c) e s =
         let lt = slice_get_within t (past_blanks t i) c e in
-        let after = past_blanks-after t i in
+        let later = past_blanks-after t i in
         let r = some (past_blanks t i) c lt s in
         let place = past_blanks-same t u m same i (past_blanks t i) c refl e r.0 in (
           omega (arith, r.0),
@@ -56,25 +56,25 @@ module _ (t u : List ℕ) (m : ℕ) (same : SameBefore t u m) where
   abbrev At : ℕ → Step → Type 0
   At j s = ShownStep m s → j < m
 
-  module _ (b : Shape) where
+  module _ (b : ContainerKind) where
     end-shown : (j : ℕ) → ShownStep m (stuck (end_kind_of b) j) → ⊥
     end-shown j s = true≢false (sym (end_kind-early b) ∙ s.1.0)
 
-    -- behind the opening bracket
+    -- after the opening bracket
     pub first-same : (i : ℕ) → SameStep (ShownStep m) i (step t (container_first b) i) (step u (container_first b) i)
     first-same =
         row-same (ShownStep m) (container_first b) end-shown
         (λ j c. either (At j) (begins_part b c) _ _ (λ s. s)
         (either (At j) (c == closer_of b) _ _ (λ s. omega arith) (λ s. s.0)))
 
-    -- behind a comma
+    -- after a comma
     comma-same : (i : ℕ) → SameStep (ShownStep m) i (step t (container_comma b) i) (step u (container_comma b) i)
     comma-same =
         row-same (ShownStep m) (container_comma b) (λ j s. true≢false s.1.0)
         (λ j c. either (At j) (begins_part b c) _ _ (λ s. s)
         (either (At j) (c == closer_of b) _ _ (λ s. s.0) (λ s. s.0)))
 
-    -- behind a part
+    -- after a part
     part-same : (j c : ℕ) → SameHere (ShownStep m) j (container_step b t j (Some c)) (container_step b u j (Some c))
     part-same j c =
         both (SameHere (ShownStep m) j) (c == closer_of b) _ _ _ _ (λ s. (omega arith, refl))
@@ -85,7 +85,7 @@ module _ (t u : List ℕ) (m : ℕ) (same : SameBefore t u m) where
         → SameStep (ShownStep m) i (step t (container_step b t) i) (step u (container_step b u) i)
     next-same = step-same (ShownStep m) (container_step b t) (container_step b u) end-shown (λ j c lt. part-same j c)
 
-  -- behind keys
+  -- after keys
   colon-same : (i : ℕ) → SameStep (Shown t m) i (step t colon i) (step u colon i)
   colon-same =
       row-same (Shown t m) colon (λ j s. true≢false s.1.0)

@@ -10,18 +10,18 @@ use Rattle.jiter_scan.specs.Kind.{Kind, invalid_escape, lone_surrogate, end_of_h
 use Rattle.jiter_scan.specs.Scanned.{Scanned, taken, failed}
 use Rattle.jiter_scan.proofs.Choices.{if_case, if-true, if-false}
 use Rattle.jiter_steps.specs.Escape.{short_escape, is_hex, unit_of, is_high, is_low, pair_of}
-use Rattle.jiter_steps.specs.StringReading.{Stop, closed, unclosed, cut, wrong, Portion, part, over, bad_digit, unit_at}
-use Rattle.jiter_steps.specs.StringReading.{HexDigits, few, hex_digits_or, hex_digits_at, behind, unit_then}
-use Rattle.jiter_steps.specs.StringReading.{surrogate_pair, behind_high_backslash, behind_high, single}
-use Rattle.jiter_steps.specs.StringReading.{unicode_escape, short, behind_backslash, plain, portion_by, portion_at}
+use Rattle.jiter_steps.specs.StringReading.{Stop, closed, unclosed, cut, wrong, Event, part, over, bad_digit, unit_at}
+use Rattle.jiter_steps.specs.StringReading.{HexDigits, few, hex_digits_or, hex_digits_at, after, unit_then}
+use Rattle.jiter_steps.specs.StringReading.{surrogate_pair, after_high_backslash, after_high, single}
+use Rattle.jiter_steps.specs.StringReading.{unicode_escape, short, after_backslash, plain, event_by, event_at}
 use Rattle.jiter_steps.specs.StringReading.{Body}
 use Rattle.jiter_steps.specs.StringReading.{before, join, body_at, whole, text_in_form, content_at, string_at}
 use Rattle.jiter_steps.proofs.Fault.SameSpelling.{SameBefore, index-same}
 use Rattle.jiter_steps.proofs.Reading.Bounds.{both}
 use Rattle.jiter_steps.proofs.Fault.SameRuns.{within-too}
 use Rattle.jiter_steps.proofs.Fault.SameNumbers.{Shown}
-use Rattle.jiter_steps.proofs.Reading.Bodies.{part-ahead, body_at-is, body_at-portion_by, portion_by-end}
-use Rattle.jiter_steps.proofs.Grammar.Places.{Explains, portion_at-explains}
+use Rattle.jiter_steps.proofs.Reading.Bodies.{part-ahead, body_at-is, body_at-event_by, event_by-end}
+use Rattle.jiter_steps.proofs.Grammar.Places.{Explains, event_at-explains}
 
 -- a part or a quote that ends before m, or a fault of a place there
 abbrev ShownStop : ℕ → Stop → Type 0
@@ -29,7 +29,7 @@ ShownStop m (closed e) = e < m
 ShownStop m (wrong k j) = j < m
 ShownStop m s = ⊥
 
-abbrev ShownFound : ℕ → Portion → Type 0
+abbrev ShownFound : ℕ → Event → Type 0
 ShownFound m (part bytes owned e) = e < m
 ShownFound m (over s) = ShownStop m s
 
@@ -37,27 +37,27 @@ abbrev IsWrong : Stop → Type 0
 IsWrong (wrong k j) = Unit {0}
 IsWrong s = ⊥
 
--- the same is portion_by; or, where a fault is portion_by, that the text ends within the escape
-abbrev Finds : Portion → Portion → Type 0
+-- the same is event_by; or, where a fault is event_by, that the text ends within the escape
+abbrev Finds : Event → Event → Type 0
 Finds (part bytes owned e) g = g ≡ part bytes owned e
 Finds (over s) g = (g ≡ over s) ⊎ (IsWrong s × (g ≡ over cut))
 
-finds-itself : (f : Portion) → Finds f f
+finds-itself : (f : Event) → Finds f f
 finds-itself (part bytes owned e) = refl
 finds-itself (over s) = inl refl
 
 -- what is shown of f, which looks at each byte before i, is what g finds
-abbrev Same : ℕ → ℕ → Portion → Portion → Type 0
+abbrev Same : ℕ → ℕ → Event → Event → Type 0
 Same m i f g = ShownFound m f → (i ≤ m) × Finds f g
 
 module _ (m : ℕ) where
-  still : (i : ℕ) (f : Portion) → (ShownFound m f → i ≤ m) → Same m i f f
+  still : (i : ℕ) (f : Event) → (ShownFound m f → i ≤ m) → Same m i f f
   still i f h s = (h s, finds-itself f)
 
-  earlier : (i j : ℕ) (f g : Portion) → i ≤ j → Same m j f g → Same m i f g
+  earlier : (i j : ℕ) (f g : Event) → i ≤ j → Same m j f g → Same m i f g
   earlier i j f g le h s = let r = h s in (omega (arith, r.0), r.1)
 
-  -- finds that end at j, and faults at or behind j - 1
+  -- finds that end at j, and faults at or after j - 1
   part-still : (bytes : List ℕ) (owned : Bool) (j : ℕ) → Same m j (part bytes owned j) (part bytes owned j)
   part-still bytes owned j = still j (part bytes owned j) (λ s. omega arith)
 
@@ -86,7 +86,7 @@ module _ (m : ℕ) where
 
 module _ (t u : List ℕ) (m : ℕ) (same : SameBefore t u m) where
   -- what a byte decides
-  byte-same : (f g : Option ℕ → Portion) (i : ℕ) → (ShownFound m (f None) → ⊥)
+  byte-same : (f g : Option ℕ → Event) (i : ℕ) → (ShownFound m (f None) → ⊥)
       → ((c : ℕ) → Same m (i + 1) (f (Some c)) (g (Some c))) → Same m (i + 1) (f (slice_get t i)) (g (slice_get u i))
   byte-same f g i none some = by (slice_get t i) refl where
     by : (o : Option ℕ) → slice_get t i ≡ o → Same m (i + 1) (f o) (g (slice_get u i))
@@ -139,64 +139,64 @@ module _ (t u : List ℕ) (m : ℕ) (same : SameBefore t u m) where
       hex-read i (omega arith) ∙ (λ k. digits_of i (a k) (b k) (c k) (d k))
 
   -- a byte that is no digit, or a text that ends before the fourth
-  bad-portion_by : (i k : ℕ) (next : ℕ → Portion) → bad_digit u i ≡ Some k
-      → Finds (over (wrong invalid_escape k)) (behind next (hex_digits_at u i))
-  bad-portion_by i k next e =
-      if_case (λ d. Finds (over (wrong invalid_escape k)) (behind next d)) (nat_lt (length u) (i + 4)) _ _
-      (λ q. inr (tt, refl)) (λ q. inl (ap (λ x. behind next (hex_digits_or x (unit_at u i))) e))
+  bad-event_by : (i k : ℕ) (next : ℕ → Event) → bad_digit u i ≡ Some k
+      → Finds (over (wrong invalid_escape k)) (after next (hex_digits_at u i))
+  bad-event_by i k next e =
+      if_case (λ d. Finds (over (wrong invalid_escape k)) (after next d)) (nat_lt (length u) (i + 4)) _ _
+      (λ q. inr (tt, refl)) (λ q. inl (ap (λ x. after next (hex_digits_or x (unit_at u i))) e))
 
-  unit-same : (i : ℕ) (f g : ℕ → ℕ → Portion) → ((x : ℕ) → Same m (i + 4) (f (i + 4) x) (g (i + 4) x))
+  unit-same : (i : ℕ) (f g : ℕ → ℕ → Event) → ((x : ℕ) → Same m (i + 4) (f (i + 4) x) (g (i + 4) x))
       → Same m i (unit_then t i f) (unit_then u i g)
   unit-same i f g all =
-      if_case (λ d. Same m i (behind (f (i + 4)) d) (unit_then u i g)) (nat_lt (length t) (i + 4)) _ _
+      if_case (λ d. Same m i (after (f (i + 4)) d) (unit_then u i g)) (nat_lt (length t) (i + 4)) _ _
       (λ e s. absurd s) (λ e. by (ltb-false (length t) (i + 4) e) (bad_digit t i) refl) where
         by : i + 4 ≤ length t → (o : Option ℕ) → bad_digit t i ≡ o
-            → Same m i (behind (f (i + 4)) (hex_digits_or o (unit_at t i))) (unit_then u i g)
+            → Same m i (after (f (i + 4)) (hex_digits_or o (unit_at t i))) (unit_then u i g)
         by within None e s =
             let r = all (unit_at t i) s in
             let digits = good-same i within r.0 ∙ ap (λ x. hex_digits_or x (unit_at t i)) e in
-            (omega (arith, r.0), subst (λ d. Finds (f (i + 4) (unit_at t i)) (behind (g (i + 4)) d)) (sym digits) r.1)
+            (omega (arith, r.0), subst (λ d. Finds (f (i + 4) (unit_at t i)) (after (g (i + 4)) d)) (sym digits) r.1)
         by within (Some k) e s =
             let r = bad-same i within k s e in
-            (omega (arith, r.0, s), bad-portion_by i k (g (i + 4)) r.1)
+            (omega (arith, r.0, s), bad-event_by i k (g (i + 4)) r.1)
 
   -- escapes
-  behind_high_backslash-same : (high i : ℕ)
-      → Same m (i + 1) (behind_high_backslash t high i (slice_get t i)) (behind_high_backslash u high i (slice_get u i))
-  behind_high_backslash-same high i =
-      byte-same (behind_high_backslash t high i) (behind_high_backslash u high i) i (λ s. s)
+  after_high_backslash-same : (high i : ℕ)
+      → Same m (i + 1) (after_high_backslash t high i (slice_get t i)) (after_high_backslash u high i (slice_get u i))
+  after_high_backslash-same high i =
+      byte-same (after_high_backslash t high i) (after_high_backslash u high i) i (λ s. s)
       (λ c. both (Same m (i + 1)) (c == 117) _ _ _ _
       (unit-same (i + 1) (surrogate_pair high) (surrogate_pair high) (surrogate_pair-same m high (i + 1 + 4)))
       (wrong-still m end_of_hex_escape i (i + 1) (omega arith)))
 
-  behind_high-same : (high i : ℕ)
-      → Same m (i + 1) (behind_high t high i (slice_get t i)) (behind_high u high i (slice_get u i))
-  behind_high-same high i =
-      byte-same (behind_high t high i) (behind_high u high i) i (λ s. s)
+  after_high-same : (high i : ℕ)
+      → Same m (i + 1) (after_high t high i (slice_get t i)) (after_high u high i (slice_get u i))
+  after_high-same high i =
+      byte-same (after_high t high i) (after_high u high i) i (λ s. s)
       (λ c. both (Same m (i + 1)) (c == 92) _ _ _ _
-      (earlier m (i + 1) (i + 1 + 1) _ _ (omega arith) (behind_high_backslash-same high (i + 1)))
+      (earlier m (i + 1) (i + 1 + 1) _ _ (omega arith) (after_high_backslash-same high (i + 1)))
       (wrong-still m end_of_hex_escape i (i + 1) (omega arith)))
 
   unicode_escape-same : (j x : ℕ) → Same m j (unicode_escape t j x) (unicode_escape u j x)
   unicode_escape-same j x =
-      both (Same m j) (is_high x) _ _ _ _ (earlier m j (j + 1) _ _ (omega arith) (behind_high-same x j))
+      both (Same m j) (is_high x) _ _ _ _ (earlier m j (j + 1) _ _ (omega arith) (after_high-same x j))
       (single-same m j x)
 
-  behind_backslash-same : (i : ℕ)
-      → Same m (i + 1) (behind_backslash t i (slice_get t i)) (behind_backslash u i (slice_get u i))
-  behind_backslash-same i =
-      byte-same (behind_backslash t i) (behind_backslash u i) i (λ s. s)
+  after_backslash-same : (i : ℕ)
+      → Same m (i + 1) (after_backslash t i (slice_get t i)) (after_backslash u i (slice_get u i))
+  after_backslash-same i =
+      byte-same (after_backslash t i) (after_backslash u i) i (λ s. s)
       (λ c. both (Same m (i + 1)) (c == 117) _ _ _ _
       (unit-same (i + 1) (unicode_escape t) (unicode_escape u) (unicode_escape-same (i + 1 + 4)))
       (short-same m i (short_escape c)))
 
-  portion_by-same : (i : ℕ) → Same m (i + 1) (portion_at t i) (portion_at u i)
-  unfolding portion_at
-  portion_by-same i =
-      byte-same (portion_by t i) (portion_by u i) i (λ s. s)
+  event_by-same : (i : ℕ) → Same m (i + 1) (event_at t i) (event_at u i)
+  unfolding event_at
+  event_by-same i =
+      byte-same (event_by t i) (event_by u i) i (λ s. s)
       (λ c. both (Same m (i + 1)) (c == 34) _ _ _ _ (still m (i + 1) (over (closed (i + 1))) (λ s. omega arith))
       (both (Same m (i + 1)) (c == 92) _ _ _ _
-      (earlier m (i + 1) (i + 1 + 1) _ _ (omega arith) (behind_backslash-same (i + 1))) (plain-same m i c)))
+      (earlier m (i + 1) (i + 1 + 1) _ _ (omega arith) (after_backslash-same (i + 1))) (plain-same m i c)))
 
   -- bodies
   abbrev Ends : Body → Body → Type 0
@@ -211,29 +211,29 @@ module _ (t u : List ℕ) (m : ℕ) (same : SameBefore t u m) where
   join-ends bytes owned b d (inl e) = inl (ap (before bytes owned) e)
   join-ends bytes owned b d (inr h) = inr h
 
-  -- where what is portion_by is over, so is the body
-  over-ends : (i : ℕ) (s : Stop) → Finds (over s) (portion_at u i) → Ends (join (body_at t) (over s)) (body_at u i)
-  over-ends i s (inl e) = inl (body_at-portion_by u i (over s) e)
-  over-ends i s (inr h) = inr (h.0, ap (λ (b : Body). b.stop) (body_at-portion_by u i (over cut) h.1))
+  -- where what is event_by is over, so is the body
+  over-ends : (i : ℕ) (s : Stop) → Finds (over s) (event_at u i) → Ends (join (body_at t) (over s)) (body_at u i)
+  over-ends i s (inl e) = inl (body_at-event_by u i (over s) e)
+  over-ends i s (inr h) = inr (h.0, ap (λ (b : Body). b.stop) (body_at-event_by u i (over cut) h.1))
 
   body-join : (n i : ℕ) → ((j : ℕ) → length t ≤ n + j → SameBody j (body_at t j)) → length t ≤ suc n + i
-      → (f : Portion) → Explains t i f → Same m (i + 1) f (portion_at u i) → SameBody i (join (body_at t) f)
+      → (f : Event) → Explains t i f → Same m (i + 1) f (event_at u i) → SameBody i (join (body_at t) f)
   body-join n i go le (over s) x h shown = let r = h shown in (omega (arith, r.0), over-ends i s r.1)
   body-join n i go le (part bytes owned j) x h shown =
       let ahead = part-ahead t i j bytes owned x in
       let rest = go j (omega arith) shown in
       let here = h rest.0 in
-      let is = body_at-portion_by u i (part bytes owned j) here.1 in
+      let is = body_at-event_by u i (part bytes owned j) here.1 in
       let ends = join-ends bytes owned (body_at t j) (body_at u j) rest.1 in
       (omega (arith, here.0), subst (Ends (before bytes owned (body_at t j))) (sym is) ends)
 
   body-within : (n i : ℕ) → length t ≤ n + i → SameBody i (body_at t i)
   body-within zero i le =
-      let over_at = body_at-portion_by t i (over unclosed) (portion_by-end t i (omega arith)) in
+      let over_at = body_at-event_by t i (over unclosed) (event_by-end t i (omega arith)) in
       subst (SameBody i) (sym over_at) (λ shown. absurd shown)
   body-within (suc n) i le =
       subst (SameBody i) (sym (body_at-is t i))
-      (body-join n i (body-within n) le (portion_at t i) (portion_at-explains t i) (portion_by-same i))
+      (body-join n i (body-within n) le (event_at t i) (event_at-explains t i) (event_by-same i))
 
   body-same : (i : ℕ) → SameBody i (body_at t i)
   body-same i = body-within (length t) i (omega arith)

@@ -1,15 +1,15 @@
--- Where a step between the parts of a container is stuck: behind blanks, perhaps with a comma before them.
+-- Where a step between the parts of a container is stuck: after blanks, perhaps with a comma before them.
 use Rattle.std.proofs.Common.{◌≡◌, ◌⊎◌, inl, inr, ℕ, ◌+◌, ◌≤◌, ◌==◌, List, length, subst, arith}
 use Rattle.std.specs.Prelude.{Option, Some, None}
 use Rattle.std.proofs.lemmas.Option.{slice_get_within}
 use Rattle.jiter_scan.specs.Kind.{Kind}
 use Rattle.jiter_steps.specs.Blank.{IsBlank}
-use Rattle.jiter_steps.specs.Node.{StandsBehind}
+use Rattle.jiter_steps.specs.Node.{StandsAfter}
 use Rattle.jiter_steps.specs.Step.{Step, more, closed, stuck, step, closer_of, begins_part, container_first}
 use Rattle.jiter_steps.specs.Step.{container_comma, container_step}
-use Rattle.jiter_steps.specs.declared.parse.Shape.{Shape}
+use Rattle.jiter_steps.specs.declared.parse.ContainerKind.{ContainerKind}
 use Rattle.jiter_steps.proofs.Reading.Bounds.{either}
-use Rattle.jiter_steps.proofs.Grammar.RowSteps.{Behind, tested, Stops, row-is, behind}
+use Rattle.jiter_steps.proofs.Grammar.RowSteps.{After, tested, Stops, row-is, after}
 
 -- where a step is stuck
 abbrev StuckIs : (ℕ → Type 0) → Step → Type 0
@@ -17,13 +17,13 @@ StuckIs At (more j) = Unit {0}
 StuckIs At (closed e) = Unit {0}
 StuckIs At (stuck k j) = At j
 
--- blanks from i to j, or a comma behind blanks and then blanks
+-- blanks from i to j, or a comma after blanks and then blanks
 abbrev pub BlanksOrComma : List ℕ → ℕ → ℕ → Type 0
-BlanksOrComma t i j = IsBlank t i j ⊎ Behind t i 44 (IsBlank t) j
+BlanksOrComma t i j = IsBlank t i j ⊎ After t i 44 (IsBlank t) j
 
 module _ (t : List ℕ) where
   -- a comma, and what follows it
-  comma-then : (i m : ℕ) (s : Step) → StandsBehind t i 44 m → StuckIs (IsBlank t m) s → StuckIs (BlanksOrComma t i) s
+  comma-then : (i m : ℕ) (s : Step) → StandsAfter t i 44 m → StuckIs (IsBlank t m) s → StuckIs (BlanksOrComma t i) s
   comma-then i m (more j) b h = tt
   comma-then i m (closed e) b h = tt
   comma-then i m (stuck k j) b h = inr (m, b, h)
@@ -33,7 +33,7 @@ module _ (t : List ℕ) where
     pub first-stuck : (i j : ℕ) (k : Kind) → i ≤ length t → step t first i ≡ stuck k j → IsBlank t i j
     pub next-stuck : (i j : ℕ) (k : Kind) → i ≤ length t → step t next i ≡ stuck k j → BlanksOrComma t i j
 
-  module _ (b : Shape) where
+  module _ (b : ContainerKind) where
     first-here : (i j : ℕ) (o : Option ℕ) → Stops t i j o → StuckIs (IsBlank t i) (container_first b j o)
     first-here i j None s = s.blanks
     first-here i j (Some c) s =
@@ -51,10 +51,10 @@ module _ (t : List ℕ) where
     step-here i j (Some c) s =
         let inside = slice_get_within t j c s.here in
         let Is = StuckIs (IsBlank t (j + 1)) in
-        let behind-comma = row-is t Is (container_comma b) (j + 1) (comma-here (j + 1)) (omega arith) in
+        let after-comma = row-is t Is (container_comma b) (j + 1) (comma-here (j + 1)) (omega arith) in
         either (StuckIs (BlanksOrComma t i)) (c == closer_of b) _ _ tt
         (tested (StuckIs (BlanksOrComma t i)) c 44 _ _
-        (λ e. comma-then i (j + 1) _ (behind t i j c 44 s e) behind-comma) (λ e. inl s.blanks))
+        (λ e. comma-then i (j + 1) _ (after t i j c 44 s e) after-comma) (λ e. inl s.blanks))
 
     pub sticks : Sticks (container_first b) (container_step b t)
     sticks = record {

@@ -80,7 +80,7 @@ module _ (t : List ℕ) where
   pub blank-to_end : (i : ℕ) → IsBlank t i (length t) → past_blanks t i ≡ length t
   blank-to_end i b = passes i (length t) b (λ h. absurd (omega arith))
 
-  -- what is passed is blank, and the byte behind it is not
+  -- what is passed is blank, and the byte after it is not
   pub passed-blank : (i : ℕ) → i ≤ length t → IsBlank t i (past_blanks t i)
   unfolding past_blanks
   passed-blank i h = record {
@@ -89,10 +89,10 @@ module _ (t : List ℕ) where
     each = λ k l lt. is-blank _ (run_end-passes is_blank t i k l lt);
   }
 
-  pub no_blank-behind : (i : ℕ) (o : Option ℕ) → slice_get t (past_blanks t i) ≡ o → IfSome o (λ c. is_blank c ≡ false)
+  pub no_blank-after : (i : ℕ) (o : Option ℕ) → slice_get t (past_blanks t i) ≡ o → IfSome o (λ c. is_blank c ≡ false)
   unfolding past_blanks
-  no_blank-behind i None e = tt
-  no_blank-behind i (Some c) e = run_end-stops is_blank t i c e
+  no_blank-after i None e = tt
+  no_blank-after i (Some c) e = run_end-stops is_blank t i c e
 
   -- where no byte is, the text ends
   pub at_length : (j : ℕ) → j ≤ length t → slice_get t j ≡ None → j ≡ length t

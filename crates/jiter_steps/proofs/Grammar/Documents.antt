@@ -11,7 +11,7 @@ use Rattle.jiter_steps.specs.Literal.{literal_at, literal_tree}
 use Rattle.jiter_steps.specs.Node as grammar
 use Rattle.jiter_steps.specs.Node.{Key, Node, begin, end, text_at, number_tree, value_of, values_of, nesting_limit}
 use Rattle.jiter_steps.specs.Node.{IsDocument, Spells, nesting}
-use Rattle.jiter_steps.specs.Read.{Reading, done, fault, value_at, if_last, to_end, if_begun, front_answer}
+use Rattle.jiter_steps.specs.Read.{Reading, done, fault, value_at, if_last, to_end, if_begun, prefix_answer}
 use Rattle.jiter_steps.specs.Read.{whole_answer}
 use Rattle.jiter_steps.specs.StringReading.{whole, string_at}
 use Rattle.jiter_steps.specs.Tree.{Text, Tree, items_of}
@@ -23,15 +23,15 @@ use Rattle.jiter_steps.proofs.Grammar.NodeRules.{nodes, nodes_of, node_members_o
 use Rattle.jiter_steps.proofs.Grammar.ScalarLaws.{ScalarLaws, scalar-laws, EndsNumber}
 use Rattle.jiter_steps.proofs.Grammar.Sound.{Sound, value_at-sound}
 use Rattle.std.proofs.lemmas.List.{take_all}
-use Rattle.jiter_steps.proofs.Cut.FrontNodes.{node-front}
+use Rattle.jiter_steps.proofs.Cut.PrefixNodes.{node-prefix}
 
 -- What is spelled so is read.
--- A node that the text spells is read: it ends in the front that is the whole text.
+-- A node that the text spells is read: it ends in the prefix that is the whole text.
 pub value_at-complete : (names : Bool) (t : List ℕ) (n : Node) (levels : ℕ) → Spells names t n → nesting n ≤ levels
     → EndsNumber t (end n)
     → value_at (nodes names) t levels (begin n) ≡ done n (end n)
 value_at-complete names t n levels h d q =
-    let read = node-front names t (length t) (omega arith) n levels h d q (begin-within names t n h) in
+    let read = node-prefix names t (length t) (omega arith) n levels h d q (begin-within names t n h) in
     subst (λ u. value_at (nodes names) u levels (begin n) ≡ done n (end n)) (take_all (length t) t (omega arith))
     (read.0 (node-within names t n h))
 
@@ -127,13 +127,13 @@ module _ (names : Bool) (t : List ℕ) where
 
   -- What is read is a document.
   pub answer-sound : Fits names t (whole_answer (nodes names) t)
-  unfolding whole_answer front_answer
+  unfolding whole_answer prefix_answer
   answer-sound = if_begun-fits (past_blanks t 0) (passed-blank t 0 (omega arith)) (slice_get t (past_blanks t 0)) refl
 
   -- the value of a document, whatever follows it
-  pub front-complete : (n : Node) → IsDocument names t n → front_answer (nodes names) t ≡ done n (end n)
-  unfolding front_answer
-  front-complete n d =
+  pub prefix-complete : (n : Node) → IsDocument names t n → prefix_answer (nodes names) t ≡ done n (end n)
+  unfolding prefix_answer
+  prefix-complete n d =
       let first = begins-value names t n d.spelled in
       let start = blank-passed t 0 (begin n) first.byte d.before first.here first.no_blank in
       rw (start, first.here) (value_at-complete names t n nesting_limit d.spelled d.limit (ends-end t (end n) d.after))
@@ -142,7 +142,7 @@ module _ (names : Bool) (t : List ℕ) where
   pub answer-complete : (n : Node) → IsDocument names t n → whole_answer (nodes names) t ≡ done n (end n)
   unfolding whole_answer
   answer-complete n d =
-      rw (front-complete n d, blank-to_end t (end n) d.after, slice_get_past t (length t) (omega arith))
+      rw (prefix-complete n d, blank-to_end t (end n) d.after, slice_get_past t (length t) (omega arith))
 
   -- At most one node fits a text.
   pub one_node : (n m : Node) → IsDocument names t n → IsDocument names t m → n ≡ m

@@ -3,7 +3,7 @@ use Rattle.std.specs.Prelude.{ℕ, ◌+◌, Bool, List, [], ◌∷◌, true, fal
 use Rattle.std.specs.Str.{chars}
 use Rattle.jiter_scan.specs.NumberReading.{number_at}
 use Rattle.jiter_steps.specs.Literal.{literal_at}
-use Rattle.jiter_steps.specs.StringReading.{whole, string_at, Portion, part, over, portion_at}
+use Rattle.jiter_steps.specs.StringReading.{whole, string_at, Event, part, over, event_at}
 use Rattle.jiter_steps.specs.Tree.{Text}
 use Rattle.jiter_steps.specs.Node.{Key, Node, Nodes, no_nodes, node, NodeMembers, no_members, member}
 use Rattle.jiter_steps.specs.Node as grammar
@@ -14,7 +14,7 @@ use Rattle.jiter_steps.specs.Piece.{Piece}
 
 -- The pieces of a string that was read, from its characters.
 -- where the piece at i of the character c ends
-abbrev pub end_of : ℕ → ℕ → Portion → ℕ
+abbrev pub end_of : ℕ → ℕ → Event → ℕ
 end_of i c (part bytes true j) = j
 end_of i c (part bytes false j) = i + length (encode_utf8 c)
 end_of i c (over s) = i
@@ -23,7 +23,7 @@ end_of i c (over s) = i
 abbrev pub pieces_from : List ℕ → ℕ → List ℕ → List Piece
 pieces_from t i [] = []
 pieces_from t i (c ∷ cs) =
-    record { character = c; end = end_of i c (portion_at t i) } ∷ pieces_from t (end_of i c (portion_at t i)) cs
+    record { character = c; end = end_of i c (event_at t i) } ∷ pieces_from t (end_of i c (event_at t i)) cs
 
 abbrev pub nodes_of : List Node → Nodes
 nodes_of [] = no_nodes

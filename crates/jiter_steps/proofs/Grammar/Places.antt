@@ -11,10 +11,10 @@ use Rattle.jiter_scan.specs.Kind.{Kind, invalid_escape, lone_surrogate, end_of_h
 use Rattle.jiter_steps.specs.Escape.{short_escape, is_hex, unit_of, is_high, is_low, pair_of}
 use Rattle.jiter_scan.specs.Stands.{Stands}
 use Rattle.jiter_steps.specs.Piece.{IsUnit, IsEscape, Piece, SpellsPieces}
-use Rattle.jiter_steps.specs.StringReading.{closed, unclosed, cut, wrong, Portion, part, over, bad_digit, unit_at}
-use Rattle.jiter_steps.specs.StringReading.{hex_digits_or, hex_digits_at, behind, surrogate_pair}
-use Rattle.jiter_steps.specs.StringReading.{behind_high_backslash, behind_high, single, unicode_escape, short}
-use Rattle.jiter_steps.specs.StringReading.{behind_backslash, portion_by, portion_at}
+use Rattle.jiter_steps.specs.StringReading.{closed, unclosed, cut, wrong, Event, part, over, bad_digit, unit_at}
+use Rattle.jiter_steps.specs.StringReading.{hex_digits_or, hex_digits_at, after, surrogate_pair}
+use Rattle.jiter_steps.specs.StringReading.{after_high_backslash, after_high, single, unicode_escape, short}
+use Rattle.jiter_steps.specs.StringReading.{after_backslash, event_by, event_at}
 use Rattle.jiter_scan.proofs.Choices.{if_case}
 use Rattle.jiter_scan.proofs.Standing.{stands-append, stands-within, stands-length}
 
@@ -53,7 +53,7 @@ pub record EscapeAt (t : List ℕ) (i : ℕ) (bs : List ℕ) (j : ℕ) : Type 0 
 abbrev pub IsPlaceKind : Kind → Type 0
 IsPlaceKind k = (k ≡ invalid_escape) ⊎ ((k ≡ lone_surrogate) ⊎ ((k ≡ end_of_hex_escape) ⊎ (k ≡ control_character)))
 
-abbrev pub Explains : List ℕ → ℕ → Portion → Type 0
+abbrev pub Explains : List ℕ → ℕ → Event → Type 0
 Explains t i (part bs false j) = ByteAt t i bs j
 Explains t i (part bs true j) = EscapeAt t i bs j
 Explains t i (over (closed e)) = (slice_get t i ≡ Some 34) × (e ≡ i + 1)
@@ -82,13 +82,13 @@ bad_digit-explains t i within =
     (λ e. (omega arith, omega arith)))
     (λ e. (omega arith, omega arith))
 
-hex_digits_at-case : (P : Portion → Type 0) (t : List ℕ) (i : ℕ) (next : ℕ → Portion) → P (over cut)
+hex_digits_at-case : (P : Event → Type 0) (t : List ℕ) (i : ℕ) (next : ℕ → Event) → P (over cut)
     → ((k : ℕ) → i ≤ k → k < length t → P (over (wrong invalid_escape k))) → (HexAt t i → P (next (unit_at t i)))
-    → P (behind next (hex_digits_at t i))
+    → P (after next (hex_digits_at t i))
 hex_digits_at-case P t i next none wrong_at good =
-    if_case (λ d. P (behind next d)) (nat_lt (length t) (i + 4)) _ _ (λ e. none)
+    if_case (λ d. P (after next d)) (nat_lt (length t) (i + 4)) _ _ (λ e. none)
     (λ e. by (bad_digit t i) (bad_digit-explains t i (ltb-false (length t) (i + 4) e))) where
-      by : (x : Option ℕ) → BadOrHex t i x → P (behind next (hex_digits_or x (unit_at t i)))
+      by : (x : Option ℕ) → BadOrHex t i x → P (after next (hex_digits_or x (unit_at t i)))
       by None h = good h
       by (Some k) h = wrong_at k h.0 h.1
 
@@ -185,7 +185,7 @@ escaped t o j c p slash stands escape wide =
     }
 
 module _ (t : List ℕ) (o : ℕ) where
-  -- where the digits of the escape at o end, and those of one behind it
+  -- where the digits of the escape at o end, and those of one after it
   abbrev one : ℕ
   one = o + 1 + 1 + 4
 
@@ -195,12 +195,12 @@ module _ (t : List ℕ) (o : ℕ) where
   surrogate_pair-explains : (high low : ℕ) → is_high high ≡ true → UnitAt t o one high → UnitAt t one two low
       → Explains t o (surrogate_pair high two low)
   surrogate_pair-explains high low hi x y =
-      let front = unit_bytes t (o + 1 + 1) in
+      let prefix = unit_bytes t (o + 1 + 1) in
       let back = unit_bytes t (one + 1 + 1) in
-      let stands = stands-append t o one two front back (unit-stands t o one high x) (unit-stands t one two low y) in
+      let stands = stands-append t o one two prefix back (unit-stands t o one high x) (unit-stands t one two low y) in
       if_case (Explains t o) (is_low low) _ _
-      (λ lo. escaped t o two (pair_of high low) (front ++ back) x.slash stands (inr (inr (record {
-        front = front;
+      (λ lo. escaped t o two (pair_of high low) (prefix ++ back) x.slash stands (inr (inr (record {
+        prefix = prefix;
         back = back;
         high = high;
         low = low;
@@ -213,10 +213,10 @@ module _ (t : List ℕ) (o : ℕ) where
       }))) (at-most-four (pair_of high low) o two (omega arith)))
       (λ no. (omega arith, omega (arith, y.hex.within), inr (inl refl)))
 
-  behind_high_backslash-explains : (high : ℕ) → is_high high ≡ true → UnitAt t o one high → slice_get t one ≡ Some 92
-      → (x : Option ℕ) → slice_get t (one + 1) ≡ x → Explains t o (behind_high_backslash t high (one + 1) x)
-  behind_high_backslash-explains high hi x s None e = x.slash
-  behind_high_backslash-explains high hi x s (Some b) e =
+  after_high_backslash-explains : (high : ℕ) → is_high high ≡ true → UnitAt t o one high → slice_get t one ≡ Some 92
+      → (x : Option ℕ) → slice_get t (one + 1) ≡ x → Explains t o (after_high_backslash t high (one + 1) x)
+  after_high_backslash-explains high hi x s None e = x.slash
+  after_high_backslash-explains high hi x s (Some b) e =
       if_case (Explains t o) (b == 117) _ _
       (λ q. hex_digits_at-case (Explains t o) t (one + 1 + 1) (surrogate_pair high two) x.slash
       (λ k lo up. (omega arith, up, inl refl))
@@ -229,12 +229,12 @@ module _ (t : List ℕ) (o : ℕ) where
       })))
       (λ q. (omega arith, slice_get_within t (one + 1) b e, inr (inr (inl refl))))
 
-  behind_high-explains : (high : ℕ) → is_high high ≡ true → UnitAt t o one high
-      → (x : Option ℕ) → slice_get t one ≡ x → Explains t o (behind_high t high one x)
-  behind_high-explains high hi x None e = x.slash
-  behind_high-explains high hi x (Some b) e =
+  after_high-explains : (high : ℕ) → is_high high ≡ true → UnitAt t o one high
+      → (x : Option ℕ) → slice_get t one ≡ x → Explains t o (after_high t high one x)
+  after_high-explains high hi x None e = x.slash
+  after_high-explains high hi x (Some b) e =
       if_case (Explains t o) (b == 92) _ _
-      (λ q. behind_high_backslash-explains high hi x (e ∙ ap Some (eqb-true b 92 q)) (slice_get t (one + 1)) refl)
+      (λ q. after_high_backslash-explains high hi x (e ∙ ap Some (eqb-true b 92 q)) (slice_get t (one + 1)) refl)
       (λ q. (omega arith, slice_get_within t one b e, inr (inr (inl refl))))
 
   single-explains : (u : ℕ) → UnitAt t o one u → is_high u ≡ false → Explains t o (single one u)
@@ -245,7 +245,7 @@ module _ (t : List ℕ) (o : ℕ) where
 
   unicode_escape-explains : (u : ℕ) → UnitAt t o one u → Explains t o (unicode_escape t one u)
   unicode_escape-explains u x =
-      if_case (Explains t o) (is_high u) _ _ (λ hi. behind_high-explains u hi x (slice_get t one) refl)
+      if_case (Explains t o) (is_high u) _ _ (λ hi. after_high-explains u hi x (slice_get t one) refl)
       (λ hi. single-explains u x hi)
 
   module _ (slash : slice_get t o ≡ Some 92) where
@@ -258,10 +258,10 @@ module _ (t : List ℕ) (o : ℕ) where
         escaped t o (o + 1 + 1) c (92 ∷ b ∷ []) slash (slash, (e, refl))
         (inl (record { sign = b; is = refl; means = me })) wide
 
-    behind_backslash-explains : (x : Option ℕ) → slice_get t (o + 1) ≡ x
-        → Explains t o (behind_backslash t (o + 1) x)
-    behind_backslash-explains None e = slash
-    behind_backslash-explains (Some b) e =
+    after_backslash-explains : (x : Option ℕ) → slice_get t (o + 1) ≡ x
+        → Explains t o (after_backslash t (o + 1) x)
+    after_backslash-explains None e = slash
+    after_backslash-explains (Some b) e =
         if_case (Explains t o) (b == 117) _ _
         (λ q. hex_digits_at-case (Explains t o) t (o + 1 + 1) (unicode_escape t one) slash
         (λ k lo up. (omega arith, up, inl refl))
@@ -274,15 +274,15 @@ module _ (t : List ℕ) (o : ℕ) where
         })))
         (λ q. short-explains b e (short_escape b) refl)
 
-pub portion_at-explains : (t : List ℕ) (i : ℕ) → Explains t i (portion_at t i)
-unfolding portion_at
-portion_at-explains t i = by (slice_get t i) refl where
-  by : (x : Option ℕ) → slice_get t i ≡ x → Explains t i (portion_by t i x)
+pub event_at-explains : (t : List ℕ) (i : ℕ) → Explains t i (event_at t i)
+unfolding event_at
+event_at-explains t i = by (slice_get t i) refl where
+  by : (x : Option ℕ) → slice_get t i ≡ x → Explains t i (event_by t i x)
   by None e = e
   by (Some b) e =
       if_case (Explains t i) (b == 34) _ _ (λ q. (e ∙ ap Some (eqb-true b 34 q), refl)) (λ q.
       if_case (Explains t i) (b == 92) _ _
-      (λ s. behind_backslash-explains t i (e ∙ ap Some (eqb-true b 92 s)) (slice_get t (i + 1)) refl) (λ s.
+      (λ s. after_backslash-explains t i (e ∙ ap Some (eqb-true b 92 s)) (slice_get t (i + 1)) refl) (λ s.
       if_case (Explains t i) (nat_lt b 32) _ _ (λ c. (omega arith, slice_get_within t i b e, inr (inr (inr refl))))
       (λ c. record {
         byte = b;

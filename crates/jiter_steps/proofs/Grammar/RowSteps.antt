@@ -9,14 +9,14 @@ use Rattle.jiter_scan.specs.Word.{Extent}
 use Rattle.jiter_scan.specs.NumberReading.{extent_then}
 use Rattle.jiter_scan.proofs.Choices.{if_case}
 use Rattle.jiter_steps.specs.Blank.{is_blank, past_blanks, IsBlank}
-use Rattle.jiter_steps.specs.Node.{StandsBehind}
+use Rattle.jiter_steps.specs.Node.{StandsAfter}
 use Rattle.jiter_steps.specs.Step.{Step, more, closed, stuck, step, closer_of, begins_part, container_first}
 use Rattle.jiter_steps.specs.Step.{container_comma, container_step, colon, value_first, object_colon}
-use Rattle.jiter_steps.specs.declared.parse.Shape.{Shape}
-use Rattle.jiter_steps.specs.declared.parse.Shape.TheVariants as shape
+use Rattle.jiter_steps.specs.declared.parse.ContainerKind.{ContainerKind}
+use Rattle.jiter_steps.specs.declared.parse.ContainerKind.TheVariants as shape
 use Rattle.jiter_steps.proofs.Reading.Bounds.{either}
 use Rattle.jiter_steps.proofs.Reading.BothShapes.{closer-no_blank, closer-no_comma, closer-begins_no_part}
-use Rattle.jiter_steps.proofs.Grammar.Blanks.{blank-passed, passed-blank, no_blank-behind}
+use Rattle.jiter_steps.proofs.Grammar.Blanks.{blank-passed, passed-blank, no_blank-after}
 
 -- what a part of a container may begin with: a byte that is no blank
 pub record ByteAt (t : List ℕ) (j : ℕ) : Type 0 where
@@ -25,7 +25,7 @@ pub record ByteAt (t : List ℕ) (j : ℕ) : Type 0 where
   pub no_blank : is_blank byte ≡ false
 
 -- a part of an array or an object: one that begins it
-pub record PartAt (b : Shape) (t : List ℕ) (j : ℕ) : Type 0 where
+pub record PartAt (b : ContainerKind) (t : List ℕ) (j : ℕ) : Type 0 where
   pub byte : ℕ
   pub here : slice_get t j ≡ Some byte
   pub no_blank : is_blank byte ≡ false
@@ -38,19 +38,19 @@ quote-begins t j h = record { byte = 34; here = h; no_blank = refl; begins = ref
 pub begins-quote : (t : List ℕ) (j : ℕ) → PartAt shape.Object t j → slice_get t j ≡ Some 34
 begins-quote t j h = h.here ∙ ap Some (eqb-true h.byte 34 h.begins)
 
--- a part may begin at j, behind blanks from i on
-pub record PartBehind (t : List ℕ) (Begins : ℕ → Type 0) (i j : ℕ) : Type 0 where
+-- a part may begin at j, after blanks from i on
+pub record PartAfter (t : List ℕ) (Begins : ℕ → Type 0) (i j : ℕ) : Type 0 where
   pub blanks : IsBlank t i j
   pub begins : Begins j
 
--- a comma or a colon, and what stands behind it
-abbrev pub Behind : List ℕ → ℕ → ℕ → (ℕ → ℕ → Type 0) → ℕ → Type 0
-Behind t i sign Then j = (c : ℕ) × StandsBehind t i sign c × Then c j
+-- a comma or a colon, and what stands after it
+abbrev pub After : List ℕ → ℕ → ℕ → (ℕ → ℕ → Type 0) → ℕ → Type 0
+After t i sign Then j = (c : ℕ) × StandsAfter t i sign c × Then c j
 
 -- where a step goes on; where it closes, by the byte closer
 abbrev pub StepIs : List ℕ → ℕ → ℕ → (ℕ → Type 0) → Step → Type 0
 StepIs t i closer More (more j) = More j
-StepIs t i closer More (closed e) = StandsBehind t i closer e
+StepIs t i closer More (closed e) = StandsAfter t i closer e
 StepIs t i closer More (stuck k j) = Unit {0}
 
 -- the place that an extent leads to
@@ -62,12 +62,12 @@ ExtentIs More (failed k j) = Unit {0}
 -- what is there they find.
 pub record Delimits (t : List ℕ) (first next : ℕ → Option ℕ → Step) (closer : ℕ) (Begins : ℕ → Type 0) : Type 0 where
   pub within : (j : ℕ) → Begins j → j < length t
-  pub first-is : (i : ℕ) → i ≤ length t → StepIs t i closer (PartBehind t Begins i) (step t first i)
-  pub next-is : (i : ℕ) → i ≤ length t → StepIs t i closer (Behind t i 44 (PartBehind t Begins)) (step t next i)
-  pub first-closed : (i e : ℕ) → StandsBehind t i closer e → step t first i ≡ closed e
+  pub first-is : (i : ℕ) → i ≤ length t → StepIs t i closer (PartAfter t Begins i) (step t first i)
+  pub next-is : (i : ℕ) → i ≤ length t → StepIs t i closer (After t i 44 (PartAfter t Begins)) (step t next i)
+  pub first-closed : (i e : ℕ) → StandsAfter t i closer e → step t first i ≡ closed e
   pub first-more : (i j : ℕ) → IsBlank t i j → Begins j → step t first i ≡ more j
-  pub next-closed : (i e : ℕ) → StandsBehind t i closer e → step t next i ≡ closed e
-  pub next-more : (i m j : ℕ) → StandsBehind t i 44 m → IsBlank t m j → Begins j → step t next i ≡ more j
+  pub next-closed : (i e : ℕ) → StandsAfter t i closer e → step t next i ≡ closed e
+  pub next-more : (i m j : ℕ) → StandsAfter t i 44 m → IsBlank t m j → Begins j → step t next i ≡ more j
 
 -- what holds of both arms of a test for a byte
 pub tested : {A : Type 0} (P : A → Type 0) (c d : ℕ) (x y : A) → (c ≡ d → P x) → ((c == d) ≡ false → P y)
@@ -75,7 +75,7 @@ pub tested : {A : Type 0} (P : A → Type 0) (c d : ℕ) (x y : A) → (c ≡ d 
 tested P c d x y p q = if_case P (c == d) x y (λ e. p (eqb-true c d e)) q
 
 module _ (t : List ℕ) where
-  -- the byte behind blanks, or none
+  -- the byte after blanks, or none
   pub record Stops (i j : ℕ) (o : Option ℕ) : Type 0 where
     pub blanks : IsBlank t i j
     pub here : slice_get t j ≡ o
@@ -86,24 +86,24 @@ module _ (t : List ℕ) where
       → i ≤ length t → P (step t row i)
   row-is P row i all h =
       all (past_blanks t i) _
-      (record { blanks = passed-blank t i h; here = refl; no_blank = no_blank-behind t i _ refl })
+      (record { blanks = passed-blank t i h; here = refl; no_blank = no_blank-after t i _ refl })
 
-  pub behind : (i j c d : ℕ) → Stops i j (Some c) → c ≡ d → StandsBehind t i d (j + 1)
-  behind i j c d s e = record { at = j; blanks = s.blanks; here = s.here ∙ ap Some e; ends = refl }
+  pub after : (i j c d : ℕ) → Stops i j (Some c) → c ≡ d → StandsAfter t i d (j + 1)
+  after i j c d s e = record { at = j; blanks = s.blanks; here = s.here ∙ ap Some e; ends = refl }
 
-  -- a row at what stands behind blanks
+  -- a row at what stands after blanks
   pub row-at : {A : Type 0} (row : ℕ → Option ℕ → A) (i j c : ℕ) → IsBlank t i j → slice_get t j ≡ Some c
       → is_blank c ≡ false
       → step t row i ≡ row j (Some c)
   row-at row i j c b e other = ap (λ k. row k (slice_get t k)) (blank-passed t i j c b e other) ∙ ap (row j) e
 
   -- The steps of arrays and of objects.
-  module _ (b : Shape) where
+  module _ (b : ContainerKind) where
     abbrev Part : ℕ → ℕ → Type 0
-    Part i j = PartBehind t (PartAt b t) i j
+    Part i j = PartAfter t (PartAt b t) i j
 
-    part-behind : (i j c : ℕ) → Stops i j (Some c) → begins_part b c ≡ true → Part i j
-    part-behind i j c s begins =
+    part-after : (i j c : ℕ) → Stops i j (Some c) → begins_part b c ≡ true → Part i j
+    part-after i j c s begins =
         let at : PartAt b t j = record { byte = c; here = s.here; no_blank = s.no_blank; begins = begins } in
         record { blanks = s.blanks; begins = at }
 
@@ -112,29 +112,29 @@ module _ (t : List ℕ) where
     first-is i j None s = tt
     first-is i j (Some c) s =
         let Is = StepIs t i (closer_of b) (Part i) in
-        if_case Is (begins_part b c) _ _ (part-behind i j c s)
-        (λ e. tested Is c (closer_of b) _ _ (behind i j c (closer_of b) s) (λ e. tt))
+        if_case Is (begins_part b c) _ _ (part-after i j c s)
+        (λ e. tested Is c (closer_of b) _ _ (after i j c (closer_of b) s) (λ e. tt))
 
-    -- behind a part, where a comma leads on
+    -- after a part, where a comma leads on
     abbrev Next : ℕ → Step → Type 0
-    Next i s = StepIs t i (closer_of b) (Behind t i 44 (PartBehind t (PartAt b t))) s
+    Next i s = StepIs t i (closer_of b) (After t i 44 (PartAfter t (PartAt b t))) s
 
-    comma-is : (i m : ℕ) → StandsBehind t i 44 m → (j : ℕ) (o : Option ℕ) → Stops m j o → Next i (container_comma b j o)
+    comma-is : (i m : ℕ) → StandsAfter t i 44 m → (j : ℕ) (o : Option ℕ) → Stops m j o → Next i (container_comma b j o)
     comma-is i m h j None s = tt
     comma-is i m h j (Some c) s =
-        if_case (Next i) (begins_part b c) _ _ (λ begins. (m, h, part-behind m j c s begins))
+        if_case (Next i) (begins_part b c) _ _ (λ begins. (m, h, part-after m j c s begins))
         (λ e. either (Next i) (c == closer_of b) _ _ tt tt)
 
     step-is : (i j : ℕ) (o : Option ℕ) → Stops i j o → Next i (container_step b t j o)
     step-is i j None s = tt
     step-is i j (Some c) s =
         let inside = slice_get_within t j c s.here in
-        tested (Next i) c (closer_of b) _ _ (behind i j c (closer_of b) s)
+        tested (Next i) c (closer_of b) _ _ (after i j c (closer_of b) s)
         (λ e. tested (Next i) c 44 _ _ (λ e. row-is (Next i) (container_comma b) (j + 1)
-        (comma-is i (j + 1) (behind i j c 44 s e)) (omega arith)) (λ e. tt))
+        (comma-is i (j + 1) (after i j c 44 s e)) (omega arith)) (λ e. tt))
 
     -- they find what is there
-    closed-at : (row : ℕ → Option ℕ → Step) (i e : ℕ) (h : StandsBehind t i (closer_of b) e)
+    closed-at : (row : ℕ → Option ℕ → Step) (i e : ℕ) (h : StandsAfter t i (closer_of b) e)
         → step t row i ≡ row h.at (Some (closer_of b))
     closed-at row i e h = row-at row i h.at (closer_of b) h.blanks h.here (closer-no_blank b)
 
@@ -160,31 +160,31 @@ module _ (t : List ℕ) where
           );
     }
 
-  -- behind a key: its colon, and the byte where its value may begin
-  abbrev ValueBehind : ℕ → Extent → Type 0
-  ValueBehind i x = ExtentIs (Behind t i 58 (PartBehind t (ByteAt t))) x
+  -- after a key: its colon, and the byte where its value may begin
+  abbrev ValueAfter : ℕ → Extent → Type 0
+  ValueAfter i x = ExtentIs (After t i 58 (PartAfter t (ByteAt t))) x
 
-  value-at : (i m : ℕ) → StandsBehind t i 58 m → (j : ℕ) (o : Option ℕ) → Stops m j o → ValueBehind i (value_first j o)
+  value-at : (i m : ℕ) → StandsAfter t i 58 m → (j : ℕ) (o : Option ℕ) → Stops m j o → ValueAfter i (value_first j o)
   value-at i m h j None s = tt
   value-at i m h j (Some c) s =
       (m, h, record { blanks = s.blanks; begins = record { byte = c; here = s.here; no_blank = s.no_blank } })
 
-  -- the colon behind blanks, and then its value
+  -- the colon after blanks, and then its value
   abbrev ColonLeads : ℕ → Extent → Type 0
-  ColonLeads i x = ValueBehind i (extent_then x (step t value_first))
+  ColonLeads i x = ValueAfter i (extent_then x (step t value_first))
 
   colon-at : (i j : ℕ) (o : Option ℕ) → Stops i j o → ColonLeads i (colon j o)
   colon-at i j None s = tt
   colon-at i j (Some c) s =
       let inside = slice_get_within t j c s.here in
       tested (ColonLeads i) c 58 _ _
-      (λ e. row-is (ValueBehind i) value_first (j + 1) (value-at i (j + 1) (behind i j c 58 s e)) (omega arith))
+      (λ e. row-is (ValueAfter i) value_first (j + 1) (value-at i (j + 1) (after i j c 58 s e)) (omega arith))
       (λ e. tt)
 
-  pub object_colon-is : (i : ℕ) → i ≤ length t → ExtentIs (Behind t i 58 (PartBehind t (ByteAt t))) (object_colon t i)
+  pub object_colon-is : (i : ℕ) → i ≤ length t → ExtentIs (After t i 58 (PartAfter t (ByteAt t))) (object_colon t i)
   object_colon-is i = row-is (ColonLeads i) colon i (colon-at i)
 
-  pub object_colon-taken : (i m j : ℕ) → StandsBehind t i 58 m → IsBlank t m j → ByteAt t j
+  pub object_colon-taken : (i m j : ℕ) → StandsAfter t i 58 m → IsBlank t m j → ByteAt t j
       → object_colon t i ≡ taken tt j
   object_colon-taken i m j h b x =
       rw (

@@ -13,10 +13,10 @@ use Rattle.jiter_steps.specs.Answer.{seen_as}
 use Rattle.jiter_steps.specs.Literal.{start_of, literal_at}
 use Rattle.jiter_steps.specs.Node as grammar
 use Rattle.jiter_steps.specs.Node.{Key, Node, Nodes, no_nodes, node, NodeMembers, no_members, member, begin, end}
-use Rattle.jiter_steps.specs.Node.{StandsBehind, SpellsNumber, SpellsKey, Spells, SpellsItems, SpellsMoreItems}
+use Rattle.jiter_steps.specs.Node.{StandsAfter, SpellsNumber, SpellsKey, Spells, SpellsItems, SpellsMoreItems}
 use Rattle.jiter_steps.specs.Node.{SpellsMembers, SpellsMoreMembers, nesting, nesting_round, nesting_round_members}
 use Rattle.jiter_steps.specs.Piece.{SpellsString}
-use Rattle.jiter_steps.specs.Read.{Reading, done, fault, Container, scalar_at, with_key, behind_colon, behind_key}
+use Rattle.jiter_steps.specs.Read.{Reading, done, fault, Container, scalar_at, with_key, after_colon, after_key}
 use Rattle.jiter_steps.specs.Read.{container_at, array_of, object_of, value_with, inside_at, value_at}
 use Rattle.jiter_steps.specs.Step.{object_colon}
 use Rattle.jiter_steps.specs.StringReading.{whole, string_at}
@@ -28,8 +28,8 @@ use Rattle.jiter_steps.proofs.Reading.FirstBytes.{string-first}
 use Rattle.jiter_steps.proofs.Reading.Instances.{nodes-advances}
 use Rattle.jiter_steps.proofs.Grammar.NodeRules.{nodes, nodes_of, node_members_of, key_of, pieces_from}
 use Rattle.jiter_steps.proofs.Reading.Parts.{Grammar, parts-are, Reads, BuiltOf, container_at-built}
-use Rattle.jiter_steps.specs.declared.parse.Shape.TheVariants as shape
-use Rattle.jiter_steps.proofs.Grammar.RowSteps.{ByteAt, PartAt, begins-quote, PartBehind, Behind, ExtentIs, delimits}
+use Rattle.jiter_steps.specs.declared.parse.ContainerKind.TheVariants as shape
+use Rattle.jiter_steps.proofs.Grammar.RowSteps.{ByteAt, PartAt, begins-quote, PartAfter, After, ExtentIs, delimits}
 use Rattle.jiter_steps.proofs.Grammar.RowSteps.{object_colon-is, Delimits}
 use Rattle.jiter_steps.proofs.Grammar.ScalarLaws.{ScalarLaws, scalar-laws}
 use Rattle.jiter_steps.proofs.Reading.Values.{AllWithin, Goes, array_of-goes, object_of-goes, container_at-within}
@@ -108,32 +108,32 @@ module _ (names : Bool) (t : List ℕ) where
 
     -- a member: its key, its colon and its value
     with_key-sound : (i colon j : ℕ) (k : Key) → k.begin ≡ i → SpellsString t k.begin k.pieces k.end
-        → StandsBehind t k.end 58 colon
-        → PartBehind t (ByteAt t) colon j → (x : Reading Node) → InsideSound names t levels j x
+        → StandsAfter t k.end 58 colon
+        → PartAfter t (ByteAt t) colon j → (x : Reading Node) → InsideSound names t levels j x
         → MemberSound names t levels i (with_key k x)
-    with_key-sound i colon j k begins string behind h (done n d) is =
+    with_key-sound i colon j k begins string after h (done n d) is =
         record {
           begins = begins;
-          key = record { string = string; colon = colon; behind = behind; blanks = rw is.0.begins h.blanks };
+          key = record { string = string; colon = colon; after = after; blanks = rw is.0.begins h.blanks };
           value = rw is.0.begins is.0;
           limit = is.1;
         }
-    with_key-sound i colon j k begins string behind h (fault kind x stop) is = tt
+    with_key-sound i colon j k begins string after h (fault kind x stop) is = tt
 
-    behind_colon-sound : InnerSound → (i : ℕ) (k : Key) → k.begin ≡ i → SpellsString t k.begin k.pieces k.end
-        → (x : Extent) → ExtentIs (Behind t k.end 58 (PartBehind t (ByteAt t))) x
-        → MemberSound names t levels i (behind_colon k inner x)
-    behind_colon-sound all i k begins string (taken u j) h =
+    after_colon-sound : InnerSound → (i : ℕ) (k : Key) → k.begin ≡ i → SpellsString t k.begin k.pieces k.end
+        → (x : Extent) → ExtentIs (After t k.end 58 (PartAfter t (ByteAt t))) x
+        → MemberSound names t levels i (after_colon k inner x)
+    after_colon-sound all i k begins string (taken u j) h =
         with_key-sound i h.0 j k begins string h.1 h.2 (inner j)
         (all j (slice_get_within t j h.2.begins.byte h.2.begins.here))
-    behind_colon-sound all i k begins string (failed kind j) h = tt
+    after_colon-sound all i k begins string (failed kind j) h = tt
 
-    behind_key-sound : InnerSound → (i : ℕ) → slice_get t i ≡ Some 34 → (x : Scanned Text) → string_at whole t i ≡ x
-        → ScalarWithin t i x → MemberSound names t levels i (behind_key inner t i (seen_as (key_of t i) x))
-    behind_key-sound all i quote (taken s e) is w =
-        behind_colon-sound all i (key_of t i s e) refl (laws.string-sound i e s quote is).0 (object_colon t e)
+    after_key-sound : InnerSound → (i : ℕ) → slice_get t i ≡ Some 34 → (x : Scanned Text) → string_at whole t i ≡ x
+        → ScalarWithin t i x → MemberSound names t levels i (after_key inner t i (seen_as (key_of t i) x))
+    after_key-sound all i quote (taken s e) is w =
+        after_colon-sound all i (key_of t i s e) refl (laws.string-sound i e s quote is).0 (object_colon t e)
         (object_colon-is t e w.1)
-    behind_key-sound all i quote (failed k j) is w = tt
+    after_key-sound all i quote (failed k j) is w = tt
 
     -- the containers whose values are read inside
     abbrev pub array : ℕ → Container Node Node
@@ -204,7 +204,7 @@ module _ (names : Bool) (t : List ℕ) where
     member-read all b j p m at is =
         let quote = begins-quote t j at in
         let within = laws.string-within j (slice_get_within t j 34 quote) in
-        subst (MemberSound names t levels j) is (behind_key-sound all j quote _ refl within)
+        subst (MemberSound names t levels j) is (after_key-sound all j quote _ refl within)
 
     -- values
     container-sound : {P : Type 0} (c : Container P Node) (closer : ℕ) (Begins : ℕ → Type 0)

@@ -1,4 +1,4 @@
--- What the grammar spells of a container is parts that stand one behind another; and what a value begins with.
+-- What the grammar spells of a container is parts that stand one after another; and what a value begins with.
 use Rattle.std.proofs.Common.{◌≡◌, ◌≢◌, ℕ, zero, suc, ◌+◌, ◌<◌, ◌≤◌, ◌⊎◌, inl, inr, Bool, not, true, false, List, []}
 use Rattle.std.proofs.Common.{◌∷◌, length, refl, sym, ap, ◌∙◌, subst, arith, ◌==◌, IfSome}
 use Rattle.std.specs.Prelude.{slice_get, slice_index, slice_range, Some}
@@ -16,7 +16,7 @@ use Rattle.jiter_scan.proofs.Standing.{stands-length, stands-within, stands-slic
 use Rattle.jiter_steps.specs.Literal.{word_of, start_of}
 use Rattle.jiter_steps.specs.Node as grammar
 use Rattle.jiter_steps.specs.Node.{Key, Node, Nodes, no_nodes, node, NodeMembers, no_members, member, begin, end}
-use Rattle.jiter_steps.specs.Node.{StandsBehind, SpellsNumber, SpellsKey, Spells, SpellsItems, SpellsMoreItems}
+use Rattle.jiter_steps.specs.Node.{StandsAfter, SpellsNumber, SpellsKey, Spells, SpellsItems, SpellsMoreItems}
 use Rattle.jiter_steps.specs.Node.{SpellsMembers, SpellsMoreMembers, nesting, nesting_of, nesting_of_members}
 use Rattle.jiter_steps.specs.Node.{nesting_round, nesting_round_members}
 use Rattle.jiter_steps.specs.Piece.{SpellsString}
@@ -26,8 +26,8 @@ use Rattle.jiter_steps.specs.declared.parse.Literal.TheVariants as literal
 use Rattle.jiter_steps.specs.declared.parse.Start.{Start}
 use Rattle.jiter_steps.specs.declared.parse.Start.TheVariants as start
 use Rattle.jiter_steps.proofs.Grammar.NodeRules.{nodes_of, node_members_of, key_of}
-use Rattle.jiter_steps.proofs.Reading.Parts.{behind-ahead, MoreParts, Parts, Grammar, parts-are}
-use Rattle.jiter_steps.specs.declared.parse.Shape.TheVariants as shape
+use Rattle.jiter_steps.proofs.Reading.Parts.{after-ahead, MoreParts, Parts, Grammar, parts-are}
+use Rattle.jiter_steps.specs.declared.parse.ContainerKind.TheVariants as shape
 use Rattle.jiter_steps.proofs.Grammar.RowSteps.{PartAt, quote-begins}
 use Rattle.jiter_steps.proofs.Grammar.ScalarLaws.{ScalarLaws, scalar-laws, EndsNumber}
 
@@ -67,7 +67,7 @@ module _ (t : List ℕ) where
   ends-get : (i c : ℕ) → slice_get t i ≡ Some c → continues_number c ≡ false → EndsNumber t i
   ends-get i c e h = subst (λ o. IfSome o (λ b. continues_number b ≡ false)) (sym e) h
 
-  -- nor before blanks behind which it does not
+  -- nor before blanks after which it does not
   ends-before : (i j : ℕ) → IsBlank t i j → EndsNumber t j → EndsNumber t i
   ends-before i j b quiet = by (cases_eq i j) where
     by : (i ≡ j) ⊎ (i ≢ j) → EndsNumber t i
@@ -77,8 +77,8 @@ module _ (t : List ℕ) where
         ends-get i (slice_index t i) (slice_get-get_or t i 0 (omega (arith, b.within)))
         (blank-ends _ (b.each i (omega arith) lt))
 
-  ends-behind : (i sign e : ℕ) → continues_number sign ≡ false → StandsBehind t i sign e → EndsNumber t i
-  ends-behind i sign e quiet h = ends-before i h.at h.blanks (ends-get h.at sign h.here quiet)
+  ends-after : (i sign e : ℕ) → continues_number sign ≡ false → StandsAfter t i sign e → EndsNumber t i
+  ends-after i sign e quiet h = ends-before i h.at h.blanks (ends-get h.at sign h.here quiet)
 
   pub ends-end : (i : ℕ) → IsBlank t i (length t) → EndsNumber t i
   ends-end i h =
@@ -89,8 +89,8 @@ module _ (t : List ℕ) where
 more_parts-quiet : {P : Type 0} (t : List ℕ) (closer : ℕ) (Begins : ℕ → Type 0) (IsPart : ℕ → P → ℕ → Type 0)
     → continues_number closer ≡ false
     → (ps : List P) (i e : ℕ) → MoreParts t closer Begins IsPart ps i e → EndsNumber t i
-more_parts-quiet t closer Begins IsPart quiet [] i e h = ends-behind t i closer e quiet h
-more_parts-quiet t closer Begins IsPart quiet (p ∷ ps) i e h = ends-behind t i 44 h.0 refl h.1
+more_parts-quiet t closer Begins IsPart quiet [] i e h = ends-after t i closer e quiet h
+more_parts-quiet t closer Begins IsPart quiet (p ∷ ps) i e h = ends-after t i 44 h.0 refl h.1
 
 -- nodes as a list, members too
 abbrev pub nodes_list : Nodes → List Node
@@ -109,7 +109,7 @@ pub members-listed : (ms : NodeMembers) → node_members_of (members_list ms) �
 members-listed no_members = refl
 members-listed (member k n ms) = ap (member k n) (members-listed ms)
 
--- the text spells n from i to e as an item: there is a level left, and behind it no number goes on
+-- the text spells n from i to e as an item: there is a level left, and after it no number goes on
 pub record IsItem (names : Bool) (t : List ℕ) (levels i : ℕ) (n : Node) (e : ℕ) : Type 0 where
   pub spelled : Spells names t n
   pub begins : begin n ≡ i
@@ -247,35 +247,35 @@ module _ (names : Bool) (t : List ℕ) where
   pub begin-within : (n : Node) → Spells names t n → begin n < length t
   begin-within n h = let first = begins-value n h in slice_get_within t (begin n) first.byte first.here
 
-  behind-within : (i c e : ℕ) → StandsBehind t i c e → e ≤ length t
-  behind-within i c e h = let last = slice_get_within t h.at c h.here in omega (arith, h.ends)
+  after-within : (i c e : ℕ) → StandsAfter t i c e → e ≤ length t
+  after-within i c e h = let last = slice_get_within t h.at c h.here in omega (arith, h.ends)
 
   -- from a key to its value
   pub key-ahead : (key : Key) (j : ℕ) → SpellsKey t key j → key.begin < j
   key-ahead key j h =
       let string = laws.string-ordered key.begin key.end key.pieces h.string in
-      omega (arith, string.0, behind-ahead t key.end 58 h.colon h.behind, h.blanks.ordered)
+      omega (arith, string.0, after-ahead t key.end 58 h.colon h.after, h.blanks.ordered)
 
   module _ (levels : ℕ) where
-    -- the values of these parts stand one behind another, from i to before e, which lies within the text
+    -- the values of these parts stand one after another, from i to before e, which lies within the text
     abbrev pub InOrder : {P : Type 0} → (P → Node) → ℕ → List P → ℕ → Type 0
     InOrder value i [] e = (i < e) × (e ≤ length t)
     InOrder value i (p ∷ ps) e =
         (i ≤ begin (value p)) × Spells names t (value p) × (nesting (value p) < levels)
         × InOrder value (end (value p)) ps e
 
-    -- So stand parts whose values are such, one behind another.
+    -- So stand parts whose values are such, one after another.
     order-grammar : {P : Type 0} (closer : ℕ) (Begins : ℕ → Type 0) (IsPart : ℕ → P → ℕ → Type 0) (value : P → Node)
         → ((i : ℕ) (p : P) (e : ℕ) → IsPart i p e
         → (i ≤ begin (value p)) × Spells names t (value p) × (nesting (value p) < levels) × (end (value p) ≡ e))
         → Grammar t closer Begins IsPart (λ ps i e. InOrder value i ps e) (λ ps i e. InOrder value i ps e)
     order-grammar closer Begins IsPart value each = record {
-      none = λ i e h. (behind-ahead t i closer e h, behind-within i closer e h);
-      no_more = λ i e h. (behind-ahead t i closer e h, behind-within i closer e h);
+      none = λ i e h. (after-ahead t i closer e h, after-within i closer e h);
+      no_more = λ i e h. (after-ahead t i closer e h, after-within i closer e h);
       part = λ p ps i j m e blanks begins is rest.
           let x = each j p m is in
           (omega (arith, blanks.ordered, x.0), x.1, x.2, subst (λ j. InOrder value j ps e) (sym x.3) rest);
-      comma = λ p ps i c e h x. (omega (arith, behind-ahead t i 44 c h, x.0), x.1, x.2, x.3);
+      comma = λ p ps i c e h x. (omega (arith, after-ahead t i 44 c h, x.0), x.1, x.2, x.3);
     }
 
     pub items-order : (ns : Nodes) (i e : ℕ) → SpellsItems names t i ns e → nesting_round ns ≤ levels

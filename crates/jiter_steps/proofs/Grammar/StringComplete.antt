@@ -15,13 +15,13 @@ use Rattle.jiter_steps.specs.Piece.{IsPlain, IsUnit, IsEscape, Piece, SpellsChar
 use Rattle.jiter_steps.specs.Piece.{characters, text_of}
 use Rattle.jiter_scan.specs.Scanned.{taken}
 use Rattle.jiter_steps.specs.StringReading.{closed, part, over, unit_at, number, hex_digits_at, unicode_escape}
-use Rattle.jiter_steps.specs.StringReading.{behind_backslash, portion_by, portion_at, before, body_at, whole}
+use Rattle.jiter_steps.specs.StringReading.{after_backslash, event_by, event_at, before, body_at, whole}
 use Rattle.jiter_steps.specs.StringReading.{content_at}
 use Rattle.jiter_steps.specs.StringReading.{string_at}
 use Rattle.jiter_scan.proofs.Standing.{stands-split}
 use Rattle.jiter_steps.proofs.Grammar.Utf8Shape.{AllFollow, lead}
 use Rattle.jiter_steps.proofs.Grammar.Places.{HexAt, UnitAt, escape-scalar}
-use Rattle.jiter_steps.proofs.Reading.Bodies.{before-before, body_at-portion_by}
+use Rattle.jiter_steps.proofs.Reading.Bodies.{before-before, body_at-event_by}
 
 pub record IsPrinted (b : ℕ) : Type 0 where
   pub printed : 32 ≤ b
@@ -54,18 +54,18 @@ plain-printed p c is =
     )
 
 module _ (t : List ℕ) where
-  pub portion_by-byte : (i b : ℕ) → slice_get t i ≡ Some b → IsPrinted b → portion_at t i ≡ part (b ∷ []) false (i + 1)
-  unfolding portion_at
-  portion_by-byte i b e p = rw (e, ne_eqb b 34 p.no_quote, ne_eqb b 92 p.no_backslash, le-ltb b 32 p.printed)
+  pub event_by-byte : (i b : ℕ) → slice_get t i ≡ Some b → IsPrinted b → event_at t i ≡ part (b ∷ []) false (i + 1)
+  unfolding event_at
+  event_by-byte i b e p = rw (e, ne_eqb b 34 p.no_quote, ne_eqb b 92 p.no_backslash, le-ltb b 32 p.printed)
 
-  pub portion_by-quote : (i : ℕ) → slice_get t i ≡ Some 34 → portion_at t i ≡ over (closed (i + 1))
-  unfolding portion_at
-  portion_by-quote i e = ap (portion_by t i) e
+  pub event_by-quote : (i : ℕ) → slice_get t i ≡ Some 34 → event_at t i ≡ over (closed (i + 1))
+  unfolding event_at
+  event_by-quote i e = ap (event_by t i) e
 
-  pub portion_by-backslash : (i : ℕ) → slice_get t i ≡ Some 92
-      → portion_at t i ≡ behind_backslash t (i + 1) (slice_get t (i + 1))
-  unfolding portion_at
-  portion_by-backslash i e = ap (portion_by t i) e
+  pub event_by-backslash : (i : ℕ) → slice_get t i ≡ Some 92
+      → event_at t i ≡ after_backslash t (i + 1) (slice_get t (i + 1))
+  unfolding event_at
+  event_by-backslash i e = ap (event_by t i) e
 
   hex_digits_at-good : (i : ℕ) → HexAt t i → hex_digits_at t i ≡ number (unit_at t i)
   hex_digits_at-good i h =
@@ -90,39 +90,39 @@ module _ (t : List ℕ) where
         ends = omega (arith, h.1.1.1.1.1.1);
       }
 
-  pub portion_by-number : (i e u : ℕ) → UnitAt t i e u → portion_at t i ≡ unicode_escape t (i + 1 + 1 + 4) u
-  portion_by-number i e u x =
-      rw (portion_by-backslash i x.slash, x.letter, hex_digits_at-good (i + 1 + 1) x.hex, x.number)
+  pub event_by-number : (i e u : ℕ) → UnitAt t i e u → event_at t i ≡ unicode_escape t (i + 1 + 1 + 4) u
+  event_by-number i e u x =
+      rw (event_by-backslash i x.slash, x.letter, hex_digits_at-good (i + 1 + 1) x.hex, x.number)
 
-  portion_by-pair : (i j k high low : ℕ) → is_high high ≡ true → is_low low ≡ true → UnitAt t i k high
-      → UnitAt t (i + 1 + 1 + 4) j low → portion_at t i ≡ part (encode_utf8 (pair_of high low)) true j
-  portion_by-pair i j k high low hi lo x y =
+  event_by-pair : (i j k high low : ℕ) → is_high high ≡ true → is_low low ≡ true → UnitAt t i k high
+      → UnitAt t (i + 1 + 1 + 4) j low → event_at t i ≡ part (encode_utf8 (pair_of high low)) true j
+  event_by-pair i j k high low hi lo x y =
       let o = i + 1 + 1 + 4 in
-      rw (portion_by-number i k high x, hi, y.slash, y.letter, hex_digits_at-good (o + 1 + 1) y.hex, y.number, lo)
+      rw (event_by-number i k high x, hi, y.slash, y.letter, hex_digits_at-good (o + 1 + 1) y.hex, y.number, lo)
       (ap (part (encode_utf8 (pair_of high low)) true) (omega (arith, y.ends)))
 
-  pub portion_by-escape : (i j c : ℕ) (p : List ℕ) → IsEscape p c → Stands t i j p
-      → portion_at t i ≡ part (encode_utf8 c) true j
-  portion_by-escape i j c p (inl is) s =
+  pub event_by-escape : (i j c : ℕ) (p : List ℕ) → IsEscape p c → Stands t i j p
+      → event_at t i ≡ part (encode_utf8 c) true j
+  event_by-escape i j c p (inl is) s =
       let h : Stands t i j (92 ∷ is.sign ∷ []) = subst (Stands t i j) is.is s in
       let no_u : (is.sign == 117) ≡ false = grind (arith, nat_tests, is.means) in
-      rw (portion_by-backslash i h.0, h.1.0, no_u, is.means) (ap (part (encode_utf8 c) true) h.1.1)
-  portion_by-escape i j c p (inr (inl is)) s =
+      rw (event_by-backslash i h.0, h.1.0, no_u, is.means) (ap (part (encode_utf8 c) true) h.1.1)
+  event_by-escape i j c p (inr (inl is)) s =
       let x = unit-at i j c p is.0 s in
       let no_high : is_high c ≡ false = grind (arith, nat_tests, is.1) in
       let no_low : is_low c ≡ false = grind (arith, nat_tests, is.1) in
-      rw (portion_by-number i j c x, no_high, no_low) (ap (part (encode_utf8 c) true) (omega (arith, x.ends)))
-  portion_by-escape i j c p (inr (inr is)) s =
-      let h = stands-split t i j is.front is.back (subst (Stands t i j) is.is s) in
-      let x = unit-at i h.0 is.high is.front is.first h.1 in
+      rw (event_by-number i j c x, no_high, no_low) (ap (part (encode_utf8 c) true) (omega (arith, x.ends)))
+  event_by-escape i j c p (inr (inr is)) s =
+      let h = stands-split t i j is.prefix is.back (subst (Stands t i j) is.is s) in
+      let x = unit-at i h.0 is.high is.prefix is.first h.1 in
       let at : h.0 ≡ i + 1 + 1 + 4 = omega (arith, x.ends) in
       let y = unit-at (i + 1 + 1 + 4) j is.low is.back is.second (subst (λ o. Stands t o j is.back) at h.2) in
-      rw is.means (portion_by-pair i j h.0 is.high is.low is.is_high is.is_low x y)
+      rw is.means (event_by-pair i j h.0 is.high is.low is.is_high is.is_low x y)
 
   pub bytes-read : (i j : ℕ) (w : List ℕ) → ArePrinted w → Stands t i j w → body_at t i ≡ before w false (body_at t j)
   bytes-read i j [] p s = ap (body_at t) s
   bytes-read i j (b ∷ w) p s =
-      body_at-portion_by t i (part (b ∷ []) false (i + 1)) (portion_by-byte i b s.0 p.0)
+      body_at-event_by t i (part (b ∷ []) false (i + 1)) (event_by-byte i b s.0 p.0)
       ∙ ap (before (b ∷ []) false) (bytes-read (i + 1) j w p.1 s.1)
       ∙ before-before (b ∷ []) w false false (body_at t j)
 
@@ -136,7 +136,7 @@ module _ (t : List ℕ) where
     )
     | inr x ↦ (
       true,
-      body_at-portion_by t i (part (encode_utf8 c) true j) (portion_by-escape i j c s.bytes x s.stands),
+      body_at-event_by t i (part (encode_utf8 c) true j) (event_by-escape i j c s.bytes x s.stands),
       escape-scalar s.bytes c x,
     )
   ]
@@ -145,7 +145,7 @@ module _ (t : List ℕ) where
       → (o : Bool) × (body_at t i ≡ record { bytes = text_of ps; owned = o; stop = closed (q + 1) })
       × (all_scalars (characters ps) ≡ true)
   pieces-read i q [] s e =
-      (false, body_at-portion_by t i (over (closed (q + 1))) (ap (portion_at t) s ∙ portion_by-quote q e), refl)
+      (false, body_at-event_by t i (over (closed (q + 1))) (ap (event_at t) s ∙ event_by-quote q e), refl)
   pieces-read i q (p ∷ ps) s e =
       let x = char-read i p.end p.character s.0 in
       let r = pieces-read p.end q ps s.1 e in

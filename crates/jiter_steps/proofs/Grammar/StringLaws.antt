@@ -13,7 +13,7 @@ use Rattle.jiter_steps.specs.Tree.{Text}
 use Rattle.jiter_steps.specs.Piece.{Piece, SpellsString, characters, text_of}
 use Rattle.jiter_steps.specs.Node.{has_backslash, text_at}
 use Rattle.jiter_steps.specs.StringReading.{Stop, closed, unclosed, cut, wrong, body_at, Form, whole, kept, raw}
-use Rattle.jiter_steps.specs.StringReading.{raw_kept, if_utf8, valid_front_by, valid_front, between, text_in_form}
+use Rattle.jiter_steps.specs.StringReading.{raw_kept, if_utf8, valid_prefix_by, valid_prefix, between, text_in_form}
 use Rattle.jiter_steps.specs.StringReading.{content_at, string_at}
 use Rattle.jiter_scan.proofs.Choices.{if_case}
 use Rattle.jiter_steps.proofs.Reading.Bounds.{fault-end, fault-byte}
@@ -45,9 +45,9 @@ module _ (t : List ℕ) (i : ℕ) (inside : i < length t) where
       (λ q. code-within (utf8_valid_len bs) (omega (arith, utf8_valid_len_le bs)))
 
   kept-within : (o : Bool) (bs : List ℕ) (e : ℕ) → i + 1 + length bs ≤ length t → i < e → e ≤ length t
-      → ScalarWithin t i (valid_front (i + 1) o bs e)
+      → ScalarWithin t i (valid_prefix (i + 1) o bs e)
   kept-within o bs e h l m = by (utf8_error_len (drop (utf8_valid_len bs) bs)) where
-    by : (x : Option ℕ) → ScalarWithin t i (valid_front_by (i + 1) o bs e x)
+    by : (x : Option ℕ) → ScalarWithin t i (valid_prefix_by (i + 1) o bs e x)
     by None = (l, m)
     by (Some n) = code-within (utf8_valid_len bs) (omega (arith, utf8_valid_len_le bs))
 
@@ -63,7 +63,7 @@ module _ (t : List ℕ) (i : ℕ) (inside : i < length t) where
   text_in_form-within kept bs o cut h w = kept-within o bs (length t) h inside (omega arith)
   text_in_form-within form bs o cut h w = end-within
 
--- a string ends behind its begin; a fault stands in the text, or at its end
+-- a string ends after its begin; a fault stands in the text, or at its end
 pub string_at-within : (form : Form) (t : List ℕ) (i : ℕ) → i < length t → ScalarWithin t i (string_at form t i)
 unfolding content_at
 string_at-within form t i h =

@@ -11,7 +11,7 @@ use Rattle.jiter_steps.specs.StringReading.{Stop, closed, unclosed, cut, wrong, 
 use Rattle.jiter_steps.proofs.Grammar.Places.{Explains}
 use Rattle.jiter_steps.proofs.Reading.Bodies.{part-ahead, each-body}
 
--- where a string ends: behind its quote or with the input
+-- where a string ends: after its quote or with the input
 abbrev pub EndOf : List ℕ → Stop → ℕ → Type 0
 EndOf t (closed f) e = f ≡ e
 EndOf t (wrong k j) e = ⊥

@@ -13,31 +13,31 @@ use Rattle.jiter_steps.specs.Piece.{IsPlain, IsEscape, Piece, SpellsChar, Spells
 use Rattle.jiter_steps.specs.Piece.{text_of}
 use Rattle.jiter_scan.specs.Scanned.{taken}
 use Rattle.jiter_steps.specs.Tree.{Text}
-use Rattle.jiter_steps.specs.StringReading.{Stop, closed, Portion, part, over, portion_at, join, body_at, whole}
+use Rattle.jiter_steps.specs.StringReading.{Stop, closed, Event, part, over, event_at, join, body_at, whole}
 use Rattle.jiter_steps.specs.StringReading.{content_at, string_at, text_in_form}
 use Rattle.jiter_steps.proofs.Grammar.NodeRules.{end_of, pieces_from}
 use Rattle.jiter_steps.proofs.Grammar.Utf8Shape.{Follows, AllFollow, Lead, lead}
 use Rattle.jiter_scan.proofs.Choices.{if_case, if_gives, failed-taken, same_taken}
 use Rattle.jiter_scan.proofs.Standing.{stands-length}
-use Rattle.jiter_steps.proofs.Grammar.Places.{Explains, portion_at-explains}
+use Rattle.jiter_steps.proofs.Grammar.Places.{Explains, event_at-explains}
 use Rattle.jiter_steps.proofs.Reading.Bodies.{body_at-is}
-use Rattle.jiter_steps.proofs.Grammar.StringComplete.{ArePrinted, plain-printed, portion_by-byte, portion_by-escape}
+use Rattle.jiter_steps.proofs.Grammar.StringComplete.{ArePrinted, plain-printed, event_by-byte, event_by-escape}
 
--- what is left of a body behind some of its bytes
+-- what is left of a body after some of its bytes
 pub record Leaves (t : List ℕ) (i j : ℕ) (bs : List ℕ) : Type 0 where
   pub bytes : (body_at t j).bytes ≡ bs
   pub stop : (body_at t j).stop ≡ (body_at t i).stop
 
-valid_front : (bs : List ℕ) (n : ℕ) → IsUtf8 (take (valid_len_up_to bs n) bs)
-valid_front bs zero = IsUtf8-nil
-valid_front bs (suc n) =
+valid_prefix : (bs : List ℕ) (n : ℕ) → IsUtf8 (take (valid_len_up_to bs n) bs)
+valid_prefix bs zero = IsUtf8-nil
+valid_prefix bs (suc n) =
     if_case (λ k. IsUtf8 (take k bs)) (is_utf8 (take (suc n) bs)) (suc n) (valid_len_up_to bs n)
-    (λ e. IsUtf8-from_is_utf8 (take (suc n) bs) e) (λ e. valid_front bs n)
+    (λ e. IsUtf8-from_is_utf8 (take (suc n) bs) e) (λ e. valid_prefix bs n)
 
--- the valid front is UTF-8
+-- the valid prefix is UTF-8
 pub IsUtf8-valid : (bs : List ℕ) → IsUtf8 (take (utf8_valid_len bs) bs)
 unfolding utf8_valid_len
-IsUtf8-valid bs = valid_front bs (length bs)
+IsUtf8-valid bs = valid_prefix bs (length bs)
 
 pub valid-IsUtf8 : (bs : List ℕ) → utf8_valid_len bs ≡ length bs → IsUtf8 bs
 valid-IsUtf8 bs e = subst IsUtf8 (take_all _ bs (omega arith)) (IsUtf8-valid bs)
@@ -46,8 +46,8 @@ module _ (t : List ℕ) where
   -- a byte that follows is no escape's first
   follow-read : (i y : ℕ) (r : List ℕ) → Follows y → (body_at t i).bytes ≡ y ∷ r
       → (slice_get t i ≡ Some y) × Leaves t i (i + 1) r
-  follow-read i y r f e = by (portion_at t i) (portion_at-explains t i) (body_at-is t i) where
-    by : (x : Portion) → Explains t i x → body_at t i ≡ join (body_at t) x
+  follow-read i y r f e = by (event_at t i) (event_at-explains t i) (body_at-is t i) where
+    by : (x : Event) → Explains t i x → body_at t i ≡ join (body_at t) x
         → (slice_get t i ≡ Some y) × Leaves t i (i + 1) r
     by (part bs false j) h b =
         let all = rw (b, h.is) at e in
@@ -71,12 +71,12 @@ module _ (t : List ℕ) where
 
   -- a character that is read is spelled
   char-sound : (i c : ℕ) (r : List ℕ) → IsScalar c → (body_at t i).bytes ≡ encode_utf8 c ++ r → let j =
-      end_of i c (portion_at t i) in SpellsChar t i j c × Leaves t i j r
-  char-sound i c r sc e = by (portion_at t i) (portion_at-explains t i) (body_at-is t i) where
+      end_of i c (event_at t i) in SpellsChar t i j c × Leaves t i j r
+  char-sound i c r sc e = by (event_at t i) (event_at-explains t i) (body_at-is t i) where
     l : Lead c
     l = lead c sc
 
-    by : (x : Portion) → Explains t i x → body_at t i ≡ join (body_at t) x → let j = end_of i c x in
+    by : (x : Event) → Explains t i x → body_at t i ≡ join (body_at t) x → let j = end_of i c x in
         SpellsChar t i j c × Leaves t i j r
     by (part bs false j) h b =
         let all = rw (b, h.is, l.is) at e in
@@ -106,8 +106,8 @@ module _ (t : List ℕ) where
 
   none-sound : (i e : ℕ) → (body_at t i).bytes ≡ [] → (body_at t i).stop ≡ closed e
       → (slice_get t i ≡ Some 34) × (e ≡ i + 1)
-  none-sound i e b s = by (portion_at t i) (portion_at-explains t i) (body_at-is t i) where
-    by : (x : Portion) → Explains t i x → body_at t i ≡ join (body_at t) x → (slice_get t i ≡ Some 34) × (e ≡ i + 1)
+  none-sound i e b s = by (event_at t i) (event_at-explains t i) (body_at-is t i) where
+    by : (x : Event) → Explains t i x → body_at t i ≡ join (body_at t) x → (slice_get t i ≡ Some 34) × (e ≡ i + 1)
     by (part bs false j) h is = let none = rw (is, h.is) at b in absurd (cc)
     by (part bs true j) h is = let none = rw (is, h.is, (lead h.character h.scalar).is) at b in absurd (cc)
     by (over x) h is = subst (λ (y : Stop). Explains t i (over y)) (rw is at s) h
@@ -118,21 +118,21 @@ module _ (t : List ℕ) where
   pieces-sound [] i e sc b s = let x = none-sound i e b s in (i, refl, x.0, x.1)
   pieces-sound (c ∷ cs) i e sc b s =
       let p = and_parts _ _ sc in
-      let j = end_of i c (portion_at t i) in
+      let j = end_of i c (event_at t i) in
       let x = char-sound i c (encode_utf8_all cs) p.0 b in
       let r = pieces-sound cs j e p.1 x.1.bytes (x.1.stop ∙ s) in
       (r.0, (x.0, r.1), r.2, r.3)
 
   -- ---- in one way
-  char-end : (i j c : ℕ) → SpellsChar t i j c → j ≡ end_of i c (portion_at t i)
+  char-end : (i j c : ℕ) → SpellsChar t i j c → j ≡ end_of i c (event_at t i)
   char-end i j c s = elim s.piece [
     | inl p ↦
         let l = lead c p.scalar in
         let w = subst (Stands t i j) p.is s.stands in
         let printed = subst ArePrinted l.is (plain-printed s.bytes c p) in
         let here = subst (Stands t i j) l.is w in
-        stands-length t i j (encode_utf8 c) w ∙ sym (ap (end_of i c) (portion_by-byte t i l.first here.0 printed.0))
-    | inr x ↦ sym (ap (end_of i c) (portion_by-escape t i j c s.bytes x s.stands))
+        stands-length t i j (encode_utf8 c) w ∙ sym (ap (end_of i c) (event_by-byte t i l.first here.0 printed.0))
+    | inr x ↦ sym (ap (end_of i c) (event_by-escape t i j c s.bytes x s.stands))
   ]
 
   pub pieces-unique : (ps : List Piece) (i q : ℕ) → SpellsPieces t i ps q → ps ≡ pieces_from t i (characters ps)
@@ -141,12 +141,12 @@ module _ (t : List ℕ) where
       let c = p.character in
       let e = char-end i p.end c s.0 in
       (λ k. record { character = c; end = e k } ∷ ps)
-      ∙ ap (λ l. record { character = c; end = end_of i c (portion_at t i) } ∷ l)
+      ∙ ap (λ l. record { character = c; end = end_of i c (event_at t i) } ∷ l)
       (pieces-unique ps p.end q s.1 ∙ ap (λ k. pieces_from t k (characters ps)) e)
 
   pub characters-from : (cs : List ℕ) (i : ℕ) → characters (pieces_from t i cs) ≡ cs
   characters-from [] i = refl
-  characters-from (c ∷ cs) i = ap (λ l. c ∷ l) (characters-from cs (end_of i c (portion_at t i)))
+  characters-from (c ∷ cs) i = ap (λ l. c ∷ l) (characters-from cs (end_of i c (event_at t i)))
 
   -- ---- the law
   pub closed-text : (i : ℕ) (bs : List ℕ) (o : Bool) (s : Stop) (x : Text) (e : ℕ)

@@ -2,9 +2,9 @@
 use Rattle.std.proofs.Common.{◌≡◌, ℕ, zero, suc, ◌+◌, ◌<◌, ◌≤◌, ◌||◌, Bool, true, false, List, ◌++◌, length, refl}
 use Rattle.std.proofs.Common.{sym, ap, ◌∙◌, subst, arith, append_assoc, length-append}
 use Rattle.std.proofs.lemmas.Option.{slice_get_past, slice_get_within}
-use Rattle.jiter_steps.specs.StringReading.{Stop, closed, unclosed, wrong, Portion, part, over, portion_by, portion_at}
+use Rattle.jiter_steps.specs.StringReading.{Stop, closed, unclosed, wrong, Event, part, over, event_by, event_at}
 use Rattle.jiter_steps.specs.StringReading.{Body, before, join, body_within, body_at}
-use Rattle.jiter_steps.proofs.Grammar.Places.{IsPlaceKind, Explains, portion_at-explains}
+use Rattle.jiter_steps.proofs.Grammar.Places.{IsPlaceKind, Explains, event_at-explains}
 
 pub before-before : (a b : List ℕ) (o p : Bool) (r : Body) → before a o (before b p r) ≡ before (a ++ b) (o || p) r
 before-before a b true p r =
@@ -17,14 +17,14 @@ part-ahead t i j bs true h = (h.ahead, h.within)
 part-ahead t i j bs false h =
     let inside = slice_get_within t i h.byte h.here in (omega (arith, h.ends), omega (arith, h.ends))
 
-pub portion_by-end : (t : List ℕ) (i : ℕ) → length t ≤ i → portion_at t i ≡ over unclosed
-unfolding portion_at
-portion_by-end t i h = ap (portion_by t i) (slice_get_past t i h)
+pub event_by-end : (t : List ℕ) (i : ℕ) → length t ≤ i → event_at t i ≡ over unclosed
+unfolding event_at
+event_by-end t i h = ap (event_by t i) (slice_get_past t i h)
 
 module _ (t : List ℕ) where
   enough-join : (n m i : ℕ) → length t ≤ suc n + i → length t ≤ suc m + i
       → ((j : ℕ) → length t ≤ n + j → length t ≤ m + j → body_within n t j ≡ body_within m t j)
-      → (f : Portion) → Explains t i f → join (body_within n t) f ≡ join (body_within m t) f
+      → (f : Event) → Explains t i f → join (body_within n t) f ≡ join (body_within m t) f
   enough-join n m i p q go (part bs o j) h =
       let a = part-ahead t i j bs o h in ap (before bs o) (go j (omega arith) (omega arith))
   enough-join n m i p q go (over s) h = refl
@@ -32,37 +32,37 @@ module _ (t : List ℕ) where
   enough : (n m i : ℕ) → length t ≤ n + i → length t ≤ m + i → body_within n t i ≡ body_within m t i
   unfolding body_within
   enough zero zero i p q = refl
-  enough zero (suc m) i p q = sym (ap (join (body_within m t)) (portion_by-end t i (omega arith)))
-  enough (suc n) zero i p q = ap (join (body_within n t)) (portion_by-end t i (omega arith))
+  enough zero (suc m) i p q = sym (ap (join (body_within m t)) (event_by-end t i (omega arith)))
+  enough (suc n) zero i p q = ap (join (body_within n t)) (event_by-end t i (omega arith))
   enough (suc n) (suc m) i p q =
-      enough-join n m i p q (λ j x y. enough n m j x y) (portion_at t i) (portion_at-explains t i)
+      enough-join n m i p q (λ j x y. enough n m j x y) (event_at t i) (event_at-explains t i)
 
   -- after this no proof speaks of turns
-  pub body_at-is : (i : ℕ) → body_at t i ≡ join (body_at t) (portion_at t i)
+  pub body_at-is : (i : ℕ) → body_at t i ≡ join (body_at t) (event_at t i)
   unfolding body_at body_within
   body_at-is i = enough (length t) (suc (length t)) i (omega arith) (omega arith)
 
-  pub body_at-portion_by : (i : ℕ) (f : Portion) → portion_at t i ≡ f → body_at t i ≡ join (body_at t) f
-  body_at-portion_by i f e = body_at-is i ∙ ap (join (body_at t)) e
+  pub body_at-event_by : (i : ℕ) (f : Event) → event_at t i ≡ f → body_at t i ≡ join (body_at t) f
+  body_at-event_by i f e = body_at-is i ∙ ap (join (body_at t)) e
 
-  -- What holds where a string is over, and of a body where it holds of what is behind its first part, holds of all.
+  -- What holds where a string is over, and of a body where it holds of what is after its first part, holds of all.
   module _ (P : ℕ → Body → Type 0)
-      (behind-part : (i j : ℕ) (bs : List ℕ) (o : Bool) → Explains t i (part bs o j) → P j (body_at t j)
+      (after-part : (i j : ℕ) (bs : List ℕ) (o : Bool) → Explains t i (part bs o j) → P j (body_at t j)
       → P i (before bs o (body_at t j)))
       (at-end : (i : ℕ) (s : Stop) → Explains t i (over s) → P i (join (body_at t) (over s))) where
-    by-place : (i : ℕ) → ((j : ℕ) → i < j → P j (body_at t j)) → (f : Portion) → Explains t i f
+    by-place : (i : ℕ) → ((j : ℕ) → i < j → P j (body_at t j)) → (f : Event) → Explains t i f
         → P i (join (body_at t) f)
-    by-place i go (part bs o j) h = behind-part i j bs o h (go j (part-ahead t i j bs o h).0)
+    by-place i go (part bs o j) h = after-part i j bs o h (go j (part-ahead t i j bs o h).0)
     by-place i go (over s) h = at-end i s h
 
     by-turns : (n i : ℕ) → length t ≤ n + i → P i (body_at t i)
     by-turns zero i p =
         let past : length t ≤ i = omega arith in
-        subst (P i) (sym (body_at-portion_by i (over unclosed) (portion_by-end t i past)))
+        subst (P i) (sym (body_at-event_by i (over unclosed) (event_by-end t i past)))
         (at-end i unclosed (slice_get_past t i past))
     by-turns (suc n) i p =
         subst (P i) (sym (body_at-is i))
-        (by-place i (λ j l. by-turns n j (omega arith)) (portion_at t i) (portion_at-explains t i))
+        (by-place i (λ j l. by-turns n j (omega arith)) (event_at t i) (event_at-explains t i))
 
     pub each-body : (i : ℕ) → P i (body_at t i)
     each-body i = by-turns (length t) i (omega arith)
@@ -79,7 +79,7 @@ module _ (t : List ℕ) where
       omega (arith, part-wide i j bs o h, go (part-ahead t i j bs o h).1, length-append bs (body_at t j).bytes))
       (λ i s h le. omega arith)
 
--- where a string stops that is read from i on: behind i, or at a fault of a place
+-- where a string stops that is read from i on: after i, or at a fault of a place
 abbrev pub StopWithin : List ℕ → ℕ → Stop → Type 0
 StopWithin t i (closed e) = (i < e) × (e ≤ length t)
 StopWithin t i (wrong k j) = (i ≤ j) × (j < length t) × IsPlaceKind k

@@ -16,7 +16,7 @@ use Rattle.jiter_steps.specs.Blank.{past_blanks}
 use Rattle.jiter_steps.specs.Step.{Step, more, closed, stuck, step, closer_of, begins_part, end_kind_of}
 use Rattle.jiter_steps.specs.Step.{comma_kind_of, container_first, container_comma, container_step, colon}
 use Rattle.jiter_steps.specs.Step.{value_first, object_colon}
-use Rattle.jiter_steps.specs.declared.parse.Shape.{Shape}
+use Rattle.jiter_steps.specs.declared.parse.ContainerKind.{ContainerKind}
 use Rattle.jiter_steps.specs.Read.{Reading, done, fault}
 use Rattle.jiter_steps.proofs.Reading.BothShapes.{end_kind-bytes, comma_kind-late, comma_kind-bytes}
 use Rattle.jiter_steps.proofs.Grammar.Blanks.{past_blanks-bound, past_blanks-after}
@@ -27,12 +27,12 @@ Ahead t i (more j) = (i ≤ j) × (j < length t)
 Ahead t i (closed e) = (i < e) × (e ≤ length t)
 Ahead t i (stuck k j) = (i ≤ j) × FaultAt t k j
 
--- so does what may stand behind a key: n bytes or more, and where n is 0 a byte follows
+-- so does what may stand after a key: n bytes or more, and where n is 0 a byte follows
 abbrev pub ExtentAhead : List ℕ → ℕ → ℕ → Extent → Type 0
 ExtentAhead t i n (taken u j) = (i + n ≤ j) × (j + 1 ≤ length t + n)
 ExtentAhead t i n (failed k j) = (i ≤ j) × FaultAt t k j
 
--- a reading from i ends behind it, or stops at or behind it, and not past the length
+-- a reading from i ends after it, or stops at or after it, and not past the length
 abbrev pub Within : {A : Type 0} → List ℕ → ℕ → Reading A → Type 0
 Within t i (done a e) = (i < e) × (e ≤ length t)
 Within t i (fault k x stop) = (i ≤ stop) × (stop ≤ length t) × FaultAt t k x
@@ -81,14 +81,14 @@ module _ (t : List ℕ) where
   ahead-later i j (stuck x k) le h = (omega (arith, h.0), h.1)
 
   -- Between the parts of a container.
-  module _ (b : Shape) where
+  module _ (b : ContainerKind) where
     end-fault : (j : ℕ) → j ≡ length t → FaultAt t (end_kind_of b) j
     end-fault j h = fault-end (end_kind_of b) j (end_kind-bytes b) h
 
     key-fault : (i j : ℕ) → i ≤ j → j < length t → Ahead t i (stuck key_must_be_a_string j)
     key-fault i j a h = (a, fault-byte key_must_be_a_string j (λ e. cc) refl (omega arith))
 
-    -- behind the opening bracket
+    -- after the opening bracket
     first-here : RowAhead (container_first b)
     first-here i j None a h = (a, end-fault j h)
     first-here i j (Some c) a h =
@@ -98,7 +98,7 @@ module _ (t : List ℕ) where
     pub container_first-ahead : (i : ℕ) → i ≤ length t → Ahead t i (step t (container_first b) i)
     container_first-ahead = step-ahead (container_first b) first-here
 
-    -- behind a comma
+    -- after a comma
     comma-here : RowAhead (container_comma b)
     comma-here i j None a h = (a, fault-end eof_value j (λ e. cc) h)
     comma-here i j (Some c) a h =
@@ -109,19 +109,19 @@ module _ (t : List ℕ) where
     comma-ahead : (i : ℕ) → i ≤ length t → Ahead t i (step t (container_comma b) i)
     comma-ahead = step-ahead (container_comma b) comma-here
 
-    -- behind a part
+    -- after a part
     step-here : RowAhead (container_step b t)
     step-here i j None a h = (a, end-fault j h)
     step-here i j (Some c) a h =
-        let behind = ahead-later i (j + 1) _ (omega arith) (comma-ahead (j + 1) (omega arith)) in
+        let after = ahead-later i (j + 1) _ (omega arith) (comma-ahead (j + 1) (omega arith)) in
         let fault = fault-byte (comma_kind_of b) j (comma_kind-bytes b) (comma_kind-late b) (omega arith) in
         either (Ahead t i) (c == closer_of b) _ _ (omega arith, omega arith)
-        (either (Ahead t i) (c == 44) _ _ behind (a, fault))
+        (either (Ahead t i) (c == 44) _ _ after (a, fault))
 
     pub container_step-ahead : (i : ℕ) → i ≤ length t → Ahead t i (step t (container_step b t) i)
     container_step-ahead = step-ahead (container_step b t) step-here
 
-  -- behind a key: its colon
+  -- after a key: its colon
   colon-here : (i j : ℕ) (o : Option ℕ) → i ≤ j → Reaches t j o → ExtentAhead t i 1 (colon j o)
   colon-here i j None a h = (a, fault-end eof_object j (λ e. cc) h)
   colon-here i j (Some c) a h =
@@ -139,14 +139,14 @@ module _ (t : List ℕ) where
   pub value_first-ahead : (i : ℕ) → i ≤ length t → ExtentAhead t i 0 (step t value_first i)
   value_first-ahead i h = value-here i (past_blanks t i) _ (past_blanks-after t i) (past-reaches i h)
 
-  -- behind a key: its colon, and where its value begins
+  -- after a key: its colon, and where its value begins
   later : (i j n : ℕ) (x : Extent) → i + n ≤ j → ExtentAhead t j 0 x → ExtentAhead t i 0 x
   later i j n (taken u k) le w = (omega (arith, w.0), w.1)
   later i j n (failed k x) le w = (omega (arith, w.0), w.1)
 
-  behind-colon : (i : ℕ) (x : Extent) → ExtentAhead t i 1 x → ExtentAhead t i 0 (extent_then x (step t value_first))
-  behind-colon i (taken u j) w = later i j 1 _ w.0 (value_first-ahead j (omega (arith, w.1)))
-  behind-colon i (failed k j) w = w
+  after-colon : (i : ℕ) (x : Extent) → ExtentAhead t i 1 x → ExtentAhead t i 0 (extent_then x (step t value_first))
+  after-colon i (taken u j) w = later i j 1 _ w.0 (value_first-ahead j (omega (arith, w.1)))
+  after-colon i (failed k j) w = w
 
   pub object_colon-ahead : (i : ℕ) → i ≤ length t → ExtentAhead t i 0 (object_colon t i)
-  object_colon-ahead i h = behind-colon i (step t colon i) (colon-ahead i h)
+  object_colon-ahead i h = after-colon i (step t colon i) (colon-ahead i h)

@@ -11,8 +11,8 @@ use Rattle.jiter_steps.specs.Literal.{start_of}
 use Rattle.jiter_scan.proofs.Choices.{if_case}
 use Rattle.jiter_steps.specs.Step.{Step, more, closed, stuck, step, closer_of, begins_part, container_first}
 use Rattle.jiter_steps.specs.Step.{container_comma, container_step}
-use Rattle.jiter_steps.specs.declared.parse.Shape.{Shape}
-use Rattle.jiter_steps.specs.declared.parse.Shape.TheVariants as shape
+use Rattle.jiter_steps.specs.declared.parse.ContainerKind.{ContainerKind}
+use Rattle.jiter_steps.specs.declared.parse.ContainerKind.TheVariants as shape
 use Rattle.jiter_steps.specs.declared.parse.Start.TheVariants as start
 use Rattle.jiter_steps.proofs.Reading.Bounds.{either}
 
@@ -38,7 +38,7 @@ GoesTo Begins (closed e) = Unit {0}
 GoesTo Begins (stuck k j) = Unit {0}
 
 -- a byte that begins a part of an array or an object
-abbrev pub BeginsAt : Shape → List ℕ → ℕ → Type 0
+abbrev pub BeginsAt : ContainerKind → List ℕ → ℕ → Type 0
 BeginsAt b t j = (c : ℕ) × (slice_get t j ≡ Some c) × (begins_part b c ≡ true)
 
 -- a key begins with its quote
@@ -46,7 +46,7 @@ pub key-quote : (t : List ℕ) (j : ℕ) → BeginsAt shape.Object t j → slice
 key-quote t j h = h.1 ∙ ap Some (eqb-true h.0 34 h.2)
 
 -- it stands where their steps go on
-module _ (b : Shape) (t : List ℕ) where
+module _ (b : ContainerKind) (t : List ℕ) where
   abbrev Goes : Step → Type 0
   Goes = GoesTo (BeginsAt b t)
 

@@ -11,16 +11,16 @@ use Rattle.jiter_steps.specs.Blank.{past_blanks}
 use Rattle.jiter_steps.specs.Literal.{start_of}
 use Rattle.jiter_steps.specs.Node.{nesting_limit}
 use Rattle.jiter_steps.specs.Step.{Step, more, closed, stuck, step, object_colon}
-use Rattle.jiter_steps.specs.Read.{Reading, done, fault, Rules, Container, scalar_at, with_key, behind_colon}
-use Rattle.jiter_steps.specs.Read.{behind_key, if_forgiven, follow, behind_part, parts_at, container_at, array_of}
+use Rattle.jiter_steps.specs.Read.{Reading, done, fault, Rules, Container, scalar_at, with_key, after_colon}
+use Rattle.jiter_steps.specs.Read.{after_key, if_forgiven, follow, after_part, parts_at, container_at, array_of}
 use Rattle.jiter_steps.specs.Read.{object_of, value_with, inside_at, value_at, if_last, to_end, if_begun}
-use Rattle.jiter_steps.specs.Read.{front_answer, unless_refused, whole_answer}
+use Rattle.jiter_steps.specs.Read.{prefix_answer, unless_refused, whole_answer}
 use Rattle.jiter_steps.specs.declared.parse.Literal.{Literal}
 use Rattle.jiter_steps.specs.declared.parse.Start.{Start}
 use Rattle.jiter_steps.specs.declared.parse.Start.TheVariants as start
-use Rattle.jiter_steps.specs.declared.parse.Shape.TheVariants as shape
+use Rattle.jiter_steps.specs.declared.parse.ContainerKind.TheVariants as shape
 use Rattle.jiter_steps.proofs.Reading.Bounds.{both}
-use Rattle.jiter_steps.proofs.Reading.Values.{part_behind}
+use Rattle.jiter_steps.proofs.Reading.Values.{part_after}
 use Rattle.jiter_steps.proofs.Reading.FirstBytes.{begins-within, string-begins, GoesTo, BeginsAt, key-quote}
 use Rattle.jiter_steps.proofs.Reading.FirstBytes.{container_first-begins, container_step-begins}
 
@@ -111,24 +111,24 @@ module _ (Told : Kind → Type 0) where
       follow-mapped n n' goes parts (closed e) b = λ told. ap (λ a. done a e) (maps.build e parts)
       follow-mapped n n' goes parts (stuck k j) b = λ told. if_forgiven-mapped _ _ (λ e. maps.build e parts) k j j
 
-      behind_part-mapped : (n : List P → ℕ → Reading A) (n' : List Q → ℕ → Reading B)
+      after_part-mapped : (n : List P → ℕ → Reading A) (n' : List Q → ℕ → Reading B)
           → ((parts : List P) (j : ℕ) → Begins j → MapsTo h (n parts j) (n' (map m parts) j))
           → (parts : List P) (x : Reading P) (y : Reading Q) → MapsTo m x y
-          → MapsTo h (behind_part p c t n parts x) (behind_part q d t n' (map m parts) y)
-      behind_part-mapped n n' goes parts (done a e) y same = λ told.
+          → MapsTo h (after_part p c t n parts x) (after_part q d t n' (map m parts) y)
+      after_part-mapped n n' goes parts (done a e) y same = λ told.
           let more_parts = parts ++ a ∷ [] in
           follow-mapped (n more_parts) (n' (map m more_parts)) (goes more_parts) more_parts _ (maps.next-begins e) told
           ∙ ap (follow q (n' (map m more_parts)) (λ e. d.build e (map m more_parts))) (maps.next e)
           ∙ ap (λ l. follow q (n' l) (λ e. d.build e l) (step t d.next e)) (map_push m parts a)
-          ∙ ap (behind_part q d t n' (map m parts)) (same tt)
-      behind_part-mapped n n' goes parts (fault k i stop) y same = λ told.
+          ∙ ap (after_part q d t n' (map m parts)) (same tt)
+      after_part-mapped n n' goes parts (fault k i stop) y same = λ told.
           if_forgiven-mapped _ _ (λ e. maps.build e parts) k i stop
-          ∙ ap (behind_part q d t n' (map m parts)) (same (fault-told (λ e. c.build e parts) k i stop told))
+          ∙ ap (after_part q d t n' (map m parts)) (same (fault-told (λ e. c.build e parts) k i stop told))
 
       part-mapped : (parts : List P) (i : ℕ) → Begins i
-          → MapsTo m (part_behind c parts i) (part_behind d (map m parts) i)
+          → MapsTo m (part_after c parts i) (part_after d (map m parts) i)
       part-mapped parts i b =
-          subst (λ o. MapsTo m (part_behind c parts i) (unless_refused o (d.part i))) (maps.refuses parts i b)
+          subst (λ o. MapsTo m (part_after c parts i) (unless_refused o (d.part i))) (maps.refuses parts i b)
           (by (c.refuses parts i)) where
             by : (o : Option (Kind × ℕ)) → MapsTo m (unless_refused o (c.part i)) (unless_refused o (d.part i))
             by None = maps.part i b
@@ -139,8 +139,8 @@ module _ (Told : Kind → Type 0) where
       unfolding parts_at
       parts_at-mapped zero parts i b = λ told. refl
       parts_at-mapped (suc n) parts i b =
-          behind_part-mapped (parts_at p c t n) (parts_at q d t n) (parts_at-mapped n) parts (part_behind c parts i)
-          (part_behind d (map m parts) i) (part-mapped parts i b)
+          after_part-mapped (parts_at p c t n) (parts_at q d t n) (parts_at-mapped n) parts (part_after c parts i)
+          (part_after d (map m parts) i) (part-mapped parts i b)
 
       container_at-mapped : (i : ℕ) → MapsTo h (container_at p c t i) (container_at q d t i)
       container_at-mapped i told =
@@ -155,15 +155,15 @@ module _ (Told : Kind → Type 0) where
       with_key-mapped k (done a e) y all told = ap (with_key (g k)) (all told)
       with_key-mapped k (fault kind i stop) y all told = ap (with_key (g k)) (all told)
 
-      behind_colon-mapped : (k : K) (x : Extent) → MapsTo (pair g h) (behind_colon k f x) (behind_colon (g k) f' x)
-      behind_colon-mapped k (taken u j) = with_key-mapped k (f j) (f' j) (same j)
-      behind_colon-mapped k (failed kind j) = λ told. refl
+      after_colon-mapped : (k : K) (x : Extent) → MapsTo (pair g h) (after_colon k f x) (after_colon (g k) f' x)
+      after_colon-mapped k (taken u j) = with_key-mapped k (f j) (f' j) (same j)
+      after_colon-mapped k (failed kind j) = λ told. refl
 
-      behind_key-mapped : (i : ℕ) (x : Scanned K) (y : Scanned L) → ScansTo g x y
-          → MapsTo (pair g h) (behind_key f t i x) (behind_key f' t i y)
-      behind_key-mapped i (taken k e) y all told =
-          behind_colon-mapped k (object_colon t e) told ∙ ap (behind_key f' t i) (all tt)
-      behind_key-mapped i (failed kind j) y all told = ap (behind_key f' t i) (all told)
+      after_key-mapped : (i : ℕ) (x : Scanned K) (y : Scanned L) → ScansTo g x y
+          → MapsTo (pair g h) (after_key f t i x) (after_key f' t i y)
+      after_key-mapped i (taken k e) y all told =
+          after_colon-mapped k (object_colon t e) told ∙ ap (after_key f' t i) (all tt)
+      after_key-mapped i (failed kind j) y all told = ap (after_key f' t i) (all told)
 
       array-maps : (i : ℕ) → Maps (array_of p f t i) (array_of q f' t i) h h t (BeginsAt shape.Array t)
       array-maps i = record {
@@ -182,7 +182,7 @@ module _ (Told : Kind → Type 0) where
         next = λ j. refl;
         first-begins = container_first-begins shape.Object t;
         next-begins = container_step-begins shape.Object t;
-        part = λ j b. behind_key-mapped j (p.key t j) (q.key t j) (leads.key j (key-quote t j b));
+        part = λ j b. after_key-mapped j (p.key t j) (q.key t j) (leads.key j (key-quote t j b));
         refuses = λ members j b. leads.refuses members j (key-quote t j b);
         build = leads.object i;
       }
@@ -238,10 +238,10 @@ module _ {K L A B : Type 0} (p : Rules K A) (q : Rules L B) (g : K → L) (h : A
   if_begun-mapped i None = refl
   if_begun-mapped i (Some c) = value_at-mapped nesting_limit i
 
-  front_answer-mapped : mapped h (front_answer p t) ≡ front_answer q t
-  unfolding front_answer
-  front_answer-mapped = if_begun-mapped (past_blanks t 0) (slice_get t (past_blanks t 0))
+  prefix_answer-mapped : mapped h (prefix_answer p t) ≡ prefix_answer q t
+  unfolding prefix_answer
+  prefix_answer-mapped = if_begun-mapped (past_blanks t 0) (slice_get t (past_blanks t 0))
 
   pub whole_answer-mapped : mapped h (whole_answer p t) ≡ whole_answer q t
   unfolding whole_answer
-  whole_answer-mapped = to_end-mapped (front_answer p t) ∙ ap (to_end t) front_answer-mapped
+  whole_answer-mapped = to_end-mapped (prefix_answer p t) ∙ ap (to_end t) prefix_answer-mapped

@@ -19,7 +19,7 @@ use Rattle.jiter_steps.specs.declared.parse.Literal.{Literal}
 use Rattle.jiter_steps.specs.declared.parse.Literal.TheVariants as literal
 use Rattle.jiter_steps.proofs.Reading.Bounds.{Within}
 use Rattle.jiter_steps.proofs.Reading.Values.{Advances, value_at-within}
-use Rattle.jiter_steps.proofs.Reading.WholeTexts.{front_answer-within, whole_answer-within}
+use Rattle.jiter_steps.proofs.Reading.WholeTexts.{prefix_answer-within, whole_answer-within}
 use Rattle.jiter_steps.proofs.Grammar.NodeRules.{nodes}
 use Rattle.jiter_steps.proofs.Grammar.StringLaws.{string_at-within}
 
@@ -79,4 +79,4 @@ module _ (t : List ℕ) where
 
   pub partial_answer-within : (names : Bool) (mode : PartialMode) → Within t 0 (partial_answer names mode t)
   partial_answer-within names mode =
-      front_answer-within (partial_trees names mode) t (trees-advances _ (value_form mode) names)
+      prefix_answer-within (partial_trees names mode) t (trees-advances _ (value_form mode) names)

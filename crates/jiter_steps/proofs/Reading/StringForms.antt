@@ -8,11 +8,11 @@ use Rattle.jiter_scan.specs.Kind.{Kind, invalid_code_point}
 use Rattle.jiter_scan.specs.Scanned.{taken, failed}
 use Rattle.jiter_scan.proofs.Choices.{if_gives, failed-taken, same_taken}
 use Rattle.jiter_steps.specs.Tree.{Text}
-use Rattle.jiter_steps.specs.StringReading.{Stop, closed, body_at, whole, kept, raw, valid_front, between}
+use Rattle.jiter_steps.specs.StringReading.{Stop, closed, body_at, whole, kept, raw, valid_prefix, between}
 use Rattle.jiter_steps.specs.StringReading.{text_in_form, content_at}
 
 pub kept-valid : (i e : ℕ) (o : Bool) (bs : List ℕ) → utf8_valid_len bs ≡ length bs
-    → valid_front i o bs e ≡ taken (record { owned = o; bytes = bs }) e
+    → valid_prefix i o bs e ≡ taken (record { owned = o; bytes = bs }) e
 unfolding utf8_error_len
 kept-valid i e o bs h =
     rw (drop_all (utf8_valid_len bs) bs (omega arith), take_all (utf8_valid_len bs) bs (omega arith))

@@ -9,17 +9,17 @@ use Rattle.jiter_scan.specs.Word.{Extent}
 use Rattle.jiter_scan.proofs.Scanning.{ScalarWithin, FaultAt}
 use Rattle.jiter_steps.specs.Literal.{start_of}
 use Rattle.jiter_steps.specs.Step.{Step, more, closed, stuck, step, object_colon}
-use Rattle.jiter_steps.specs.Read.{Reading, done, fault, Rules, Container, scalar_at, with_key, behind_colon}
-use Rattle.jiter_steps.specs.Read.{behind_key, if_forgiven, follow, behind_part, parts_at, container_at, array_of}
+use Rattle.jiter_steps.specs.Read.{Reading, done, fault, Rules, Container, scalar_at, with_key, after_colon}
+use Rattle.jiter_steps.specs.Read.{after_key, if_forgiven, follow, after_part, parts_at, container_at, array_of}
 use Rattle.jiter_steps.specs.Read.{object_of, unless_refused, value_with, inside_at, value_at}
-use Rattle.jiter_steps.specs.declared.parse.Shape.TheVariants as shape
+use Rattle.jiter_steps.specs.declared.parse.ContainerKind.TheVariants as shape
 use Rattle.jiter_steps.specs.declared.parse.Literal.{Literal}
 use Rattle.jiter_steps.specs.declared.parse.Start.{Start}
 use Rattle.jiter_steps.specs.declared.parse.Start.TheVariants as start
 use Rattle.jiter_steps.proofs.Reading.Bounds.{Ahead, ExtentAhead, Within, either, fault-byte, container_first-ahead}
 use Rattle.jiter_steps.proofs.Reading.Bounds.{container_step-ahead, object_colon-ahead}
 
--- scalars and keys end behind their begin and within the text
+-- scalars and keys end after their begin and within the text
 pub record Advances {K A : Type 0} (r : Rules K A) (t : List ℕ) : Type 0 where
   pub literal : (l : Literal) (i : ℕ) → i < length t → ScalarWithin t i (r.literal t l i)
   pub number : (i : ℕ) → i < length t → ScalarWithin t i (r.number t i)
@@ -31,7 +31,7 @@ pub record Advances {K A : Type 0} (r : Rules K A) (t : List ℕ) : Type 0 where
 abbrev pub AllWithin : {A : Type 0} → List ℕ → (ℕ → Reading A) → Type 0
 AllWithin t inner = (i : ℕ) → i < length t → Within t i (inner i)
 
--- the steps of a container lead on, and each part ends behind its begin
+-- the steps of a container lead on, and each part ends after its begin
 pub record Goes {P A : Type 0} (c : Container P A) (t : List ℕ) : Type 0 where
   pub first : (i : ℕ) → i ≤ length t → Ahead t i (step t c.first i)
   pub next : (i : ℕ) → i ≤ length t → Ahead t i (step t c.next i)
@@ -39,12 +39,12 @@ pub record Goes {P A : Type 0} (c : Container P A) (t : List ℕ) : Type 0 where
   pub refuses : (parts : List P) (i j : ℕ) (k : Kind) → i < length t → c.refuses parts i ≡ Some (k, j)
       → (i < j) × FaultAt t k j
 
--- what stands at i behind these parts: a part, unless it is refused
-abbrev pub part_behind : {P A : Type 0} → Container P A → List P → ℕ → Reading P
-part_behind c parts i = unless_refused (c.refuses parts i) (c.part i)
+-- what stands at i after these parts: a part, unless it is refused
+abbrev pub part_after : {P A : Type 0} → Container P A → List P → ℕ → Reading P
+part_after c parts i = unless_refused (c.refuses parts i) (c.part i)
 
 pub part-free : {P A : Type 0} (c : Container P A) (parts : List P) (i : ℕ) → c.refuses parts i ≡ None
-    → part_behind c parts i ≡ c.part i
+    → part_after c parts i ≡ c.part i
 part-free c parts i e = ap (λ o. unless_refused o (c.part i)) e
 
 module _ {K A : Type 0} (r : Rules K A) (t : List ℕ) where
@@ -68,17 +68,17 @@ module _ {K A : Type 0} (r : Rules K A) (t : List ℕ) where
   follow-same close f g e (stuck k j) h same = refl
 
   module _ {P : Type 0} (c : Container P A) (goes : Goes c t) where
-    behind_part-within : (b i : ℕ) (parts : List P) (next : List P → ℕ → Reading A) (x : Reading P) → b < i
+    after_part-within : (b i : ℕ) (parts : List P) (next : List P → ℕ → Reading A) (x : Reading P) → b < i
         → Within t i x
         → ((ps : List P) (j : ℕ) → i < j → j < length t → Within t b (next ps j))
-        → Within t b (behind_part r c t next parts x)
-    behind_part-within b i parts next (done p e) lt h go =
+        → Within t b (after_part r c t next parts x)
+    after_part-within b i parts next (done p e) lt h go =
         follow-within b e _ (λ e. c.build e (parts ++ p ∷ [])) (step t c.next e) (omega arith) (goes.next e h.1)
         (λ j le lj. go (parts ++ p ∷ []) j (omega arith) lj)
-    behind_part-within b i parts next (fault k x stop) lt h go =
+    after_part-within b i parts next (fault k x stop) lt h go =
         if_forgiven-within b (λ e. c.build e parts) k x stop (omega (arith, h.0)) h.1 h.2
 
-    pub part-within : (parts : List P) (i : ℕ) → i < length t → Within t i (part_behind c parts i)
+    pub part-within : (parts : List P) (i : ℕ) → i < length t → Within t i (part_after c parts i)
     part-within parts i h = by (c.refuses parts i) refl where
       by : (o : Option (Kind × ℕ)) → c.refuses parts i ≡ o → Within t i (unless_refused o (c.part i))
       by None e = goes.part i h
@@ -89,7 +89,7 @@ module _ {K A : Type 0} (r : Rules K A) (t : List ℕ) where
     unfolding parts_at
     parts_at-within b zero parts i lt h p = absurd (omega arith)
     parts_at-within b (suc n) parts i lt h p =
-        behind_part-within b i parts _ (part_behind c parts i) lt (part-within parts i h)
+        after_part-within b i parts _ (part_after c parts i) lt (part-within parts i h)
         (λ ps j lj h'. parts_at-within b n ps j (omega arith) h' (omega arith))
 
     pub container_at-within : (i : ℕ) → i < length t → Within t i (container_at r c t i)
@@ -98,13 +98,13 @@ module _ {K A : Type 0} (r : Rules K A) (t : List ℕ) where
         (goes.first (i + 1) (omega arith)) (λ j le lj. parts_at-within i (length t) [] j (omega arith) lj (omega arith))
 
     -- The number of turns left serves as well as any that is enough.
-    behind_part-same : (f g : List P → ℕ → Reading A) (i : ℕ) (parts : List P) (x : Reading P) → Within t i x
+    after_part-same : (f g : List P → ℕ → Reading A) (i : ℕ) (parts : List P) (x : Reading P) → Within t i x
         → ((ps : List P) (j : ℕ) → i < j → j < length t → f ps j ≡ g ps j)
-        → behind_part r c t f parts x ≡ behind_part r c t g parts x
-    behind_part-same f g i parts (done p e) h same =
+        → after_part r c t f parts x ≡ after_part r c t g parts x
+    after_part-same f g i parts (done p e) h same =
         follow-same (λ e. c.build e (parts ++ p ∷ [])) _ _ e (step t c.next e) (goes.next e h.1)
         (λ j le lj. same (parts ++ p ∷ []) j (omega arith) lj)
-    behind_part-same f g i parts (fault k x stop) h same = refl
+    after_part-same f g i parts (fault k x stop) h same = refl
 
     parts_at-turns : (n m : ℕ) (parts : List P) (i : ℕ) → i < length t → length t ≤ i + n → length t ≤ i + m
         → parts_at r c t n parts i ≡ parts_at r c t m parts i
@@ -112,37 +112,37 @@ module _ {K A : Type 0} (r : Rules K A) (t : List ℕ) where
     parts_at-turns zero m parts i h p q = absurd (omega arith)
     parts_at-turns (suc n) zero parts i h p q = absurd (omega arith)
     parts_at-turns (suc n) (suc m) parts i h p q =
-        behind_part-same _ _ i parts (part_behind c parts i) (part-within parts i h)
+        after_part-same _ _ i parts (part_after c parts i) (part-within parts i h)
         (λ ps j lj h'. parts_at-turns n m ps j h' (omega arith) (omega arith))
 
-    -- One part, and then the step behind it. After this no proof speaks of turns.
+    -- One part, and then the step after it. After this no proof speaks of turns.
     next_part_is : (parts : List P) (i : ℕ) → i < length t
         → parts_at r c t (length t) parts i
-        ≡ behind_part r c t (parts_at r c t (length t)) parts (part_behind c parts i)
+        ≡ after_part r c t (parts_at r c t (length t)) parts (part_after c parts i)
     unfolding parts_at
     next_part_is parts i h = parts_at-turns (length t) (suc (length t)) parts i h (omega arith) (omega arith)
 
     pub next_part-fault : (i x stop : ℕ) (parts : List P) (k : Kind) → i < length t
-        → part_behind c parts i ≡ fault k x stop
+        → part_after c parts i ≡ fault k x stop
         → parts_at r c t (length t) parts i ≡ if_forgiven r (λ e. c.build e parts) k x stop
     next_part-fault i x stop parts k h v =
-        next_part_is parts i h ∙ ap (behind_part r c t (parts_at r c t (length t)) parts) v
+        next_part_is parts i h ∙ ap (after_part r c t (parts_at r c t (length t)) parts) v
 
     pub next_part-done : (i e : ℕ) (parts : List P) (p : P) (s : Step) → i < length t
-        → part_behind c parts i ≡ done p e
+        → part_after c parts i ≡ done p e
         → step t c.next e ≡ s
         → parts_at r c t (length t) parts i ≡ follow r (parts_at r c t (length t) (parts ++ p ∷ []))
         (λ e. c.build e (parts ++ p ∷ [])) s
     next_part-done i e parts p s h v w =
         let next = parts_at r c t (length t) in
-        next_part_is parts i h ∙ ap (behind_part r c t next parts) v
+        next_part_is parts i h ∙ ap (after_part r c t next parts) v
         ∙ ap (follow r (next (parts ++ p ∷ [])) (λ e. c.build e (parts ++ p ∷ []))) w
 
     -- the same of a part that is not refused
     pub parts_at_is : (parts : List P) (i : ℕ) → i < length t → c.refuses parts i ≡ None
-        → parts_at r c t (length t) parts i ≡ behind_part r c t (parts_at r c t (length t)) parts (c.part i)
+        → parts_at r c t (length t) parts i ≡ after_part r c t (parts_at r c t (length t)) parts (c.part i)
     parts_at_is parts i h free =
-        next_part_is parts i h ∙ ap (behind_part r c t (parts_at r c t (length t)) parts) (part-free c parts i free)
+        next_part_is parts i h ∙ ap (after_part r c t (parts_at r c t (length t)) parts) (part-free c parts i free)
 
     pub parts-fault : (i x stop : ℕ) (parts : List P) (k : Kind) → i < length t → c.refuses parts i ≡ None
         → c.part i ≡ fault k x stop
@@ -156,21 +156,21 @@ module _ {K A : Type 0} (r : Rules K A) (t : List ℕ) where
         (λ e. c.build e (parts ++ p ∷ [])) s
     parts-part i e parts p s h free v w = next_part-done i e parts p s h (part-free c parts i free ∙ v) w
 
-  -- the value of a key, behind what stands for its colon
-  behind_colon-within : (i e : ℕ) (k : K) (inner : ℕ → Reading A) (x : Extent) → i < e → ExtentAhead t e 0 x
-      → AllWithin t inner → Within t i (behind_colon k inner x)
-  behind_colon-within i e k inner (failed kind j) lt h all = (omega (arith, h.0), h.1.within, h.1)
-  behind_colon-within i e k inner (taken u j) lt h all = by (inner j) (all j (omega (arith, h.1))) where
+  -- the value of a key, after what stands for its colon
+  after_colon-within : (i e : ℕ) (k : K) (inner : ℕ → Reading A) (x : Extent) → i < e → ExtentAhead t e 0 x
+      → AllWithin t inner → Within t i (after_colon k inner x)
+  after_colon-within i e k inner (failed kind j) lt h all = (omega (arith, h.0), h.1.within, h.1)
+  after_colon-within i e k inner (taken u j) lt h all = by (inner j) (all j (omega (arith, h.1))) where
     by : (x : Reading A) → Within t j x → Within t i (with_key k x)
     by (done a d) w = (omega (arith, w.0, h.0), w.1)
     by (fault kind x stop) w = (omega (arith, w.0, h.0), w.1, w.2)
 
-  behind_key-within : (i : ℕ) (inner : ℕ → Reading A) (x : Scanned K) → i < length t → ScalarWithin t i x
+  after_key-within : (i : ℕ) (inner : ℕ → Reading A) (x : Scanned K) → i < length t → ScalarWithin t i x
       → AllWithin t inner
-      → ((e : ℕ) → e ≤ length t → ExtentAhead t e 0 (object_colon t e)) → Within t i (behind_key inner t i x)
-  behind_key-within i inner (failed kind j) lt h all ended = (omega arith, omega arith, h.1)
-  behind_key-within i inner (taken k e) lt h all ended =
-      behind_colon-within i e k inner (object_colon t e) h.0 (ended e h.1) all
+      → ((e : ℕ) → e ≤ length t → ExtentAhead t e 0 (object_colon t e)) → Within t i (after_key inner t i x)
+  after_key-within i inner (failed kind j) lt h all ended = (omega arith, omega arith, h.1)
+  after_key-within i inner (taken k e) lt h all ended =
+      after_colon-within i e k inner (object_colon t e) h.0 (ended e h.1) all
 
   module _ (good : Advances r t) (inner : ℕ → Reading A) (all : AllWithin t inner) (i : ℕ) where
     pub array_of-goes : Goes (array_of r inner t i) t
@@ -188,7 +188,7 @@ module _ {K A : Type 0} (r : Rules K A) (t : List ℕ) where
           first = container_first-ahead t shape.Object;
           next = container_step-ahead t shape.Object;
           part = λ j h.
-              behind_key-within j inner (r.key t j) h (good.key j h) all (object_colon-ahead t);
+              after_key-within j inner (r.key t j) h (good.key j h) all (object_colon-ahead t);
           refuses = λ members j x k h e. good.refuses members j x k h e;
         }
 
@@ -228,17 +228,17 @@ module _ {K A : Type 0} (r : Rules K A) (t : List ℕ) where
 
   -- A member, by its key, its colon and its value.
   pub member-key : (inner : ℕ → Reading A) (i j : ℕ) (k : Kind) → r.key t i ≡ failed k j
-      → behind_key inner t i (r.key t i) ≡ fault k j i
-  member-key inner i j k e = ap (behind_key inner t i) e
+      → after_key inner t i (r.key t i) ≡ fault k j i
+  member-key inner i j k e = ap (after_key inner t i) e
 
   pub member-colon : (inner : ℕ → Reading A) (i e j : ℕ) (key : K) (k : Kind) → r.key t i ≡ taken key e
-      → object_colon t e ≡ failed k j → behind_key inner t i (r.key t i) ≡ fault k j j
-  member-colon inner i e j key k h w = ap (behind_key inner t i) h ∙ ap (behind_colon key inner) w
+      → object_colon t e ≡ failed k j → after_key inner t i (r.key t i) ≡ fault k j j
+  member-colon inner i e j key k h w = ap (after_key inner t i) h ∙ ap (after_colon key inner) w
 
   pub member-value : (inner : ℕ → Reading A) (i e j : ℕ) (key : K) (x : Reading A) → r.key t i ≡ taken key e
-      → object_colon t e ≡ taken tt j → inner j ≡ x → behind_key inner t i (r.key t i) ≡ with_key key x
+      → object_colon t e ≡ taken tt j → inner j ≡ x → after_key inner t i (r.key t i) ≡ with_key key x
   member-value inner i e j key x h w v =
-      ap (behind_key inner t i) h ∙ ap (behind_colon key inner) w ∙ ap (with_key key) v
+      ap (after_key inner t i) h ∙ ap (after_colon key inner) w ∙ ap (with_key key) v
 
   pub inside_at-none : (levels i : ℕ) → levels ≡ 0 → inside_at r t levels i ≡ fault recursion_limit i i
   unfolding inside_at

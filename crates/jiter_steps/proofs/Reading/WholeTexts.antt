@@ -6,7 +6,7 @@ use Rattle.jiter_scan.specs.Kind.{Kind, eof_value, trailing_characters}
 use Rattle.jiter_scan.proofs.Standing.{get-none}
 use Rattle.jiter_steps.specs.Blank.{past_blanks}
 use Rattle.jiter_steps.specs.Node.{nesting_limit}
-use Rattle.jiter_steps.specs.Read.{Reading, done, fault, Rules, value_at, if_last, to_end, if_begun, front_answer}
+use Rattle.jiter_steps.specs.Read.{Reading, done, fault, Rules, value_at, if_last, to_end, if_begun, prefix_answer}
 use Rattle.jiter_steps.specs.Read.{whole_answer}
 use Rattle.jiter_steps.proofs.Grammar.Blanks.{past_blanks-bound}
 use Rattle.jiter_steps.proofs.Reading.Bounds.{Within, fault-end, fault-byte}
@@ -14,27 +14,27 @@ use Rattle.jiter_steps.proofs.Reading.Values.{Advances, value_at-within}
 
 module _ {K A : Type 0} (r : Rules K A) (t : List ℕ) where
   -- Whatever follows the value.
-  pub front-empty : past_blanks t 0 ≡ length t → front_answer r t ≡ fault eof_value (length t) (length t)
-  unfolding front_answer
-  front-empty e =
+  pub prefix-empty : past_blanks t 0 ≡ length t → prefix_answer r t ≡ fault eof_value (length t) (length t)
+  unfolding prefix_answer
+  prefix-empty e =
       ap (λ i. if_begun r t i (slice_get t i)) e
       ∙ ap (if_begun r t (length t)) (slice_get_past t (length t) (omega arith))
 
-  pub front-begins : (i : ℕ) → past_blanks t 0 ≡ i → i < length t → front_answer r t ≡ value_at r t nesting_limit i
-  unfolding front_answer
-  front-begins i e h = ap (λ k. if_begun r t k (slice_get t k)) e ∙ ap (if_begun r t i) (slice_get-get_or t i 0 h)
+  pub prefix-begins : (i : ℕ) → past_blanks t 0 ≡ i → i < length t → prefix_answer r t ≡ value_at r t nesting_limit i
+  unfolding prefix_answer
+  prefix-begins i e h = ap (λ k. if_begun r t k (slice_get t k)) e ∙ ap (if_begun r t i) (slice_get-get_or t i 0 h)
 
-  -- With nothing but blanks behind the value.
-  pub whole-is : whole_answer r t ≡ to_end t (front_answer r t)
+  -- With nothing but blanks after the value.
+  pub whole-is : whole_answer r t ≡ to_end t (prefix_answer r t)
   unfolding whole_answer
   whole-is = refl
 
   pub whole-empty : past_blanks t 0 ≡ length t → whole_answer r t ≡ fault eof_value (length t) (length t)
-  whole-empty e = whole-is ∙ ap (to_end t) (front-empty e)
+  whole-empty e = whole-is ∙ ap (to_end t) (prefix-empty e)
 
   pub whole-begins : (i : ℕ) → past_blanks t 0 ≡ i → i < length t
       → whole_answer r t ≡ to_end t (value_at r t nesting_limit i)
-  whole-begins i e h = whole-is ∙ ap (to_end t) (front-begins i e h)
+  whole-begins i e h = whole-is ∙ ap (to_end t) (prefix-begins i e h)
 
   pub whole-fault : (i : ℕ) (k : Kind) (x stop : ℕ) → past_blanks t 0 ≡ i → i < length t
       → value_at r t nesting_limit i ≡ fault k x stop → whole_answer r t ≡ fault k x stop
@@ -63,11 +63,11 @@ module _ {K A : Type 0} (r : Rules K A) (t : List ℕ) where
         if_last-within a e (past_blanks t e) (slice_get t (past_blanks t e)) h.0 h.1 (past_blanks-bound t e h.1)
     to_end-within (fault k x stop) h = h
 
-    pub front_answer-within : Within t 0 (front_answer r t)
-    unfolding front_answer
-    front_answer-within =
+    pub prefix_answer-within : Within t 0 (prefix_answer r t)
+    unfolding prefix_answer
+    prefix_answer-within =
         if_begun-within (past_blanks t 0) (slice_get t (past_blanks t 0)) (past_blanks-bound t 0 (omega arith)) refl
 
     pub whole_answer-within : Within t 0 (whole_answer r t)
     unfolding whole_answer
-    whole_answer-within = to_end-within (front_answer r t) front_answer-within
+    whole_answer-within = to_end-within (prefix_answer r t) prefix_answer-within

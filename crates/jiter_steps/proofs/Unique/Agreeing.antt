@@ -9,16 +9,16 @@ use Rattle.jiter_scan.proofs.Choices.{if-false}
 use Rattle.jiter_steps.specs.Blank.{past_blanks}
 use Rattle.jiter_steps.specs.Literal.{start_of}
 use Rattle.jiter_steps.specs.Node.{nesting_limit}
-use Rattle.jiter_steps.specs.Read.{Reading, done, fault, Rules, Container, with_key, behind_colon, behind_key}
+use Rattle.jiter_steps.specs.Read.{Reading, done, fault, Rules, Container, with_key, after_colon, after_key}
 use Rattle.jiter_steps.specs.Read.{if_forgiven}
-use Rattle.jiter_steps.specs.Read.{unless_refused, follow, behind_part, parts_at, container_at, array_of, object_of}
-use Rattle.jiter_steps.specs.Read.{value_with, inside_at, value_at, if_begun, to_end, front_answer, whole_answer}
+use Rattle.jiter_steps.specs.Read.{unless_refused, follow, after_part, parts_at, container_at, array_of, object_of}
+use Rattle.jiter_steps.specs.Read.{value_with, inside_at, value_at, if_begun, to_end, prefix_answer, whole_answer}
 use Rattle.jiter_steps.specs.Step.{Step, more, closed, stuck, step, colon, object_colon}
-use Rattle.jiter_steps.specs.Unique.{is_among, behind_its_colon, repeated_key, without_repeats}
+use Rattle.jiter_steps.specs.Unique.{is_among, after_its_colon, repeated_key, without_repeats}
 use Rattle.jiter_steps.specs.declared.parse.Start.{Start}
 use Rattle.jiter_steps.specs.declared.parse.Start.TheVariants as start
 use Rattle.jiter_steps.proofs.Reading.Bounds.{either}
-use Rattle.jiter_steps.proofs.Reading.Values.{part_behind}
+use Rattle.jiter_steps.proofs.Reading.Values.{part_after}
 
 -- the fault of a repeated key
 abbrev pub IsOfRepeat : Kind → Type 0
@@ -38,7 +38,7 @@ abbrev pub RefusesRepeats : Option (Kind × ℕ) → Type 0
 RefusesRepeats None = Unit {0}
 RefusesRepeats (Some f) = IsOfRepeat f.0
 
-colon-repeats : (key : List ℕ) (x : Extent) → RefusesRepeats (behind_its_colon key x)
+colon-repeats : (key : List ℕ) (x : Extent) → RefusesRepeats (after_its_colon key x)
 colon-repeats key (taken u j) = tt
 colon-repeats key (failed k j) = tt
 
@@ -81,20 +81,20 @@ module _ {K A : Type 0} (characters : K → List ℕ) (r : Rules K A)
         inl (ap (λ a. if_forgiven r a k j j) (λ x e. build e ps x)
         ∙ ap (follow r (g ps) (λ e. c.build e ps)) is)
 
-    behind_part-agrees : (f g : Go) → GoAlike f g → (ps : List P) (x y : Reading P) → Agrees x y
-        → Agrees (behind_part u d t f ps x) (behind_part r c t g ps y)
-    behind_part-agrees f g all ps x y (inl is) =
-        subst (λ y. Agrees (behind_part u d t f ps x) (behind_part r c t g ps y)) is (by x) where
-          by : (x : Reading P) → Agrees (behind_part u d t f ps x) (behind_part r c t g ps x)
+    after_part-agrees : (f g : Go) → GoAlike f g → (ps : List P) (x y : Reading P) → Agrees x y
+        → Agrees (after_part u d t f ps x) (after_part r c t g ps y)
+    after_part-agrees f g all ps x y (inl is) =
+        subst (λ y. Agrees (after_part u d t f ps x) (after_part r c t g ps y)) is (by x) where
+          by : (x : Reading P) → Agrees (after_part u d t f ps x) (after_part r c t g ps x)
           by (done p e) = follow-agrees f g all (ps ++ p ∷ []) (step t d.next e) (step t c.next e) (next e)
           by (fault k i stop) = inl (ap (λ a. if_forgiven r a k i stop) (λ x e. build e ps x))
-    behind_part-agrees f g all ps (done p e) y (inr is) = absurd is
-    behind_part-agrees f g all ps (fault k i stop) y (inr is) =
-        fault-agrees (λ e. d.build e ps) k i stop (behind_part r c t g ps y) is
+    after_part-agrees f g all ps (done p e) y (inr is) = absurd is
+    after_part-agrees f g all ps (fault k i stop) y (inr is) =
+        fault-agrees (λ e. d.build e ps) k i stop (after_part r c t g ps y) is
 
-    part_behind-agrees : (ps : List P) (i : ℕ) → Agrees (part_behind d ps i) (part_behind c ps i)
-    part_behind-agrees ps i =
-        subst (λ o. Agrees (part_behind d ps i) (unless_refused o (c.part i))) (sym (plain ps i))
+    part_after-agrees : (ps : List P) (i : ℕ) → Agrees (part_after d ps i) (part_after c ps i)
+    part_after-agrees ps i =
+        subst (λ o. Agrees (part_after d ps i) (unless_refused o (c.part i))) (sym (plain ps i))
         (by (d.refuses ps i) (repeats ps i)) where
           by : (o : Option (Kind × ℕ)) → RefusesRepeats o → Agrees (unless_refused o (d.part i)) (c.part i)
           by None h = part i
@@ -104,8 +104,8 @@ module _ {K A : Type 0} (characters : K → List ℕ) (r : Rules K A)
     unfolding parts_at
     parts_at-agrees zero ps i = inl refl
     parts_at-agrees (suc n) ps i =
-        behind_part-agrees (parts_at u d t n) (parts_at r c t n) (parts_at-agrees n) ps (part_behind d ps i)
-        (part_behind c ps i) (part_behind-agrees ps i)
+        after_part-agrees (parts_at u d t n) (parts_at r c t n) (parts_at-agrees n) ps (part_after d ps i)
+        (part_after c ps i) (part_after-agrees ps i)
 
     container-agrees : (i : ℕ) → Agrees (container_at u d t i) (container_at r c t i)
     container-agrees i =
@@ -118,11 +118,11 @@ module _ {K A : Type 0} (characters : K → List ℕ) (r : Rules K A)
     keyed-agrees k (done a e) y (inr is) = absurd is
     keyed-agrees k (fault kind i stop) y (inr is) = inr is
 
-    colon-agrees : (k : K) (x : Extent) → Agrees (behind_colon k f x) (behind_colon k g x)
+    colon-agrees : (k : K) (x : Extent) → Agrees (after_colon k f x) (after_colon k g x)
     colon-agrees k (taken w j) = keyed-agrees k (f j) (g j) (all j)
     colon-agrees k (failed kind j) = inl refl
 
-    pub key-agrees : (i : ℕ) (x : Scanned K) → Agrees (behind_key f t i x) (behind_key g t i x)
+    pub key-agrees : (i : ℕ) (x : Scanned K) → Agrees (after_key f t i x) (after_key g t i x)
     key-agrees i (taken k e) = colon-agrees k (object_colon t e)
     key-agrees i (failed kind j) = inl refl
 
@@ -157,9 +157,9 @@ module _ {K A : Type 0} (characters : K → List ℕ) (r : Rules K A)
   if_begun-agrees i None = inl refl
   if_begun-agrees i (Some c) = value_at-agrees nesting_limit i
 
-  pub front_answer-agrees : Agrees (front_answer u t) (front_answer r t)
-  unfolding front_answer
-  front_answer-agrees = if_begun-agrees (past_blanks t 0) (slice_get t (past_blanks t 0))
+  pub prefix_answer-agrees : Agrees (prefix_answer u t) (prefix_answer r t)
+  unfolding prefix_answer
+  prefix_answer-agrees = if_begun-agrees (past_blanks t 0) (slice_get t (past_blanks t 0))
 
   to_end-agrees : (x y : Reading A) → Agrees x y → Agrees (to_end t x) (to_end t y)
   to_end-agrees x y (inl is) = inl (ap (to_end t) is)
@@ -168,4 +168,4 @@ module _ {K A : Type 0} (characters : K → List ℕ) (r : Rules K A)
 
   pub whole_answer-agrees : Agrees (whole_answer u t) (whole_answer r t)
   unfolding whole_answer
-  whole_answer-agrees = to_end-agrees (front_answer u t) (front_answer r t) front_answer-agrees
+  whole_answer-agrees = to_end-agrees (prefix_answer u t) (prefix_answer r t) prefix_answer-agrees

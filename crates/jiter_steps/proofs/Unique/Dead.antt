@@ -13,9 +13,9 @@ use Rattle.jiter_steps.specs.Read.{Rules, fault}
 use Rattle.jiter_steps.specs.Step.{step, colon, value_first, object_colon}
 use Rattle.jiter_steps.specs.StringReading.{whole, string_at}
 use Rattle.jiter_steps.specs.Tree.{Text, Tree}
-use Rattle.jiter_steps.specs.Unique.{BeginsNoUniqueDocument, is_among, behind_its_colon, repeated_key}
+use Rattle.jiter_steps.specs.Unique.{BeginsNoUniqueDocument, is_among, after_its_colon, repeated_key}
 use Rattle.jiter_steps.specs.Unique.{without_repeats, own_bytes, unique_answer}
-use Rattle.jiter_steps.proofs.Fault.Dead.{trees-keep, front-same}
+use Rattle.jiter_steps.proofs.Fault.Dead.{trees-keep, prefix-same}
 use Rattle.jiter_steps.proofs.Fault.SameReadings.{IsFault, KeepsScalars, ShownFault, whole_answer-stays}
 use Rattle.jiter_steps.proofs.Fault.SameRuns.{past_blanks-same}
 use Rattle.jiter_steps.proofs.Fault.SameSpelling.{SameBefore}
@@ -29,7 +29,7 @@ use Rattle.jiter_steps.proofs.Unique.Within.{repeats-advance}
 abbrev rules : Bool → Rules Text Tree
 rules names = without_repeats own_bytes (whole_trees names)
 
--- the place of a colon, where a value begins behind it
+-- the place of a colon, where a value begins after it
 record ColonAt (t : List ℕ) (e j : ℕ) : Type 0 where
   byte : ℕ
   here : slice_get t (past_blanks t e) ≡ Some byte
@@ -63,7 +63,7 @@ module _ (t u : List ℕ) (m : ℕ) (same : SameBefore t u m) where
       let place = past_blanks-same t u m same e p c refl here lt in
       ap (λ j. colon j (slice_get u j)) place ∙ ap (colon p) (same p c lt here ∙ sym here)
 
-  -- a key and the byte behind it that stand before m give the same in the other text
+  -- a key and the byte after it that stand before m give the same in the other text
   key-too : (keys : List (List ℕ)) (i e c : ℕ) (k : Text) → string_at whole t i ≡ taken k e
       → slice_get t (past_blanks t e) ≡ Some c → past_blanks t e < m
       → (i < m) × (repeated_key own_bytes keys u (string_at whole u i)
@@ -75,7 +75,7 @@ module _ (t u : List ℕ) (m : ℕ) (same : SameBefore t u m) where
       (omega arith, omega arith) in (
         also.0,
         ap (repeated_key own_bytes keys u) also.1
-            ∙ ap (λ x. cond (is_among k.bytes keys) (behind_its_colon k.bytes x) None) (colon-too e c here lt),
+            ∙ ap (λ x. cond (is_among k.bytes keys) (after_its_colon k.bytes x) None) (colon-too e c here lt),
       )
 
   refused-too : (keys : List (List ℕ)) (i : ℕ) (f : Kind × ℕ) (x : Scanned Text) → string_at whole t i ≡ x
@@ -92,11 +92,11 @@ module _ (t u : List ℕ) (m : ℕ) (same : SameBefore t u m) where
     none : old None ≡ None
     none = either (λ o. o ≡ None) (is_among k.bytes keys) None None refl refl
 
-    by : (o : Option ℕ) → slice_get t p ≡ o → old (behind_its_colon k.bytes (colon p o)) ≡ Some f
+    by : (o : Option ℕ) → slice_get t p ≡ o → old (after_its_colon k.bytes (colon p o)) ≡ Some f
         → (i < m) × (repeated_key own_bytes keys u (string_at whole u i) ≡ Some f)
     by None here at = absurd (none-some f (sym none ∙ at))
     by (Some c) here at =
-        let before = either (λ x. old (behind_its_colon k.bytes x) ≡ Some f → p < f.1) (c == 58) (taken tt (p + 1)) _
+        let before = either (λ x. old (after_its_colon k.bytes x) ≡ Some f → p < f.1) (c == 58) (taken tt (p + 1)) _
         (λ h. let place = ap (λ z. z.1) (cond_some (is_among k.bytes keys) _ f h).1 in omega (arith, place))
         (λ h. absurd (none-some f (sym none ∙ h))) at in
         let other = key-too keys i e c k key here (omega (arith, before, lt)) in
@@ -112,8 +112,8 @@ module _ (t u : List ℕ) (m : ℕ) (same : SameBefore t u m) where
         key = plain.key;
         refuses = λ ms i f lt is shown.
             refused-too (map (λ z. own_bytes z.0) ms) i f (string_at whole t i) refl is shown;
-        frees = λ ms i e j k lt key behind le l free.
-            let at = colon-at t e j behind in
+        frees = λ ms i e j k lt key after le l free.
+            let at = colon-at t e j after in
             let keys = map (λ z. own_bytes z.0) ms in
             let other = key-too keys i e at.byte k key at.here (omega (arith, at.before, le)) in
             other.1 ∙ sym (ap (repeated_key own_bytes keys t) key) ∙ free;
@@ -125,7 +125,7 @@ pub unique-dead : (names : Bool) (t : List ℕ) (k : Kind) (i stop : ℕ) → un
     → is_end_kind k ≡ false → k ≢ invalid_code_point → BeginsNoUniqueDocument names (take (i + 1) t)
 unique-dead names t k i stop is byte utf8 rest n d =
     let u = take (i + 1) t ++ rest in
-    let same = front-same t (i + 1) rest in
+    let same = prefix-same t (i + 1) rest in
     let shown = subst (ShownFault (i + 1)) (sym is) (omega arith, (byte, utf8)) in
     subst IsFault (unique-complete names u n d)
     (whole_answer-stays t u (i + 1) same (rules names) (λ k. refl)

@@ -6,19 +6,19 @@ use Rattle.jiter_scan.specs.Scanned.{Scanned, taken, failed}
 use Rattle.jiter_steps.specs.Answer.{seen_as, whole_trees}
 use Rattle.jiter_steps.specs.Blank.{past_blanks}
 use Rattle.jiter_steps.specs.Node.{Key, Node, end, value_of, nesting_limit}
-use Rattle.jiter_steps.specs.Read.{Reading, done, fault, if_last, to_end, if_begun, front_answer, whole_answer}
+use Rattle.jiter_steps.specs.Read.{Reading, done, fault, if_last, to_end, if_begun, prefix_answer, whole_answer}
 use Rattle.jiter_steps.specs.Step.{step, colon}
 use Rattle.jiter_steps.specs.StringReading.{whole, string_at}
 use Rattle.jiter_steps.specs.Tree.{Text, Tree}
-use Rattle.jiter_steps.specs.Unique.{HasUniqueKeys, IsUniqueDocument, is_among, behind_its_colon, repeated_key}
+use Rattle.jiter_steps.specs.Unique.{HasUniqueKeys, IsUniqueDocument, is_among, after_its_colon, repeated_key}
 use Rattle.jiter_steps.specs.Unique.{without_repeats, own_bytes, unique_answer}
-use Rattle.jiter_steps.proofs.Grammar.Documents.{key_text, Fits, nodes-lead, answer-sound, front-complete}
+use Rattle.jiter_steps.proofs.Grammar.Documents.{key_text, Fits, nodes-lead, answer-sound, prefix-complete}
 use Rattle.jiter_steps.proofs.Grammar.Documents.{answer-complete}
 use Rattle.jiter_steps.proofs.Grammar.NodeRules.{nodes, key_of}
 use Rattle.jiter_steps.proofs.Grammar.ScalarLaws.{scalar-laws}
 use Rattle.jiter_steps.proofs.Reading.Fused.{mapped, pairs, AllTold, Leads, whole_answer-mapped}
-use Rattle.jiter_steps.proofs.Unique.Agreeing.{IsRepeat, Agrees, front_answer-agrees}
-use Rattle.jiter_steps.proofs.Unique.Distinct.{Tells}
+use Rattle.jiter_steps.proofs.Unique.Agreeing.{IsRepeat, Agrees, prefix_answer-agrees}
+use Rattle.jiter_steps.proofs.Unique.BorrowingUnique.{Tells}
 use Rattle.jiter_steps.proofs.Unique.Keys.{characters, all_characters}
 use Rattle.jiter_steps.proofs.Unique.Nodes.{strictest, value_at-tells}
 
@@ -31,48 +31,48 @@ module _ (names : Bool) (t : List ℕ) where
   if_begun-tells i None = tt
   if_begun-tells i (Some c) = value_at-tells names t nesting_limit i
 
-  front-tells : TellsOf (front_answer (strictest names t) t) (front_answer (nodes names) t)
-  unfolding front_answer
-  front-tells = if_begun-tells (past_blanks t 0) (slice_get t (past_blanks t 0))
+  prefix-tells : TellsOf (prefix_answer (strictest names t) t) (prefix_answer (nodes names) t)
+  unfolding prefix_answer
+  prefix-tells = if_begun-tells (past_blanks t 0) (slice_get t (past_blanks t 0))
 
-  front-agrees : Agrees (front_answer (strictest names t) t) (front_answer (nodes names) t)
-  front-agrees = front_answer-agrees characters (nodes names) (λ ms u j. refl) (λ k h. refl) t
+  prefix-agrees : Agrees (prefix_answer (strictest names t) t) (prefix_answer (nodes names) t)
+  prefix-agrees = prefix_answer-agrees characters (nodes names) (λ ms u j. refl) (λ k h. refl) t
 
   -- a value that nothing follows was read
   last-is : (m n : Node) (d e j : ℕ) (o : Option ℕ) → if_last m d j o ≡ done n e → done m d ≡ done n e
   last-is m n d e j None is = is
   last-is m n d e j (Some c) is = absurd (cc)
 
-  front-is : (x : Reading Node) (n : Node) (e : ℕ) → to_end t x ≡ done n e → x ≡ done n e
-  front-is (done m d) n e is = last-is m n d e (past_blanks t d) (slice_get t (past_blanks t d)) is
-  front-is (fault k i stop) n e is = absurd (cc)
+  prefix-is : (x : Reading Node) (n : Node) (e : ℕ) → to_end t x ≡ done n e → x ≡ done n e
+  prefix-is (done m d) n e is = last-is m n d e (past_blanks t d) (slice_get t (past_blanks t d)) is
+  prefix-is (fault k i stop) n e is = absurd (cc)
 
   -- A document with unique keys is read.
   nodes-complete : (n : Node) → IsUniqueDocument names t n
       → whole_answer (strictest names t) t ≡ done n (end n)
   unfolding whole_answer
   nodes-complete n d =
-      ap (to_end t) (elim front-agrees [
+      ap (to_end t) (elim prefix-agrees [
         | inl same ↦ same
         | inr repeat ↦
-            absurd ((subst (TellsOf (front_answer (strictest names t) t)) (front-complete names t n d.document)
-            front-tells).1 repeat d.unique)
+            absurd ((subst (TellsOf (prefix_answer (strictest names t) t)) (prefix-complete names t n d.document)
+            prefix-tells).1 repeat d.unique)
       ]) ∙ answer-complete names t n d.document
 
   -- What is read is a document with unique keys.
   nodes-sound : (n : Node) (e : ℕ) → whole_answer (strictest names t) t ≡ done n e → IsUniqueDocument names t n
   unfolding whole_answer
   nodes-sound n e is =
-      let front = front-is (front_answer (strictest names t) t) n e is in
-      elim front-agrees [
+      let prefix = prefix-is (prefix_answer (strictest names t) t) n e is in
+      elim prefix-agrees [
         | inl same ↦
-            let read = sym same ∙ front in
-            let whole = ap (to_end t) read ∙ sym (ap (to_end t) front) ∙ is in
+            let read = sym same ∙ prefix in
+            let whole = ap (to_end t) read ∙ sym (ap (to_end t) prefix) ∙ is in
             record {
               document = (subst (Fits names t) whole (answer-sound names t)).0;
-              unique = (subst (TellsOf (front_answer (strictest names t) t)) read front-tells).0 front;
+              unique = (subst (TellsOf (prefix_answer (strictest names t) t)) read prefix-tells).0 prefix;
             }
-        | inr repeat ↦ absurd (subst IsRepeat front repeat)
+        | inr repeat ↦ absurd (subst IsRepeat prefix repeat)
       ]
 
   -- The same of the values. Seen as a node's key or as its text, a key has the same characters.
@@ -81,7 +81,7 @@ module _ (names : Bool) (t : List ℕ) where
       ≡ repeated_key own_bytes (all_characters ms) t x
   key-fault ms i quote (taken s e) is =
       let same = ap (λ s. s.bytes) ((scalar-laws names t).string-sound i e s quote is).1 in
-      ap (λ k. if is_among k (all_characters ms) then behind_its_colon k (step t colon e) else None) (sym same)
+      ap (λ k. if is_among k (all_characters ms) then after_its_colon k (step t colon e) else None) (sym same)
   key-fault ms i quote (failed k j) is = refl
 
   keys-same : (ms : List (Key × Node))

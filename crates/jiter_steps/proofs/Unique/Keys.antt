@@ -16,9 +16,9 @@ abbrev pub all_characters : List (Key × Node) → List (List ℕ)
 all_characters ms = map (λ m. characters m.0) ms
 
 -- items
-pub items-front : (ns ms : List Node) → ItemsHaveUniqueKeys (nodes_of (ns ++ ms)) → ItemsHaveUniqueKeys (nodes_of ns)
-items-front [] ms h = tt
-items-front (n ∷ ns) ms h = (h.0, items-front ns ms h.1)
+pub items-prefix : (ns ms : List Node) → ItemsHaveUniqueKeys (nodes_of (ns ++ ms)) → ItemsHaveUniqueKeys (nodes_of ns)
+items-prefix [] ms h = tt
+items-prefix (n ∷ ns) ms h = (h.0, items-prefix ns ms h.1)
 
 pub items-last : (ns : List Node) (n : Node) → ItemsHaveUniqueKeys (nodes_of (ns ++ n ∷ [])) → HasUniqueKeys n
 items-last [] n h = h.0
@@ -30,10 +30,10 @@ items-push [] n h is = (is, tt)
 items-push (m ∷ ns) n h is = (h.0, items-push ns n h.1 is)
 
 -- members
-no_key-front : (key : List ℕ) (ms ns : List (Key × Node)) → HasNoKey key (node_members_of (ms ++ ns))
+no_key-prefix : (key : List ℕ) (ms ns : List (Key × Node)) → HasNoKey key (node_members_of (ms ++ ns))
     → HasNoKey key (node_members_of ms)
-no_key-front key [] ns h = tt
-no_key-front key (m ∷ ms) ns h = (h.0, no_key-front key ms ns h.1)
+no_key-prefix key [] ns h = tt
+no_key-prefix key (m ∷ ms) ns h = (h.0, no_key-prefix key ms ns h.1)
 
 no_key-last : (key : List ℕ) (ms : List (Key × Node)) (m : Key × Node)
     → HasNoKey key (node_members_of (ms ++ m ∷ [])) → characters m.0 ≢ key
@@ -45,10 +45,10 @@ no_key-push : (key : List ℕ) (ms : List (Key × Node)) (m : Key × Node) → H
 no_key-push key [] m h other = (other, tt)
 no_key-push key (n ∷ ms) m h other = (h.0, no_key-push key ms m h.1 other)
 
-pub members-front : (ms ns : List (Key × Node)) → MembersHaveUniqueKeys (node_members_of (ms ++ ns))
+pub members-prefix : (ms ns : List (Key × Node)) → MembersHaveUniqueKeys (node_members_of (ms ++ ns))
     → MembersHaveUniqueKeys (node_members_of ms)
-members-front [] ns h = tt
-members-front (m ∷ ms) ns h = (no_key-front (characters m.0) ms ns h.0, h.1, members-front ms ns h.2)
+members-prefix [] ns h = tt
+members-prefix (m ∷ ms) ns h = (no_key-prefix (characters m.0) ms ns h.0, h.1, members-prefix ms ns h.2)
 
 pub members-last : (ms : List (Key × Node)) (m : Key × Node)
     → MembersHaveUniqueKeys (node_members_of (ms ++ m ∷ [])) → HasUniqueKeys m.1

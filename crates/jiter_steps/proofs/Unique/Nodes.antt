@@ -14,21 +14,21 @@ use Rattle.jiter_steps.specs.Answer.{seen_as}
 use Rattle.jiter_steps.specs.StringReading.{whole, string_at}
 use Rattle.jiter_steps.specs.Literal.{start_of, literal_at}
 use Rattle.jiter_steps.specs.Node.{Key, Node}
-use Rattle.jiter_steps.specs.Read.{Reading, done, fault, Rules, scalar_at, with_key, behind_colon, behind_key, array_of}
+use Rattle.jiter_steps.specs.Read.{Reading, done, fault, Rules, scalar_at, with_key, after_colon, after_key, array_of}
 use Rattle.jiter_steps.specs.Read.{object_of}
 use Rattle.jiter_steps.specs.Read.{value_with, inside_at, value_at}
 use Rattle.jiter_steps.specs.Step.{step, colon, value_first, object_colon}
 use Rattle.jiter_steps.specs.Unique.{HasUniqueKeys, ItemsHaveUniqueKeys, MembersHaveUniqueKeys, is_among}
-use Rattle.jiter_steps.specs.Unique.{behind_its_colon, repeated_key, without_repeats}
+use Rattle.jiter_steps.specs.Unique.{after_its_colon, repeated_key, without_repeats}
 use Rattle.jiter_steps.specs.declared.parse.Start.{Start}
 use Rattle.jiter_steps.specs.declared.parse.Start.TheVariants as start
 use Rattle.jiter_steps.proofs.Grammar.NodeRules.{nodes, nodes_of, node_members_of}
 use Rattle.jiter_steps.proofs.Reading.Fused.{mapped}
 use Rattle.jiter_steps.proofs.Unique.Agreeing.{IsRepeat, Agrees, key-repeats}
 use Rattle.jiter_steps.proofs.Unique.Agreeing.{inside_at-agrees, key-agrees}
-use Rattle.jiter_steps.proofs.Unique.Distinct.{Tells, Distinguishes, container-tells}
-use Rattle.jiter_steps.proofs.Unique.Keys.{characters, all_characters, items-front, items-last, items-push}
-use Rattle.jiter_steps.proofs.Unique.Keys.{members-front, members-last, members-push, members-clash}
+use Rattle.jiter_steps.proofs.Unique.BorrowingUnique.{Tells, Distinguishes, container-tells}
+use Rattle.jiter_steps.proofs.Unique.Keys.{characters, all_characters, items-prefix, items-last, items-push}
+use Rattle.jiter_steps.proofs.Unique.Keys.{members-prefix, members-last, members-push, members-clash}
 
 -- a member that was read: its key is refused exactly where it stands already
 record KeyRead (keys : List (List ℕ)) (t : List ℕ) (x : Scanned Key) (p : Key × Node) : Type 0 where
@@ -40,28 +40,28 @@ module _ (t : List ℕ) (keys : List (List ℕ)) (g : ℕ → Reading Node) (p :
   keyed-is k (done a d) is = cc
   keyed-is k (fault kind j stop) is = absurd (cc)
 
-  value-is : (k : Key) (x : Extent) → behind_colon k g x ≡ done p e → p.0 ≡ k
+  value-is : (k : Key) (x : Extent) → after_colon k g x ≡ done p e → p.0 ≡ k
   value-is k (taken u j) is = keyed-is k (g j) is
   value-is k (failed kind j) is = absurd (cc)
 
   colon-read : (k : Key) (d : ℕ) (x : Extent) → step t colon d ≡ x
-      → behind_colon k g (extent_then x (step t value_first)) ≡ done p e → KeyRead keys t (taken k d) p
+      → after_colon k g (extent_then x (step t value_first)) ≡ done p e → KeyRead keys t (taken k d) p
   colon-read k d (failed kind j) at is = absurd (cc)
   colon-read k d (taken u j) at is =
       let same = value-is k (step t value_first j) is in
       record {
         refused = λ old. (
           (duplicate_key (characters k), j),
-          if-true (is_among (characters k) keys) (behind_its_colon (characters k) (step t colon d)) None
+          if-true (is_among (characters k) keys) (after_its_colon (characters k) (step t colon d)) None
               (subst (λ k. is_among (characters k) keys ≡ true) same old)
-              ∙ ap (behind_its_colon (characters k)) at,
+              ∙ ap (after_its_colon (characters k)) at,
         );
         free = λ new.
-            if-false (is_among (characters k) keys) (behind_its_colon (characters k) (step t colon d)) None
+            if-false (is_among (characters k) keys) (after_its_colon (characters k) (step t colon d)) None
             (subst (λ k. is_among (characters k) keys ≡ false) same new);
       }
 
-  key-read : (i : ℕ) (x : Scanned Key) → behind_key g t i x ≡ done p e → KeyRead keys t x p
+  key-read : (i : ℕ) (x : Scanned Key) → after_key g t i x ≡ done p e → KeyRead keys t x p
   key-read i (failed kind j) is = absurd (cc)
   key-read i (taken k d) is = colon-read k d (step t colon d) refl is
 
@@ -88,7 +88,7 @@ module _ (names : Bool) (t : List ℕ) where
       items-distinguish i = record {
         none = tt;
         push = λ ns n j e free is good one. items-push ns n good one;
-        front = items-front;
+        prefix = items-prefix;
         last = items-last;
         refused = λ ns n j e z refuses is good. none-some z refuses;
         build = λ e ns good. good;
@@ -110,11 +110,11 @@ module _ (names : Bool) (t : List ℕ) where
       keyed-tells k x (done a e) h = (λ is. h.0 (unkeyed k x a e is), λ is. h.1 (repeat-unkeyed k x is))
       keyed-tells k x (fault kind j stop) h = tt
 
-      colon-tells : (k : Key) (x : Extent) → TellsMember (behind_colon k f x) (behind_colon k g x)
+      colon-tells : (k : Key) (x : Extent) → TellsMember (after_colon k f x) (after_colon k g x)
       colon-tells k (taken u j) = keyed-tells k (f j) (g j) (tells j)
       colon-tells k (failed kind j) = tt
 
-      key-tells : (i : ℕ) (x : Scanned Key) → TellsMember (behind_key f t i x) (behind_key g t i x)
+      key-tells : (i : ℕ) (x : Scanned Key) → TellsMember (after_key f t i x) (after_key g t i x)
       key-tells i (taken k e) = colon-tells k (object_colon t e)
       key-tells i (failed kind j) = tt
 
@@ -137,7 +137,7 @@ module _ (names : Bool) (t : List ℕ) where
             let read = key-read t (all_characters ms) g m e j (plain.key t j) is in
             members-push ms m (false_from_ne_true (is_among (characters m.0) (all_characters ms))
             (λ old. let z = read.refused old in none-some z.0 (sym free ∙ z.1))) good one;
-        front = members-front;
+        prefix = members-prefix;
         last = members-last;
         refused = λ ms m j e z refuses is good.
             let read = key-read t (all_characters ms) g m e j (plain.key t j) is in

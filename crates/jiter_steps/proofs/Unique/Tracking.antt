@@ -21,17 +21,17 @@ use Rattle.jiter_steps.specs.Answer.{seen_as, whole_trees, partial_trees, nothin
 use Rattle.jiter_steps.specs.Blank.{past_blanks}
 use Rattle.jiter_steps.specs.Literal.{start_of, literal_at}
 use Rattle.jiter_steps.specs.Node.{nesting_limit}
-use Rattle.jiter_steps.specs.Read.{Reading, done, fault, Rules, Container, scalar_at, with_key, behind_colon}
-use Rattle.jiter_steps.specs.Read.{behind_key}
-use Rattle.jiter_steps.specs.Read.{if_forgiven, unless_refused, follow, behind_part, parts_at, container_at, array_of}
-use Rattle.jiter_steps.specs.Read.{object_of, value_with, inside_at, value_at, if_begun, front_answer}
+use Rattle.jiter_steps.specs.Read.{Reading, done, fault, Rules, Container, scalar_at, with_key, after_colon}
+use Rattle.jiter_steps.specs.Read.{after_key}
+use Rattle.jiter_steps.specs.Read.{if_forgiven, unless_refused, follow, after_part, parts_at, container_at, array_of}
+use Rattle.jiter_steps.specs.Read.{object_of, value_with, inside_at, value_at, if_begun, prefix_answer}
 use Rattle.jiter_steps.specs.Step.{Step, more, closed, stuck, step, object_colon}
-use Rattle.jiter_steps.specs.StringReading.{Stop, closed, unclosed, cut, wrong, whole, kept, body_at, valid_front_by}
+use Rattle.jiter_steps.specs.StringReading.{Stop, closed, unclosed, cut, wrong, whole, kept, body_at, valid_prefix_by}
 use Rattle.jiter_steps.specs.StringReading.{text_in_form, content_at, string_at}
 use Rattle.jiter_steps.specs.Tree.{Text, Tree}
 use Rattle.jiter_steps.specs.Tree as tree
 use Rattle.jiter_steps.specs.Unique.{without_repeats, own_bytes}
-use Rattle.jiter_steps.specs.declared.parse.Shape.TheVariants as shape
+use Rattle.jiter_steps.specs.declared.parse.ContainerKind.TheVariants as shape
 use Rattle.jiter_steps.specs.declared.parse.Start.{Start}
 use Rattle.jiter_steps.specs.declared.parse.Start.TheVariants as start
 use Rattle.jiter_steps.proofs.Cut.Halting.{Halts, StuckAt, byte-halts, container-halts}
@@ -41,7 +41,7 @@ use Rattle.jiter_steps.proofs.Reading.FirstBytes.{begins-within, GoesTo, BeginsA
 use Rattle.jiter_steps.proofs.Reading.FirstBytes.{container_first-begins, container_step-begins}
 use Rattle.jiter_steps.proofs.Reading.Instances.{trees-advances}
 use Rattle.jiter_steps.proofs.Reading.StringForms.{content-kept}
-use Rattle.jiter_steps.proofs.Reading.Values.{Advances, part_behind, object_of-goes, inside_at-within}
+use Rattle.jiter_steps.proofs.Reading.Values.{Advances, part_after, object_of-goes, inside_at-within}
 use Rattle.jiter_steps.proofs.Unique.Agreeing.{IsOfRepeat, RefusesRepeats, key-repeats}
 use Rattle.jiter_steps.proofs.Unique.Within.{repeats-advance}
 
@@ -115,38 +115,38 @@ module _ (names : Bool) (mode : PartialMode) (t : List ℕ) where
         subst (λ s. Stops t (follow partial (f ps) (λ e. d.build e ps) s)) (sym (next q ∙ stuck_here.1))
         (subst (Stops t) (sym (if-true (is_forgiven stuck_here.0) _ _ stuck_here.2)) here)
 
-    behind-stops : (f : Go) (ps : List P) (x : Reading P) → Stops t x → Stops t (behind_part partial d t f ps x)
-    behind-stops f ps (done q e) here = halted f (ps ++ q ∷ []) e here
-    behind-stops f ps (fault k i stop) here = forgiven-stops (λ e. d.build e ps) k i stop here.0 here.1
+    after-stops : (f : Go) (ps : List P) (x : Reading P) → Stops t x → Stops t (after_part partial d t f ps x)
+    after-stops f ps (done q e) here = halted f (ps ++ q ∷ []) e here
+    after-stops f ps (fault k i stop) here = forgiven-stops (λ e. d.build e ps) k i stop here.0 here.1
 
-    behind-tracks : (n : ℕ) (f g : Go) → GoTracks n f g → (ps : List P) (i : ℕ) → length t ≤ i + suc n
+    after-tracks : (n : ℕ) (f g : Go) → GoTracks n f g → (ps : List P) (i : ℕ) → length t ≤ i + suc n
         → (x y : Reading P) → Within t i y → Tracks t x y
-        → Tracks t (behind_part partial d t f ps x) (behind_part strict c t g ps y)
-    behind-tracks n f g all ps i enough x (done q e) inside tracks =
-        subst (λ x. Tracks t (behind_part partial d t f ps x) (behind_part strict c t g ps (done q e))) (sym tracks)
+        → Tracks t (after_part partial d t f ps x) (after_part strict c t g ps y)
+    after-tracks n f g all ps i enough x (done q e) inside tracks =
+        subst (λ x. Tracks t (after_part partial d t f ps x) (after_part strict c t g ps (done q e))) (sym tracks)
         (follow-tracks n f g all (ps ++ q ∷ []) e (omega (arith, inside.0)) (step t d.next e) (step t c.next e) (next e)
         (next-begins e)
         (next-ahead e inside.1))
-    behind-tracks n f g all ps i enough x (fault k v stop) inside tracks = λ early. behind-stops f ps x (tracks early)
+    after-tracks n f g all ps i enough x (fault k v stop) inside tracks = λ early. after-stops f ps x (tracks early)
 
-    part_behind-tracks : (n : ℕ) (f g : Go) → GoTracks n f g → (ps : List P) (i : ℕ) → length t ≤ i + suc n → Begins i
-        → Tracks t (behind_part partial d t f ps (part_behind d ps i))
-        (behind_part strict c t g ps (part_behind c ps i))
-    part_behind-tracks n f g all ps i enough begins =
-        subst (λ o. Tracks t (behind_part partial d t f ps (unless_refused o (d.part i)))
-        (behind_part strict c t g ps (part_behind c ps i))) (sym (refuses ps i))
+    part_after-tracks : (n : ℕ) (f g : Go) → GoTracks n f g → (ps : List P) (i : ℕ) → length t ≤ i + suc n → Begins i
+        → Tracks t (after_part partial d t f ps (part_after d ps i))
+        (after_part strict c t g ps (part_after c ps i))
+    part_after-tracks n f g all ps i enough begins =
+        subst (λ o. Tracks t (after_part partial d t f ps (unless_refused o (d.part i)))
+        (after_part strict c t g ps (part_after c ps i))) (sym (refuses ps i))
         (by (c.refuses ps i) (repeats ps i)) where
           by : (o : Option (Kind × ℕ)) → RefusesRepeats o
-              → Tracks t (behind_part partial d t f ps (unless_refused o (d.part i)))
-              (behind_part strict c t g ps (unless_refused o (c.part i)))
-          by None h = behind-tracks n f g all ps i enough (d.part i) (c.part i) (within i begins) (part i begins)
+              → Tracks t (after_part partial d t f ps (unless_refused o (d.part i)))
+              (after_part strict c t g ps (unless_refused o (c.part i)))
+          by None h = after-tracks n f g all ps i enough (d.part i) (c.part i) (within i begins) (part i begins)
           by (Some z) h = λ early. absurd (end-no_repeat z.0 early h)
 
     parts_at-tracks : (n : ℕ) → GoTracks n (parts_at partial d t n) (parts_at strict c t n)
     unfolding parts_at
     parts_at-tracks zero ps i begins enough = let lt = inside i begins in absurd (omega arith)
     parts_at-tracks (suc n) ps i begins enough =
-        part_behind-tracks n (parts_at partial d t n) (parts_at strict c t n) (parts_at-tracks n) ps i enough begins
+        part_after-tracks n (parts_at partial d t n) (parts_at strict c t n) (parts_at-tracks n) ps i enough begins
 
     container-tracks : (i : ℕ) → i < length t → Tracks t (container_at partial d t i) (container_at strict c t i)
     container-tracks i lt =
@@ -166,13 +166,13 @@ module _ (names : Bool) (mode : PartialMode) (t : List ℕ) where
     keyed-tracks k x (fault kind j stop) h = λ early. keyed-stops k x (h early)
 
     colon-tracks : (k : Text) (e : ℕ) (x : Extent) → ExtentAhead t e 0 x
-        → Tracks t (behind_colon k f x) (behind_colon k g x)
+        → Tracks t (after_colon k f x) (after_colon k g x)
     colon-tracks k e (taken w j) ahead = keyed-tracks k (f j) (g j) (all j (omega (arith, ahead.1)))
     colon-tracks k e (failed kind j) ahead = λ early.
         (length-halts t j (ahead.1.ends early), end-no_repeat kind early)
 
     key-tracks : (i : ℕ) → slice_get t i ≡ Some 34 → (x : Scanned Text) → ScalarWithin t i x
-        → Tracks t (behind_key f t i x) (behind_key g t i x)
+        → Tracks t (after_key f t i x) (after_key g t i x)
     key-tracks i quote (taken k e) far = colon-tracks k e (object_colon t e) (object_colon-ahead t e far.1)
     key-tracks i quote (failed kind j) far = λ early. (byte-halts t i 34 quote (λ e. cc), end-no_repeat kind early)
 
@@ -212,7 +212,7 @@ module _ (names : Bool) (mode : PartialMode) (t : List ℕ) where
     text_seen i x = scalar_at i (seen_as (λ s e. tree.string s) x)
 
     valid-stops : (i j : ℕ) (o : Bool) (bs : List ℕ) (n : Option ℕ) → Halts t i
-        → Stops t (text_seen i (valid_front_by j o bs (length t) n))
+        → Stops t (text_seen i (valid_prefix_by j o bs (length t) n))
     valid-stops i j o bs None here = length-halts t (length t) refl
     valid-stops i j o bs (Some n) here = (here, λ is. is)
 
@@ -287,6 +287,6 @@ module _ (names : Bool) (mode : PartialMode) (t : List ℕ) where
   if_begun-tracks i (Some c) at = value_at-tracks nesting_limit i (slice_get_within t i c at)
 
   -- The text's value, whatever follows it.
-  pub front_answer-tracks : Tracks t (front_answer partial t) (front_answer strict t)
-  unfolding front_answer
-  front_answer-tracks = if_begun-tracks (past_blanks t 0) (slice_get t (past_blanks t 0)) refl
+  pub prefix_answer-tracks : Tracks t (prefix_answer partial t) (prefix_answer strict t)
+  unfolding prefix_answer
+  prefix_answer-tracks = if_begun-tracks (past_blanks t 0) (slice_get t (past_blanks t 0)) refl

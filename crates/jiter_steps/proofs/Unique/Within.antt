@@ -1,4 +1,4 @@
--- Rules that refuse repeated keys: a repeated key's fault stands behind the key and within the text, so that readings
+-- Rules that refuse repeated keys: a repeated key's fault stands after the key and within the text, so that readings
 -- do.
 use Rattle.std.proofs.Common.{◌≡◌, ℕ, ◌+◌, ◌<◌, ◌≤◌, Bool, List, map, arith, refl, subst, ◌==◌}
 use Rattle.std.specs.Prelude.{Option, Some, None, slice_get}
@@ -9,42 +9,42 @@ use Rattle.jiter_scan.specs.declared.partial_mode.PartialMode.{PartialMode}
 use Rattle.jiter_scan.proofs.Scanning.{ScalarWithin, FaultAt}
 use Rattle.jiter_steps.specs.Answer.{whole_trees, partial_trees, value_form, nothing_forgiven}
 use Rattle.jiter_steps.specs.Blank.{past_blanks}
-use Rattle.jiter_steps.specs.Read.{Rules, front_answer}
+use Rattle.jiter_steps.specs.Read.{Rules, prefix_answer}
 use Rattle.jiter_steps.specs.Step.{colon}
 use Rattle.jiter_steps.specs.StringReading.{whole}
-use Rattle.jiter_steps.specs.Unique.{is_among, behind_its_colon, repeated_key, without_repeats, own_bytes}
+use Rattle.jiter_steps.specs.Unique.{is_among, after_its_colon, repeated_key, without_repeats, own_bytes}
 use Rattle.jiter_steps.specs.Unique.{unique_answer}
 use Rattle.jiter_steps.proofs.Grammar.Blanks.{past_blanks-after}
 use Rattle.jiter_steps.proofs.Reading.Bounds.{Within, either, fault-byte}
 use Rattle.jiter_steps.proofs.Reading.Instances.{trees-advances}
 use Rattle.jiter_steps.proofs.Reading.Values.{Advances}
-use Rattle.jiter_steps.proofs.Reading.WholeTexts.{front_answer-within, whole_answer-within}
+use Rattle.jiter_steps.proofs.Reading.WholeTexts.{prefix_answer-within, whole_answer-within}
 
 module _ (t : List ℕ) where
-  -- a fault at j, behind i
-  abbrev Behind : ℕ → Option (Kind × ℕ) → Type 0
-  Behind i None = Unit {0}
-  Behind i (Some f) = (i < f.1) × FaultAt t f.0 f.1
+  -- a fault at j, after i
+  abbrev After : ℕ → Option (Kind × ℕ) → Type 0
+  After i None = Unit {0}
+  After i (Some f) = (i < f.1) × FaultAt t f.0 f.1
 
   colon-here : (key : List ℕ) (e j : ℕ) (o : Option ℕ) → e ≤ j → slice_get t j ≡ o
-      → Behind e (behind_its_colon key (colon j o))
+      → After e (after_its_colon key (colon j o))
   colon-here key e j None le at = tt
   colon-here key e j (Some c) le at =
-      either (λ x. Behind e (behind_its_colon key x)) (c == 58) (taken tt (j + 1)) _
+      either (λ x. After e (after_its_colon key x)) (c == 58) (taken tt (j + 1)) _
       (omega arith, fault-byte t (duplicate_key key) (j + 1) (λ m. cc) refl (omega (arith, slice_get_within t j c at)))
       tt
 
-  behind-later : (i e : ℕ) (o : Option (Kind × ℕ)) → i ≤ e → Behind e o → Behind i o
-  behind-later i e None le h = tt
-  behind-later i e (Some f) le h = (omega (arith, h.0), h.1)
+  after-later : (i e : ℕ) (o : Option (Kind × ℕ)) → i ≤ e → After e o → After i o
+  after-later i e None le h = tt
+  after-later i e (Some f) le h = (omega (arith, h.0), h.1)
 
-  repeated_key-behind : {K : Type 0} (characters : K → List ℕ) (keys : List (List ℕ)) (i : ℕ) (x : Scanned K)
-      → ScalarWithin t i x → Behind i (repeated_key characters keys t x)
-  repeated_key-behind characters keys i (failed k j) h = tt
-  repeated_key-behind characters keys i (taken k e) h =
+  repeated_key-after : {K : Type 0} (characters : K → List ℕ) (keys : List (List ℕ)) (i : ℕ) (x : Scanned K)
+      → ScalarWithin t i x → After i (repeated_key characters keys t x)
+  repeated_key-after characters keys i (failed k j) h = tt
+  repeated_key-after characters keys i (taken k e) h =
       let p = past_blanks t e in
-      behind-later i e _ (omega (arith, h.0))
-      (either (Behind e) (is_among (characters k) keys) _ _
+      after-later i e _ (omega (arith, h.0))
+      (either (After e) (is_among (characters k) keys) _ _
       (colon-here (characters k) e p (slice_get t p) (past_blanks-after t e) refl) tt)
 
   pub repeats-advance : {K A : Type 0} (characters : K → List ℕ) (r : Rules K A) → Advances r t
@@ -55,8 +55,8 @@ module _ (t : List ℕ) where
     text = good.text;
     key = good.key;
     refuses = λ members i j k lt h.
-        subst (Behind i) h
-        (repeated_key-behind characters (map (λ m. characters m.0) members) i (r.key t i) (good.key i lt));
+        subst (After i) h
+        (repeated_key-after characters (map (λ m. characters m.0) members) i (r.key t i) (good.key i lt));
   }
 
   -- what a parse that refuses repeated keys answers
@@ -66,7 +66,7 @@ module _ (t : List ℕ) where
       (repeats-advance own_bytes (whole_trees names) (trees-advances t nothing_forgiven whole names))
 
   pub unique_partial-within : (names : Bool) (mode : PartialMode)
-      → Within t 0 (front_answer (without_repeats own_bytes (partial_trees names mode)) t)
+      → Within t 0 (prefix_answer (without_repeats own_bytes (partial_trees names mode)) t)
   unique_partial-within names mode =
-      front_answer-within (without_repeats own_bytes (partial_trees names mode)) t
+      prefix_answer-within (without_repeats own_bytes (partial_trees names mode)) t
       (repeats-advance own_bytes (partial_trees names mode) (trees-advances t _ (value_form mode) names))

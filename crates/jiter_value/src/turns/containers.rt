@@ -9,8 +9,8 @@ ghost use Rattle.jiter_steps.specs.Read.{done};
 ghost use Rattle.jiter_steps.specs.ReadError.{WhereRefused};
 ghost use Rattle.jiter_steps.specs.Step.{Step, step, more, container_first, opening};
 ghost use Rattle.jiter_value.specs.Settings.{Keeping};
-ghost use Rattle.jiter_value.specs.Size.{value_size, inside_size, behind_size};
-ghost use Rattle.jiter_value.specs.Stacks.{resume_with, from_value, behind, container_ends, Stands, StandsInside};
+ghost use Rattle.jiter_value.specs.Size.{value_size, inside_size, after_size};
+ghost use Rattle.jiter_value.specs.Stacks.{resume_with, from_value, after, container_ends, Stands, StandsInside};
 ghost use Rattle.jiter_value.specs.Stacks.{slot_in, base_of, part_of, empty_tree, LeavesKeys};
 ghost use Rattle.jiter_value.specs.Turns.{IsAtValue, Proceeds, container_goes, IsResolved, MayGrowFor, left, outcome};
 ghost use Rattle.jiter_value.specs.Value.{MayGrowAt};
@@ -18,19 +18,19 @@ ghost use Rattle.jiter_value.specs.declared.settings.Settings.{Settings as Setti
 
 use crate::settings::{Settings, forgives};
 use crate::stacks::{Open, Slot, Stacks, State, close, no_memory, object_of, put, too_deep};
-use crate::texts::Texts;
+use crate::texts::StringStorage;
 use crate::turns::Reading;
 use crate::value::JsonValue;
 use jiter_scan::errors::Fault;
-use jiter_scan::memory::{Refused, push_small};
-use jiter_steps::parse::{NESTING_LIMIT, Parser, Shape};
-use jiter_steps::plain::{Next, plain_first, plain_step};
+use jiter_scan::memory::{AllocFailed, push_small};
+use jiter_steps::parse::{ContainerKind, NESTING_LIMIT, Parser};
+use jiter_steps::plain::{Next, fast_first, fast_step};
 use jiter_steps::read_error::ReadError;
 use std::alloc::Global;
 
 /// What comes before a step of a container.
 #[derive(Clone, Copy, Debug)]
-pub enum Behind {
+pub enum After {
     /// The opening bracket.
     Bracket,
     /// An item or a member.
@@ -38,24 +38,24 @@ pub enum Behind {
 }
 
 #[inline(always)]
-fn part_of(shape: Shape) -> State
+fn part_of(shape: ContainerKind) -> State
     ensures { result ≡ part_of shape }
 {
     match shape {
-        Shape::Array => State::Item,
-        Shape::Object => State::Key,
+        ContainerKind::Array => State::Item,
+        ContainerKind::Object => State::Key,
     }
 }
 
 #[inline(always)]
-fn shape_of(slot: Slot) -> Option<Shape>
+fn kind_of_container(slot: Slot) -> Option<ContainerKind>
     ensures some { IfSome result (λ shape. slot ≡ slot_in shape) }
     ensures none { result ≡ None → slot ≡ Slot.Root }
 {
     match slot {
         Slot::Root => None,
-        Slot::Item => Some(Shape::Array),
-        Slot::Member => Some(Shape::Object),
+        Slot::Item => Some(ContainerKind::Array),
+        Slot::Member => Some(ContainerKind::Object),
     }
 }
 
@@ -87,20 +87,20 @@ fn is_stuck_forgiven<'j>(
     from: usize,
     at: usize,
     settings: Settings,
-    behind: Behind,
-    shape: Shape,
+    after: After,
+    shape: ContainerKind,
 ) -> bool
     requires within { from ≤ length bytes.now }
-    requires bracket { behind ≡ Behind.Bracket → from < length bytes.now }
-    requires stuck { IsStuckAt at (container_goes behind shape bytes.now from) }
+    requires bracket { after ≡ After.Bracket → from < length bytes.now }
+    requires stuck { IsStuckAt at (container_goes after shape bytes.now from) }
     ensures resolved { IsResolved settings result stacks.new.error at
-        (container_goes behind shape bytes.now from) }
+        (container_goes after shape bytes.now from) }
     ensures same { result ≡ true → stacks.new ≡ stacks.old }
 {
     let mut parser = Parser { bytes, index: from };
-    match behind {
-        Behind::Bracket => is_forgiven(stacks, parser.first(shape), settings),
-        Behind::Part => is_forgiven(stacks, parser.step(shape), settings),
+    match after {
+        After::Bracket => is_forgiven(stacks, parser.first(shape), settings),
+        After::Part => is_forgiven(stacks, parser.step(shape), settings),
     }
 }
 
@@ -113,26 +113,26 @@ fn ends<'j>(
     at: usize,
     what: Next,
     settings: Settings,
-    behind: Behind,
-    shape: Shape,
+    after: After,
+    shape: ContainerKind,
 ) -> bool
     requires within { from ≤ length bytes.now }
-    requires bracket { behind ≡ Behind.Bracket → from < length bytes.now }
-    requires step { IsNext at what (container_goes behind shape bytes.now from) }
+    requires bracket { after ≡ After.Bracket → from < length bytes.now }
+    requires step { IsNext at what (container_goes after shape bytes.now from) }
     requires no_part { what ≢ Next.Part }
     ensures resolved { IsResolved settings result stacks.new.error at
-        (container_goes behind shape bytes.now from) }
+        (container_goes after shape bytes.now from) }
     ensures same { result ≡ true → stacks.new ≡ stacks.old }
 {
     match what {
         Next::End => true,
-        _ => is_stuck_forgiven(stacks, bytes, from, at, settings, behind, shape),
+        _ => is_stuck_forgiven(stacks, bytes, from, at, settings, after, shape),
     }
 }
 
 /// Goes on after a value, up to the next value or key, and closes each container that ends.
 #[inline(always)]
-pub fn after<'s, T: Texts<'s>>(
+pub fn after_value<'s, T: StringStorage<'s>>(
     reading: &mut Reading<'s>,
     bytes: &[u8],
     from: usize,
@@ -142,7 +142,7 @@ pub fn after<'s, T: Texts<'s>>(
     requires levels { length reading.old.stacks.nest.items ≤ nesting_limit }
     requires within { from ≤ length bytes.now }
     ensures leads { Proceeds T.made reading.old.settings bytes.now from (left bytes.now reading.old.stacks from + 1)
-        (behind_size reading.old.stacks slot) (behind T.made reading.old.settings bytes.now reading.old.stacks slot from)
+        (after_size reading.old.stacks slot) (after T.made reading.old.settings bytes.now reading.old.stacks slot from)
         reading.new.stacks result }
     ensures memory { WhereRefused (outcome reading.new.stacks result.1) (slot ≢ Slot.Root) }
     ensures root { slot ≡ Slot.Root
@@ -154,10 +154,10 @@ pub fn after<'s, T: Texts<'s>>(
     let mut at = from;
     let mut inside = slot;
     'closing: loop {
-        match shape_of(inside) {
+        match kind_of_container(inside) {
             None => return (at, State::Done),
             Some(shape) => {
-                let (next, what) = plain_step(bytes, at, shape);
+                let (next, what) = fast_step(bytes, at, shape);
                 match what {
                     Next::Part => return (next, part_of(shape)),
                     _ => {}
@@ -169,7 +169,7 @@ pub fn after<'s, T: Texts<'s>>(
                     next,
                     what,
                     reading.settings,
-                    Behind::Part,
+                    After::Part,
                     shape,
                 ) {
                     return (next, State::GivenUp);
@@ -186,11 +186,11 @@ pub fn after<'s, T: Texts<'s>>(
 
 /// Closes the innermost container, which ends at `at`, and goes on after it.
 #[inline(never)]
-pub fn close_and_go_on<'s, T: Texts<'s>>(
+pub fn close_and_go_on<'s, T: StringStorage<'s>>(
     reading: &mut Reading<'s>,
     bytes: &[u8],
     at: usize,
-    shape: Shape,
+    shape: ContainerKind,
 ) -> (usize, State)
     requires stands { StandsInside shape reading.old.stacks }
     requires levels { length reading.old.stacks.nest.items ≤ nesting_limit + 1 }
@@ -203,7 +203,7 @@ pub fn close_and_go_on<'s, T: Texts<'s>>(
     ensures settings { reading.new.settings ≡ reading.old.settings }
 {
     match close(reading.alloc, &mut reading.stacks, shape) {
-        Ok(outer) => after::<T>(reading, bytes, at, outer),
+        Ok(outer) => after_value::<T>(reading, bytes, at, outer),
         Err(refused) => no_memory(&mut reading.stacks, refused, at),
     }
 }
@@ -213,31 +213,31 @@ fn put_empty(
     alloc: Global,
     stacks: &mut Stacks<'_>,
     slot: Slot,
-    shape: Shape,
-) -> Result<(), Refused>
+    shape: ContainerKind,
+) -> Result<(), AllocFailed>
     requires { Stands stacks.old slot }
     ensures value { OnOk result ((made : Keeping) → (p : SettingsView) → (t : List ℕ) → (e : ℕ)
-        → resume_with made p t stacks.old slot (done (empty_tree shape) e) ≡ behind made p t stacks.new slot e) }
+        → resume_with made p t stacks.old slot (done (empty_tree shape) e) ≡ after made p t stacks.new slot e) }
     ensures stands { OnOk result (Stands stacks.new slot) }
     ensures nest { stacks.new.nest ≡ stacks.old.nest }
-    ensures held { OnOk result (behind_size stacks.new slot ≡ value_size stacks.old slot + 1) }
+    ensures held { OnOk result (after_size stacks.new slot ≡ value_size stacks.old slot + 1) }
     ensures refused { OnErr result (slot ≢ Slot.Root) }
     ensures keys { OnOk result (LeavesKeys stacks.old.members.items stacks.new.members.items) }
 {
     match shape {
-        Shape::Array => put(stacks, slot, JsonValue::Array(Vec::new(alloc))),
-        Shape::Object => put(stacks, slot, object_of(Vec::new(alloc))),
+        ContainerKind::Array => put(stacks, slot, JsonValue::Array(Vec::new(alloc))),
+        ContainerKind::Object => put(stacks, slot, object_of(Vec::new(alloc))),
     }
 }
 
 // Puts an empty container, which ends at `end`, into its slot, and goes on after it.
 #[inline(always)]
-fn empty<'s, T: Texts<'s>>(
+fn empty<'s, T: StringStorage<'s>>(
     reading: &mut Reading<'s>,
     bytes: &[u8],
     end: usize,
     slot: Slot,
-    shape: Shape,
+    shape: ContainerKind,
 ) -> (usize, State)
     requires stands { Stands reading.old.stacks slot }
     requires levels { length reading.old.stacks.nest.items ≤ nesting_limit }
@@ -254,44 +254,44 @@ fn empty<'s, T: Texts<'s>>(
     ensures settings { reading.new.settings ≡ reading.old.settings }
 {
     match put_empty(reading.alloc, &mut reading.stacks, slot, shape) {
-        Ok(()) => after::<T>(reading, bytes, end, slot),
+        Ok(()) => after_value::<T>(reading, bytes, end, slot),
         Err(refused) => no_memory(&mut reading.stacks, refused, end),
     }
 }
 
 // Whether a further array would exceed the nesting limit. An object's limit is tested after its first key and colon.
 #[inline(always)]
-fn is_full(stacks: &Stacks<'_>, shape: Shape) -> bool
+fn is_full(stacks: &Stacks<'_>, shape: ContainerKind) -> bool
     ensures full { result ≡ true
-        → (shape ≡ Shape.Array) × (length stacks.now.nest.items ≡ nesting_limit) }
-    ensures few { result ≡ false → shape ≡ Shape.Array
+        → (shape ≡ ContainerKind.Array) × (length stacks.now.nest.items ≡ nesting_limit) }
+    ensures few { result ≡ false → shape ≡ ContainerKind.Array
         → length stacks.now.nest.items ≢ nesting_limit }
 {
     match shape {
-        Shape::Array => stacks.nest.len() == NESTING_LIMIT,
-        Shape::Object => false,
+        ContainerKind::Array => stacks.nest.len() == NESTING_LIMIT,
+        ContainerKind::Object => false,
     }
 }
 
 #[inline(always)]
-fn base_of(stacks: &Stacks<'_>, shape: Shape) -> usize
+fn base_of(stacks: &Stacks<'_>, shape: ContainerKind) -> usize
     ensures { result ≡ base_of shape stacks.now }
 {
     match shape {
-        Shape::Array => stacks.items.len(),
-        Shape::Object => stacks.members.len(),
+        ContainerKind::Array => stacks.items.len(),
+        ContainerKind::Object => stacks.members.len(),
     }
 }
 
 // Opens the container whose bracket is at `at` and whose first part begins at `next`.
 #[inline(always)]
-fn open<'s, T: Texts<'s>>(
+fn open<'s, T: StringStorage<'s>>(
     reading: &mut Reading<'s>,
     bytes: &[u8],
     at: usize,
     next: usize,
     slot: Slot,
-    shape: Shape,
+    shape: ContainerKind,
 ) -> (usize, State)
     requires stands { Stands reading.old.stacks slot }
     requires levels { length reading.old.stacks.nest.items ≤ nesting_limit }
@@ -318,12 +318,12 @@ fn open<'s, T: Texts<'s>>(
 
 /// Reads the bracket at `at`: opens the container, or puts it into its slot if it is empty.
 #[inline(always)]
-pub fn begin<'s, T: Texts<'s>>(
+pub fn begin<'s, T: StringStorage<'s>>(
     reading: &mut Reading<'s>,
     bytes: &[u8],
     at: usize,
     slot: Slot,
-    shape: Shape,
+    shape: ContainerKind,
 ) -> (usize, State)
     requires at_value { IsAtValue bytes.now reading.old.stacks slot at }
     requires bracket { start_of (slice_index bytes.now at) ≡ opening shape }
@@ -336,7 +336,7 @@ pub fn begin<'s, T: Texts<'s>>(
         (LeavesKeys reading.old.stacks.members.items reading.new.stacks.members.items) }
     ensures settings { reading.new.settings ≡ reading.old.settings }
 {
-    let (next, what) = plain_first(bytes, at + 1, shape);
+    let (next, what) = fast_first(bytes, at + 1, shape);
     match what {
         Next::Part => return open::<T>(reading, bytes, at, next, slot, shape),
         _ => {}
@@ -348,7 +348,7 @@ pub fn begin<'s, T: Texts<'s>>(
         next,
         what,
         reading.settings,
-        Behind::Bracket,
+        After::Bracket,
         shape,
     ) {
         return (next, State::GivenUp);

@@ -13,21 +13,21 @@ ghost use Rattle.jiter_steps.specs.declared.parse.Start.{Start};
 ghost use Rattle.jiter_value.specs.Size.{value_size, key_size};
 ghost use Rattle.jiter_value.specs.Stacks.{resume_with, from_value, from_key, key_fault, Stands, StandsAtKey, IsFree};
 ghost use Rattle.jiter_value.specs.Stacks.{KeepsKeys, LeavesKeys};
-ghost use Rattle.jiter_value.specs.Texts.{IsLentAt};
+ghost use Rattle.jiter_value.specs.StringStorage.{IsLentAt};
 ghost use Rattle.jiter_value.specs.Turns.{IsAtValue, Proceeds, MayGrowFor, left, outcome};
 ghost use Rattle.jiter_value.specs.Value.{MayGrowBy};
 ghost use Rattle.jiter_value.specs.declared.value.JsonValue.TheVariants.{Int};
 
 use crate::settings::{Settings, forgives};
 use crate::stacks::{Slot, Stacks, State, give_up, no_memory, put, too_deep};
-use crate::texts::Texts;
+use crate::texts::StringStorage;
 use crate::turns::Reading;
 use crate::turns::containers::{after, close_and_go_on};
 use crate::turns::scalar::scalar;
 use crate::value::JsonValue;
 use jiter_scan::errors::Fault;
-use jiter_scan::memory::{Refused, make_room};
-use jiter_steps::parse::{NESTING_LIMIT, Parser, Shape};
+use jiter_scan::memory::{AllocFailed, make_room};
+use jiter_steps::parse::{ContainerKind, NESTING_LIMIT, Parser};
 use jiter_steps::read_error::ReadError;
 use std::alloc::Global;
 use std::borrow::CowStr;
@@ -36,7 +36,7 @@ use std::borrow::CowStr;
 // value.
 #[cold]
 #[inline(never)]
-fn fault_at_value<'s, T: Texts<'s>>(
+fn fault_at_value<'s, T: StringStorage<'s>>(
     reading: &mut Reading<'s>,
     bytes: &[u8],
     at: usize,
@@ -60,10 +60,10 @@ fn fault_at_value<'s, T: Texts<'s>>(
         return give_up(&mut reading.stacks, problem, at);
     }
     match slot {
-        Slot::Item => close_and_go_on::<T>(reading, bytes, at, Shape::Array),
+        Slot::Item => close_and_go_on::<T>(reading, bytes, at, ContainerKind::Array),
         Slot::Member => {
             let _ = reading.stacks.members.pop();
-            close_and_go_on::<T>(reading, bytes, at, Shape::Object)
+            close_and_go_on::<T>(reading, bytes, at, ContainerKind::Object)
         }
         Slot::Root => give_up(&mut reading.stacks, problem, at),
     }
@@ -72,7 +72,7 @@ fn fault_at_value<'s, T: Texts<'s>>(
 // An error of a key or of its colon. If it is forgiven, it closes the object.
 #[cold]
 #[inline(never)]
-fn fault_at_key<'s, T: Texts<'s>>(
+fn fault_at_key<'s, T: StringStorage<'s>>(
     reading: &mut Reading<'s>,
     bytes: &[u8],
     at: usize,
@@ -92,13 +92,13 @@ fn fault_at_key<'s, T: Texts<'s>>(
     if !forgives(reading.settings.mode, problem.kind) {
         return give_up(&mut reading.stacks, problem, at);
     }
-    close_and_go_on::<T>(reading, bytes, at, Shape::Object)
+    close_and_go_on::<T>(reading, bytes, at, ContainerKind::Object)
 }
 
 /// Reads any scalar where a value is expected, or handles the error there.
 #[cold]
 #[inline(never)]
-pub fn general_scalar<'s, T: Texts<'s>>(
+pub fn slow_scalar<'s, T: StringStorage<'s>>(
     reading: &mut Reading<'s>,
     texts: T,
     bytes: &[u8],
@@ -127,7 +127,7 @@ pub fn general_scalar<'s, T: Texts<'s>>(
         reading.settings,
     ) {
         Ok(value) => match put(&mut reading.stacks, slot, value) {
-            Ok(()) => after::<T>(reading, bytes, parser.index, slot),
+            Ok(()) => after_value::<T>(reading, bytes, parser.index, slot),
             Err(refused) => no_memory(&mut reading.stacks, refused, parser.index),
         },
         Err(ReadError::Fault(fault)) => {
@@ -140,13 +140,13 @@ pub fn general_scalar<'s, T: Texts<'s>>(
 // Pushes a key, whose bytes begin at `from`, with the integer 0 as a placeholder for its value. All bytes of the
 // placeholder are written at once.
 #[inline(always)]
-fn push_key<'s, T: Texts<'s>>(
+fn push_key<'s, T: StringStorage<'s>>(
     texts: T,
     members: &mut Vec<(CowStr<'s>, JsonValue<'s>)>,
     bytes: &[u8],
     from: usize,
     key: CowStr<'_>,
-) -> Result<(), Refused>
+) -> Result<(), AllocFailed>
     requires texts { T.of texts bytes.now }
     requires lent { IsLentAt bytes.now from (text_view key) }
     ensures { OnOk result ((kept : CowStrView Global)
@@ -161,7 +161,7 @@ fn push_key<'s, T: Texts<'s>>(
 
 /// Reads any key at `at`, with its colon.
 #[inline(never)]
-pub fn general_key<'s, T: Texts<'s>>(
+pub fn slow_key<'s, T: StringStorage<'s>>(
     reading: &mut Reading<'s>,
     texts: T,
     bytes: &[u8],

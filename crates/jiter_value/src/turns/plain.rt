@@ -16,17 +16,17 @@ ghost use Rattle.jiter_value.specs.Turns.{IsAtValue, IsPutAt, IsKeyAt, IsRefused
 ghost use Rattle.jiter_value.specs.Value.{view, MayGrowBy};
 
 use crate::stacks::{Slot, Stacks, has_room, put_reserved};
-use crate::texts::{Texts, keep_decoded, keep_lent};
+use crate::texts::{StringStorage, keep_decoded, keep_lent};
 use crate::turns::Reading;
 use crate::value::JsonValue;
-use jiter_scan::memory::Refused;
+use jiter_scan::fast_number::{FastNumber, fast_number_at};
+use jiter_scan::memory::AllocFailed;
 use jiter_scan::number_extent::minus_end;
-use jiter_scan::plain_number::{PlainNumber, plain_number_at};
 use jiter_scan::simd::scan_string;
 use jiter_scan::text::{ascii_text, utf8_text};
 use jiter_steps::parse::Literal;
 use jiter_steps::plain::{
-    ascii_between, plain_colon, plain_literal_end, plain_text_end, text_between,
+    ascii_between, fast_colon, fast_literal_end, fast_string_end, text_between,
 };
 use jiter_steps::read_error::ReadError;
 use jiter_steps::string_decoder::decode_whole;
@@ -40,23 +40,23 @@ pub enum Plain {
     /// Left it to the slow path, because it isn't plain or there is no capacity. The stacks are unchanged.
     Other,
     /// Stopped the reading, because an allocation for its text failed.
-    Refused,
+    AllocFailed,
 }
 
 #[cold]
 #[inline(never)]
-fn refused_at(stacks: &mut Stacks<'_>, refused: Refused, at: usize) -> (usize, Plain)
-    ensures place { result ≡ (at, Plain.Refused) }
+fn refused_at(stacks: &mut Stacks<'_>, refused: AllocFailed, at: usize) -> (usize, Plain)
+    ensures place { result ≡ (at, Plain.AllocFailed) }
     ensures error { stacks.new.error ≡ error.Memory refused }
 {
     stacks.error = ReadError::Memory(refused);
-    (at, Plain::Refused)
+    (at, Plain::AllocFailed)
 }
 
 // Puts a string without a backslash that isn't all ASCII, if it is UTF-8. Returns the index after it.
 #[cold]
 #[inline(never)]
-fn put_plain_utf8<'s, T: Texts<'s>>(
+fn fast_put_utf8<'s, T: StringStorage<'s>>(
     texts: T,
     stacks: &mut Stacks<'s>,
     bytes: &[u8],
@@ -74,8 +74,8 @@ fn put_plain_utf8<'s, T: Texts<'s>>(
     requires quote { slice_get bytes.now to ≡ Some ascii.quote }
     ensures put { result.1 ≡ Plain.Put → IsPutAt T.made bytes.now stacks.old at slot stacks.new result.0 }
     ensures other { result.1 ≡ Plain.Other → stacks.new ≡ stacks.old }
-    ensures refused { result.1 ≡ Plain.Refused → IsRefusedAt bytes.now at stacks.new result.0 }
-    ensures memory { result.1 ≡ Plain.Refused → T.wants }
+    ensures refused { result.1 ≡ Plain.AllocFailed → IsRefusedAt bytes.now at stacks.new result.0 }
+    ensures memory { result.1 ≡ Plain.AllocFailed → T.wants }
     ensures keys { result.1 ≡ Plain.Put → LeavesKeys stacks.old.members.items stacks.new.members.items }
 {
     let Some(plain) = text_between(bytes, at, to) else {
@@ -94,7 +94,7 @@ fn put_plain_utf8<'s, T: Texts<'s>>(
 // again.
 #[cold]
 #[inline(never)]
-fn put_decoded_text<'s, T: Texts<'s>>(
+fn put_decoded_text<'s, T: StringStorage<'s>>(
     alloc: Global,
     texts: T,
     tape: &mut Vec<u8>,
@@ -110,7 +110,7 @@ fn put_decoded_text<'s, T: Texts<'s>>(
     requires backslash { WantsMemory bytes.now at }
     ensures put { result.1 ≡ Plain.Put → IsPutAt T.made bytes.now stacks.old at slot stacks.new result.0 }
     ensures other { result.1 ≡ Plain.Other → stacks.new ≡ stacks.old }
-    ensures refused { result.1 ≡ Plain.Refused → IsRefusedAt bytes.now at stacks.new result.0 }
+    ensures refused { result.1 ≡ Plain.AllocFailed → IsRefusedAt bytes.now at stacks.new result.0 }
     ensures keys { result.1 ≡ Plain.Put → LeavesKeys stacks.old.members.items stacks.new.members.items }
 {
     match decode_whole(tape, bytes, at) {
@@ -131,7 +131,7 @@ fn put_decoded_text<'s, T: Texts<'s>>(
 
 // Puts a complete string. Returns the index after it.
 #[inline(always)]
-fn put_plain_text<'s, T: Texts<'s>>(
+fn fast_put_text<'s, T: StringStorage<'s>>(
     alloc: Global,
     texts: T,
     tape: &mut Vec<u8>,
@@ -146,8 +146,8 @@ fn put_plain_text<'s, T: Texts<'s>>(
     requires begins { start_of (slice_index bytes.now at) ≡ Start.String }
     ensures put { result.1 ≡ Plain.Put → IsPutAt T.made bytes.now stacks.old at slot stacks.new result.0 }
     ensures other { result.1 ≡ Plain.Other → stacks.new ≡ stacks.old }
-    ensures refused { result.1 ≡ Plain.Refused → IsRefusedAt bytes.now at stacks.new result.0 }
-    ensures memory { result.1 ≡ Plain.Refused → WantsMemory bytes.now at ⊎ T.wants }
+    ensures refused { result.1 ≡ Plain.AllocFailed → IsRefusedAt bytes.now at stacks.new result.0 }
+    ensures memory { result.1 ≡ Plain.AllocFailed → WantsMemory bytes.now at ⊎ T.wants }
     ensures keys { result.1 ≡ Plain.Put → LeavesKeys stacks.old.members.items stacks.new.members.items }
 {
     let (to, low) = scan_string(bytes, at + 1);
@@ -161,7 +161,7 @@ fn put_plain_text<'s, T: Texts<'s>>(
         return put_decoded_text(alloc, texts, tape, stacks, bytes, at, slot);
     }
     if !low {
-        return put_plain_utf8(texts, stacks, bytes, at, to, slot);
+        return fast_put_utf8(texts, stacks, bytes, at, to, slot);
     }
     match keep_lent(texts, bytes, at + 1, ascii_between(bytes, at, to)) {
         Ok(text) => {
@@ -183,7 +183,7 @@ fn signed<'s>(magnitude: u64, negative: bool) -> JsonValue<'s>
 
 // Puts a short number. Returns the index after it.
 #[inline(always)]
-fn put_plain_number<'s, T: Texts<'s>>(
+fn fast_put_number<'s, T: StringStorage<'s>>(
     texts: T,
     stacks: &mut Stacks<'s>,
     bytes: &[u8],
@@ -196,17 +196,17 @@ fn put_plain_number<'s, T: Texts<'s>>(
     requires begins { start_of (slice_index bytes.now at) ≡ Start.Number }
     ensures put { result.1 ≡ Plain.Put → IsPutAt T.made bytes.now stacks.old at slot stacks.new result.0 }
     ensures other { result.1 ≡ Plain.Other → stacks.new ≡ stacks.old }
-    ensures refused { result.1 ≡ Plain.Refused → IsRefusedAt bytes.now at stacks.new result.0 }
-    ensures memory { result.1 ≡ Plain.Refused → T.wants }
+    ensures refused { result.1 ≡ Plain.AllocFailed → IsRefusedAt bytes.now at stacks.new result.0 }
+    ensures memory { result.1 ≡ Plain.AllocFailed → T.wants }
     ensures keys { result.1 ≡ Plain.Put → LeavesKeys stacks.old.members.items stacks.new.members.items }
 {
     let from = minus_end(bytes, at);
-    match plain_number_at(bytes, from) {
-        PlainNumber::Int(magnitude, end) => {
+    match fast_number_at(bytes, from) {
+        FastNumber::Int(magnitude, end) => {
             put_reserved(stacks, slot, signed(magnitude, from > at));
             (end, Plain::Put)
         }
-        PlainNumber::Float(end) => {
+        FastNumber::Float(end) => {
             match keep_lent(texts, bytes, at, ascii_text(&bytes[at..end])) {
                 Ok(text) => {
                     put_reserved(stacks, slot, JsonValue::Float(text));
@@ -215,13 +215,13 @@ fn put_plain_number<'s, T: Texts<'s>>(
                 Err(refused) => refused_at(stacks, refused, end),
             }
         }
-        PlainNumber::Other => (at, Plain::Other),
+        FastNumber::Other => (at, Plain::Other),
     }
 }
 
 // Puts a literal. Returns the index after it.
 #[inline(always)]
-fn put_plain_literal<'s, T: Texts<'s>>(
+fn fast_put_literal<'s, T: StringStorage<'s>>(
     stacks: &mut Stacks<'s>,
     bytes: &[u8],
     at: usize,
@@ -233,11 +233,11 @@ fn put_plain_literal<'s, T: Texts<'s>>(
     requires begins { start_of (slice_index bytes.now at) ≡ Start.Literal literal }
     ensures put { result.1 ≡ Plain.Put → IsPutAt T.made bytes.now stacks.old at slot stacks.new result.0 }
     ensures other { result.1 ≡ Plain.Other → stacks.new ≡ stacks.old }
-    ensures refused { result.1 ≡ Plain.Refused → IsRefusedAt bytes.now at stacks.new result.0 }
-    ensures memory { result.1 ≡ Plain.Refused → ⊥ }
+    ensures refused { result.1 ≡ Plain.AllocFailed → IsRefusedAt bytes.now at stacks.new result.0 }
+    ensures memory { result.1 ≡ Plain.AllocFailed → ⊥ }
     ensures keys { result.1 ≡ Plain.Put → LeavesKeys stacks.old.members.items stacks.new.members.items }
 {
-    let Some(end) = plain_literal_end(bytes, at, literal) else {
+    let Some(end) = fast_literal_end(bytes, at, literal) else {
         return (at, Plain::Other);
     };
     match literal {
@@ -250,7 +250,7 @@ fn put_plain_literal<'s, T: Texts<'s>>(
 
 /// Puts a plain scalar or any complete string into its slot, if there is capacity. Returns the index after it.
 #[inline(always)]
-pub fn put_plain_scalar<'s, T: Texts<'s>>(
+pub fn fast_put_scalar<'s, T: StringStorage<'s>>(
     reading: &mut Reading<'s>,
     texts: T,
     bytes: &[u8],
@@ -261,8 +261,8 @@ pub fn put_plain_scalar<'s, T: Texts<'s>>(
     requires at_value { IsAtValue bytes.now reading.old.stacks slot at }
     ensures put { result.1 ≡ Plain.Put → IsPutAt T.made bytes.now reading.old.stacks at slot reading.new.stacks result.0 }
     ensures other { result.1 ≡ Plain.Other → reading.new.stacks ≡ reading.old.stacks }
-    ensures refused { result.1 ≡ Plain.Refused → IsRefusedAt bytes.now at reading.new.stacks result.0 }
-    ensures memory { result.1 ≡ Plain.Refused → MayGrowBy T.wants bytes.now at }
+    ensures refused { result.1 ≡ Plain.AllocFailed → IsRefusedAt bytes.now at reading.new.stacks result.0 }
+    ensures memory { result.1 ≡ Plain.AllocFailed → MayGrowBy T.wants bytes.now at }
     ensures keys { result.1 ≡ Plain.Put → LeavesKeys reading.old.stacks.members.items reading.new.stacks.members.items }
     ensures settings { reading.new.settings ≡ reading.old.settings }
 {
@@ -270,7 +270,7 @@ pub fn put_plain_scalar<'s, T: Texts<'s>>(
         return (at, Plain::Other);
     }
     match bytes[at] {
-        b'"' => put_plain_text(
+        b'"' => fast_put_text(
             reading.alloc,
             texts,
             &mut reading.tape,
@@ -279,17 +279,17 @@ pub fn put_plain_scalar<'s, T: Texts<'s>>(
             at,
             slot,
         ),
-        b'0'..=b'9' | b'-' => put_plain_number(texts, &mut reading.stacks, bytes, at, slot),
-        b'n' => put_plain_literal::<T>(&mut reading.stacks, bytes, at, slot, Literal::Null),
-        b't' => put_plain_literal::<T>(&mut reading.stacks, bytes, at, slot, Literal::True),
-        b'f' => put_plain_literal::<T>(&mut reading.stacks, bytes, at, slot, Literal::False),
+        b'0'..=b'9' | b'-' => fast_put_number(texts, &mut reading.stacks, bytes, at, slot),
+        b'n' => fast_put_literal::<T>(&mut reading.stacks, bytes, at, slot, Literal::Null),
+        b't' => fast_put_literal::<T>(&mut reading.stacks, bytes, at, slot, Literal::True),
+        b'f' => fast_put_literal::<T>(&mut reading.stacks, bytes, at, slot, Literal::False),
         _ => (at, Plain::Other),
     }
 }
 
 /// Pushes a plain key, if its colon and a value follow. Returns the index of the value.
 #[inline(always)]
-pub fn put_plain_key<'s, T: Texts<'s>>(
+pub fn fast_put_key<'s, T: StringStorage<'s>>(
     texts: T,
     stacks: &mut Stacks<'s>,
     bytes: &[u8],
@@ -303,14 +303,14 @@ pub fn put_plain_key<'s, T: Texts<'s>>(
     requires free { IsFree T.made bytes.now stacks.old at }
     ensures put { result.1 ≡ Plain.Put → IsKeyAt T.made bytes.now stacks.old at stacks.new result.0 }
     ensures other { result.1 ≡ Plain.Other → stacks.new ≡ stacks.old }
-    ensures refused { result.1 ≡ Plain.Refused → IsRefusedAt bytes.now at stacks.new result.0 }
+    ensures refused { result.1 ≡ Plain.AllocFailed → IsRefusedAt bytes.now at stacks.new result.0 }
     ensures keys { result.1 ≡ Plain.Put
         → KeepsKeys T.made bytes.now stacks.old.members.items state.Key at stacks.new.members.items }
 {
-    let Some(to) = plain_text_end(bytes, at) else {
+    let Some(to) = fast_string_end(bytes, at) else {
         return (at, Plain::Other);
     };
-    let Some(next) = plain_colon(bytes, to + 1) else {
+    let Some(next) = fast_colon(bytes, to + 1) else {
         return (at, Plain::Other);
     };
     match keep_lent(texts, bytes, at + 1, ascii_text(&bytes[at + 1..to])) {

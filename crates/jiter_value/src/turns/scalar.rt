@@ -6,7 +6,7 @@ ghost use Rattle.jiter_steps.specs.Node.{number_tree};
 ghost use Rattle.jiter_steps.specs.Read.{scalar_at, value_at};
 ghost use Rattle.jiter_steps.specs.Parse.{Moves, Reads, Gives};
 ghost use Rattle.jiter_value.specs.Owned.{tree_as};
-ghost use Rattle.jiter_value.specs.Texts.{IsNumberAt};
+ghost use Rattle.jiter_value.specs.StringStorage.{IsNumberAt};
 ghost use Rattle.jiter_value.specs.Settings.{lent, rules_as};
 ghost use Rattle.jiter_value.specs.Size.{size};
 ghost use Rattle.jiter_steps.specs.ReadError.{WhereRefused};
@@ -14,10 +14,10 @@ ghost use Rattle.jiter_steps.specs.StringDecoder.{WantsMemory};
 ghost use Rattle.jiter_value.specs.Value.{view, MayGrowBy};
 
 use crate::settings::Settings;
-use crate::texts::{Texts, keep_lent};
+use crate::texts::{StringStorage, keep_lent};
 use crate::value::JsonValue;
 use jiter_scan::errors::{Fault, FaultKind};
-use jiter_scan::memory::Refused;
+use jiter_scan::memory::AllocFailed;
 use jiter_scan::{NumberAny, NumberInt};
 use jiter_steps::parse::{Literal, Parser, Start, start_of};
 use jiter_steps::read_error::ReadError;
@@ -36,12 +36,12 @@ fn literal_value<'s>(literal: Literal) -> JsonValue<'s>
 }
 
 #[inline(always)]
-fn number_value<'s, T: Texts<'s>>(
+fn number_value<'s, T: StringStorage<'s>>(
     texts: T,
     bytes: &[u8],
     at: usize,
     number: NumberAny<'_>,
-) -> Result<JsonValue<'s>, Refused>
+) -> Result<JsonValue<'s>, AllocFailed>
     requires texts { T.of texts bytes.now }
     requires lent { IsNumberAt bytes.now at (number_view number) }
     ensures value { IfOk result (λ v.
@@ -79,7 +79,7 @@ fn read_literal<'s>(
 }
 
 #[inline(always)]
-fn read_number<'s, T: Texts<'s>>(
+fn read_number<'s, T: StringStorage<'s>>(
     texts: T,
     parser: &mut Parser<'_>,
     settings: Settings,
@@ -99,7 +99,7 @@ fn read_number<'s, T: Texts<'s>>(
 }
 
 #[inline(always)]
-fn read_string<'s, T: Texts<'s>>(
+fn read_string<'s, T: StringStorage<'s>>(
     alloc: Global,
     texts: T,
     tape: &mut Vec<u8>,
@@ -124,7 +124,7 @@ fn read_string<'s, T: Texts<'s>>(
 
 /// Reads the scalar at the reader's position. An error of the bytes leaves the reader there.
 #[inline(always)]
-pub fn scalar<'s, T: Texts<'s>>(
+pub fn scalar<'s, T: StringStorage<'s>>(
     alloc: Global,
     texts: T,
     tape: &mut Vec<u8>,

@@ -8,9 +8,9 @@ ghost use Rattle.jiter_steps.specs.Parse.{Moves};
 ghost use Rattle.jiter_steps.specs.Read.{value_at};
 ghost use Rattle.jiter_steps.specs.Step.{step, colon};
 ghost use Rattle.jiter_steps.specs.StringDecoder.{text_view};
-ghost use Rattle.jiter_steps.specs.Unique.{behind_its_colon};
+ghost use Rattle.jiter_steps.specs.Unique.{after_its_colon};
 ghost use Rattle.jiter_value.specs.Settings.{lent_unique, rules_as};
-ghost use Rattle.jiter_value.specs.KeySets.{HasKeys, IsUpToDate};
+ghost use Rattle.jiter_value.specs.DuplicateKeys.{HasKeys, IsUpToDate};
 ghost use Rattle.jiter_value.specs.Stacks.{StandsAtKey, IsFree, keys_of, keys_then, refused_in};
 ghost use Rattle.jiter_value.specs.Scratch.{HoldsNothing};
 ghost use Rattle.jiter_value.specs.UniqueKeys.{has_key, innermost_base, fault_of, HasStopped, StopsAtKey, GivesUnique};
@@ -18,14 +18,14 @@ ghost use Rattle.jiter_value.specs.UniqueKeys.{WhereUniqueRefused};
 ghost use Rattle.jiter_value.specs.Value.{MayGrowBy};
 
 use crate::stacks::{Open, Stacks, State, take_error, take_root};
-use crate::texts::{Distinct, Texts};
-use crate::turns::key_sets::{KeySet, forget_closed, is_new_key};
+use crate::texts::{BorrowingUnique, StringStorage};
+use crate::turns::duplicate_keys::{DuplicateKeyIndex, drop_closed, is_new_key};
 use crate::turns::{Keys, Reading};
 use crate::value::JsonValue;
-use jiter_scan::memory::{Refused, copy_text};
+use jiter_scan::memory::{AllocFailed, copy_text};
 use jiter_scan::text::ascii_text;
 use jiter_steps::parse::Parser;
-use jiter_steps::plain::plain_text_end;
+use jiter_steps::plain::fast_string_end;
 use jiter_steps::read_error::ReadError;
 use smallvec::SmallVec;
 use std::alloc::Global;
@@ -104,10 +104,10 @@ fn repeat_of(
     alloc: Global,
     parser: &mut Parser<'_>,
     key: CowStr<'_>,
-) -> Result<Option<Repeated>, Refused>
+) -> Result<Option<Repeated>, AllocFailed>
     ensures moves { Moves parser.old parser.new }
     ensures found { IfOk result (λ found. option_map fault_of found
-        ≡ behind_its_colon (text_view key.entry).bytes (step parser.old.bytes.now colon parser.old.index)) }
+        ≡ after_its_colon (text_view key.entry).bytes (step parser.old.bytes.now colon parser.old.index)) }
     ensures place { IfOk result (λ found. IfSome found (λ r. r.index ≡ parser.new.index)) }
 {
     match parser.colon() {
@@ -124,13 +124,13 @@ fn repeat_of(
 
 // Whether the key at `at` is ASCII without a backslash, and new among the members from `base` on.
 #[inline(always)]
-fn is_new_plain_key(stacks: &Stacks<'_>, bytes: &[u8], base: usize, at: usize) -> bool
+fn is_new_fast_key(stacks: &Stacks<'_>, bytes: &[u8], base: usize, at: usize) -> bool
     requires stands { StandsAtKey stacks.now }
     requires base { base ≡ innermost_base (reverse stacks.now.nest.items) }
     requires within { at < length bytes.now }
     ensures free { result ≡ true → IsFree lent_unique bytes.now stacks.now at }
 {
-    match plain_text_end(bytes, at) {
+    match fast_string_end(bytes, at) {
         Some(to) => !has_key(&stacks.members, base, ascii_text(&bytes[at + 1..to])),
         None => false,
     }
@@ -145,7 +145,7 @@ fn find_repeat(
     stacks: &Stacks<'_>,
     bytes: &[u8],
     at: usize,
-) -> Result<Option<Repeated>, Refused>
+) -> Result<Option<Repeated>, AllocFailed>
     requires stands { StandsAtKey stacks.now }
     requires within { at < length bytes.now }
     ensures found { IfOk result (λ found.
@@ -176,14 +176,14 @@ const FEW: usize = 32;
 #[inline(never)]
 fn is_new_where_kept<'s>(
     alloc: Global,
-    texts: Distinct<'s>,
+    texts: BorrowingUnique<'s>,
     tape: &mut Vec<u8>,
-    sets: &mut Vec<KeySet<'s>>,
+    sets: &mut Vec<DuplicateKeyIndex<'s>>,
     stacks: &Stacks<'s>,
     bytes: &[u8],
     base: usize,
     at: usize,
-) -> Result<bool, Refused>
+) -> Result<bool, AllocFailed>
     requires texts { texts.bytes.now ≡ bytes.now }
     requires stands { StandsAtKey stacks.now }
     requires base { base ≡ innermost_base (reverse stacks.now.nest.items) }
@@ -209,14 +209,14 @@ fn is_new_where_kept<'s>(
 #[inline(always)]
 fn is_new_in_set<'s>(
     alloc: Global,
-    texts: Distinct<'s>,
+    texts: BorrowingUnique<'s>,
     tape: &mut Vec<u8>,
-    sets: &mut Vec<KeySet<'s>>,
+    sets: &mut Vec<DuplicateKeyIndex<'s>>,
     stacks: &Stacks<'s>,
     bytes: &[u8],
     base: usize,
     at: usize,
-) -> Result<bool, Refused>
+) -> Result<bool, AllocFailed>
     requires texts { texts.bytes.now ≡ bytes.now }
     requires stands { StandsAtKey stacks.now }
     requires base { base ≡ innermost_base (reverse stacks.now.nest.items) }
@@ -235,9 +235,9 @@ fn is_new_in_set<'s>(
 // Why and where the reading stops before the key at `at`: the key is a duplicate, or an allocation failed.
 fn stop_at_key<'s>(
     alloc: Global,
-    texts: Distinct<'s>,
+    texts: BorrowingUnique<'s>,
     tape: &mut Vec<u8>,
-    sets: &mut Vec<KeySet<'s>>,
+    sets: &mut Vec<DuplicateKeyIndex<'s>>,
     stacks: &Stacks<'s>,
     bytes: &[u8],
     at: usize,
@@ -252,14 +252,14 @@ fn stop_at_key<'s>(
     ensures stops { IfSome result (λ r. StopsAtKey bytes.now stacks.now at r.0 r.1) }
     ensures place { IfSome result (λ r. (at ≤ r.1) × (r.1 ≤ length bytes.now)) }
 {
-    forget_closed(sets, &stacks.members);
+    drop_closed(sets, &stacks.members);
     let base = innermost_base(&stacks.nest);
     match is_new_in_set(alloc, texts, tape, sets, stacks, bytes, base, at) {
         Ok(true) => return None,
         Ok(false) => {}
         Err(refused) => return Some((Stopped::Read(ReadError::Memory(refused)), at)),
     }
-    if is_new_plain_key(stacks, bytes, base, at) {
+    if is_new_fast_key(stacks, bytes, base, at) {
         return None;
     }
     match find_repeat(alloc, tape, stacks, bytes, at) {
@@ -275,8 +275,8 @@ fn stop_at_key<'s>(
 /// Allows a key only if its object doesn't have it yet.
 #[derive(Drop)]
 pub struct NewKeys<'s> {
-    texts: Distinct<'s>,
-    sets: Vec<KeySet<'s>>,
+    texts: BorrowingUnique<'s>,
+    sets: Vec<DuplicateKeyIndex<'s>>,
     stopped: Option<(Stopped, usize)>,
 }
 
@@ -332,7 +332,7 @@ impl<'s> Keys<'s> for NewKeys<'s> {
         let base = innermost_base(&stacks.nest);
         if self.sets.is_empty()
             && stacks.members.len() - base <= FEW
-            && is_new_plain_key(stacks, bytes, base, at)
+            && is_new_fast_key(stacks, bytes, base, at)
         {
             return true;
         }
@@ -343,7 +343,7 @@ impl<'s> Keys<'s> for NewKeys<'s> {
 /// Reads the value at the reader's position, its texts borrowed. Stops at a duplicate key.
 pub fn run_unique<'s>(
     reading: &mut Reading<'s>,
-    texts: Distinct<'s>,
+    texts: BorrowingUnique<'s>,
     parser: &mut Parser<'_>,
 ) -> Result<JsonValue<'s>, Stopped>
     requires texts { texts.bytes.now ≡ parser.old.bytes.now }

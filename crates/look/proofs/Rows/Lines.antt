@@ -27,7 +27,7 @@ rows =
     (false, "[1.50, -0, 123456789012345678901234567890]", value "[1.50,0,123456789012345678901234567890]") ∷
     -- a line feed in a string by four hexadecimal digits
     (false, "{\"a\": [1, 2.50, \"\\n\"]}", value "{\"a\":[1,2.50,\"\\u000a\"]}") ∷
-    -- only a quote and a backslash stay behind a backslash
+    -- only a quote and a backslash stay after a backslash
     (false, "\"\\u00e9\\\"\\\\\"", value_line (with_line_feed (34 ∷ 195 ∷ 169 ∷ codes "\\\"\\\\\""))) ∷
     -- a name, where names are numbers
     (true, "[NaN]", value "[NaN]") ∷
@@ -56,7 +56,7 @@ unique_rows =
     ("{\"a\":1,\n\"\\u0061\" : 2}", fault "Detected duplicate key \"a\" at line 2 column 11") ∷
     -- a key that only another object has
     ("{\"a\": {\"a\": 1}, \"b\": [{\"a\": 2}]}", value "{\"a\":{\"a\":1},\"b\":[{\"a\":2}]}") ∷
-    -- a fault before the key stands again, and one of what stands behind its colon
+    -- a fault before the key stands again, and one of what stands after its colon
     ("{\"a\":,\"a\":2}", fault "expected value at line 1 column 6") ∷
     ("{\"a\":1,\"a\":?}", fault "Detected duplicate key \"a\" at line 1 column 12") ∷
     []

@@ -54,7 +54,7 @@ pub struct Calls {
     /// The number of calls so far.
     pub made: usize,
     first: usize,
-    behind: usize,
+    after: usize,
     error: Option<io::Error>,
 }
 
@@ -77,7 +77,7 @@ impl Calls {
         Self {
             made: 0,
             first,
-            behind: first.saturating_add(count),
+            after: first.saturating_add(count),
             error: None,
         }
     }
@@ -86,7 +86,7 @@ impl Calls {
     fn next(&mut self) -> io::Result<bool> {
         let call = self.made;
         self.made = call.saturating_add(1);
-        if call < self.first || self.behind <= call {
+        if call < self.first || self.after <= call {
             return Ok(true);
         }
         match self.error {

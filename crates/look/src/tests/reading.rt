@@ -174,8 +174,8 @@ fn cut_documents_are_read_as_the_mode_asks(rt: HostRuntime) {
 }
 
 // Whether the mode gives this value for a prefix; `wanted` is empty for an error.
-fn shows(alloc: Global, front: &[u8], mode: PartialMode, wanted: &str) -> bool {
-    match JsonValue::parse_with_config(alloc, front, false, mode) {
+fn shows(alloc: Global, prefix: &[u8], mode: PartialMode, wanted: &str) -> bool {
+    match JsonValue::parse_with_config(alloc, prefix, false, mode) {
         Ok(value) => match print(alloc, &value) {
             Ok(line) => line.as_slice() == wanted.as_bytes(),
             Err(_) => false,
@@ -185,7 +185,7 @@ fn shows(alloc: Global, front: &[u8], mode: PartialMode, wanted: &str) -> bool {
 }
 
 #[test]
-fn each_front_of_a_document_is_shown_as_its_cut(rt: HostRuntime) {
+fn each_prefix_of_a_document_is_shown_as_its_cut(rt: HostRuntime) {
     let document = "[12,\"aé\",{\"k\":true}]".as_bytes();
     let mut end = 0;
     for (on, with_strings) in [
@@ -212,12 +212,12 @@ fn each_front_of_a_document_is_shown_as_its_cut(rt: HostRuntime) {
         ("[12,\"aé\",{\"k\":true}]", "[12,\"aé\",{\"k\":true}]"),
         ("[12,\"aé\",{\"k\":true}]", "[12,\"aé\",{\"k\":true}]"),
     ] {
-        let front = document.get(..end).unwrap_or(document);
-        assert!(rt; shows(rt.alloc(), front, PartialMode::On, on));
+        let prefix = document.get(..end).unwrap_or(document);
+        assert!(rt; shows(rt.alloc(), prefix, PartialMode::On, on));
         assert!(rt;
             shows(
                 rt.alloc(),
-                front,
+                prefix,
                 PartialMode::TrailingStrings,
                 with_strings
             )

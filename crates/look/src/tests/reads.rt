@@ -61,7 +61,7 @@ fn an_interrupted_read_is_tried_again(rt: HostRuntime) {
 }
 
 #[test]
-fn nothing_is_read_behind_the_end(rt: HostRuntime) {
+fn nothing_is_read_after_the_end(rt: HostRuntime) {
     // The reader would return more after the call that returned nothing.
     for (call, line) in [(1, "1\n"), (2, "12\n"), (3, "123\n")] {
         assert!(rt; shows_over(rt.alloc(), "1234", Calls::idle(call, 1), call + 1, line));

@@ -50,7 +50,7 @@ fn lines_of_each_length_are_written_whole(rt: HostRuntime) {
 }
 
 #[test]
-fn a_line_is_added_behind_what_stands(rt: HostRuntime) {
+fn a_line_is_added_after_what_stands(rt: HostRuntime) {
     let alloc = rt.alloc();
     let mut out = Vec::new(alloc);
     let mut err = Vec::new(alloc);
@@ -86,8 +86,8 @@ fn ends(alloc: Global, row: Row<'_>, calls: Calls, status: u8, made: usize, got:
 
 // Whether the run fails at this call, makes no other, and has written a prefix of the line.
 fn ends_at(alloc: Global, row: Row<'_>, call: usize, calls: Calls) -> bool {
-    let front = row.line.get(..call).unwrap_or(row.line);
-    ends(alloc, row, calls, 3, call.saturating_add(1), front)
+    let prefix = row.line.get(..call).unwrap_or(row.line);
+    ends(alloc, row, calls, 3, call.saturating_add(1), prefix)
 }
 
 // The same for each call in turn. The last one is the flush.

@@ -1,5 +1,5 @@
-//! Damage behind each count of letters of a string, as a parse, a skip and a raw reading meet it, and where the reader
-//! stands then: of a string alone, in a key, behind another string, and behind an escape.
+//! Damage after each count of letters of a string, as a parse, a skip and a raw reading meet it, and where the reader
+//! stands then: of a string alone, in a key, after another string, and after an escape.
 use jiter::{Jiter, JiterErrorType, JiterResult, JsonErrorType as Kind, JsonValue};
 use std::alloc::{AllocError, Global};
 use std::test::*;
@@ -10,15 +10,15 @@ enum Place {
     Alone,
     Key,
     Second,
-    BehindEscape,
+    AfterEscape,
 }
 
-// A string's place, what stands there before its letters and behind the damage, the string's first byte, and how many
-// bytes fewer the decoded front has.
+// A string's place, what stands there before its letters and after the damage, the string's first byte, and how many
+// bytes fewer the decoded prefix has.
 #[derive(Clone, Copy)]
 struct Form {
     place: Place,
-    front: &'static [u8],
+    prefix: &'static [u8],
     back: &'static [u8],
     first: usize,
     fewer: usize,
@@ -27,35 +27,35 @@ struct Form {
 const FORMS: [Form; 4] = [
     Form {
         place: Place::Alone,
-        front: b"\"",
+        prefix: b"\"",
         back: b"\"",
         first: 0,
         fewer: 0,
     },
     Form {
         place: Place::Key,
-        front: b"{\"",
+        prefix: b"{\"",
         back: b"\":1}",
         first: 1,
         fewer: 0,
     },
     Form {
         place: Place::Second,
-        front: b"[\"x\",\"",
+        prefix: b"[\"x\",\"",
         back: b"\"]",
         first: 5,
         fewer: 0,
     },
     Form {
-        place: Place::BehindEscape,
-        front: b"\"\\n",
+        place: Place::AfterEscape,
+        prefix: b"\"\\n",
         back: b"\"",
         first: 0,
         fewer: 1,
     },
 ];
 
-// Damage, the kind of its fault, and how many bytes behind the letters that stands.
+// Damage, the kind of its fault, and how many bytes after the letters that stands.
 const DAMAGES: [(&[u8], Kind, usize); 5] = [
     (b"\xff", Kind::InvalidUnicodeCodePoint, 0),
     (b"\x1f", Kind::ControlCharacterWhileParsingString, 0),
@@ -71,7 +71,7 @@ fn damaged(
     letters: usize,
     damage: &[u8],
 ) -> Result<Vec<u8>, AllocError> {
-    let mut bytes = Vec::from_slice(alloc, form.front)?;
+    let mut bytes = Vec::from_slice(alloc, form.prefix)?;
     bytes.extend_from_slice("a".repeat(alloc, letters)?.as_bytes())?;
     bytes.extend_from_slice(damage)?;
     bytes.extend_from_slice(form.back)?;
@@ -81,7 +81,7 @@ fn damaged(
 // Reads the string as bytes.
 fn read_raw(jiter: &mut Jiter<'_>, place: Place) -> JiterResult<()> {
     match place {
-        Place::Alone | Place::BehindEscape => {
+        Place::Alone | Place::AfterEscape => {
             let _ = jiter.next_bytes()?;
         }
         Place::Key => {
@@ -97,7 +97,7 @@ fn read_raw(jiter: &mut Jiter<'_>, place: Place) -> JiterResult<()> {
     Ok(())
 }
 
-// Whether a call left the reader where it should: behind what it read, or at the string, refused with this kind at this
+// Whether a call left the reader where it should: after what it read, or at the string, refused with this kind at this
 // index.
 fn is_met(
     jiter: &Jiter<'_>,
@@ -127,29 +127,29 @@ fn is_refused(alloc: Global, bytes: &[u8], kind: &Kind, index: usize) -> bool {
     }
 }
 
-// How many bytes behind the string a raw reading of it leaves.
-fn left_behind(place: Place) -> usize {
+// How many bytes after the string a raw reading of it leaves.
+fn left_after(place: Place) -> usize {
     match place {
-        Place::Alone | Place::BehindEscape => 0,
+        Place::Alone | Place::AfterEscape => 0,
         Place::Key => 2,
         Place::Second => 1,
     }
 }
 
-// Whether a parse, a skip and a raw reading meet the damage behind so many letters: broken UTF-8 a parse alone.
+// Whether a parse, a skip and a raw reading meet the damage after so many letters: broken UTF-8 a parse alone.
 fn is_found(
     alloc: Global,
     form: Form,
     letters: usize,
     damage: &(&[u8], Kind, usize),
 ) -> Result<bool, AllocError> {
-    let (source, kind, behind) = damage;
+    let (source, kind, after) = damage;
     let bytes = damaged(alloc, form, letters, source)?;
     let index = form
-        .front
+        .prefix
         .len()
         .saturating_add(letters)
-        .saturating_add(*behind);
+        .saturating_add(*after);
     let broken = *kind == Kind::InvalidUnicodeCodePoint;
     let wanted = if broken { None } else { Some((kind, index)) };
     let read = if broken {
@@ -161,7 +161,7 @@ fn is_found(
     let skipped = skipping.next_skip();
     let mut raw = Jiter::new(bytes.as_slice());
     let reply = read_raw(&mut raw, form.place);
-    let end = bytes.len().saturating_sub(left_behind(form.place));
+    let end = bytes.len().saturating_sub(left_after(form.place));
     Ok(
         is_refused(alloc, bytes.as_slice(), kind, read)
             && is_met(&skipping, skipped, wanted, bytes.len(), form.first)
@@ -169,7 +169,7 @@ fn is_found(
     )
 }
 
-// The first count of letters, up to 40, behind which the damage is not found.
+// The first count of letters, up to 40, after which the damage is not found.
 fn first_miss(
     alloc: Global,
     form: Form,

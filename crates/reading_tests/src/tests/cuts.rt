@@ -16,7 +16,7 @@ enum Part {
     Close(&'static str),
     // A literal.
     Word(&'static str),
-    // A number, and the lengths of its fronts that are numbers, with how each is told.
+    // A number, and the lengths of its prefixes that are numbers, with how each is told.
     Number(&'static str, &'static [(usize, &'static str)]),
     // A string that has no escape and no character of two bytes, by what stands between its quotes.
     Plain(&'static str),
@@ -99,7 +99,7 @@ impl Cutter {
         }
     }
 
-    // Tells a value behind its key.
+    // Tells a value after its key.
     fn tell(&mut self, value: &str) -> Result<(), AllocError> {
         if self.follows {
             self.line.push_str(",")?;
@@ -130,15 +130,15 @@ impl Cutter {
         Ok(())
     }
 
-    // The front of a number, where it is a number.
+    // The prefix of a number, where it is a number.
     fn number(
         &mut self,
-        fronts: &[(usize, &'static str)],
+        prefixes: &[(usize, &'static str)],
         reached: usize,
     ) -> Result<(), AllocError> {
-        for front in fronts {
-            if front.0 == reached {
-                self.tell(front.1)?;
+        for prefix in prefixes {
+            if prefix.0 == reached {
+                self.tell(prefix.1)?;
             }
         }
         Ok(())
@@ -150,8 +150,8 @@ impl Cutter {
         let kept = reached.saturating_sub(1).min(text.len());
         let whole = reached > text.len().saturating_add(1);
         if reached > 0 && (whole || self.keeps_strings) {
-            let front = text.get(..kept).unwrap_or(text);
-            self.tell(format!(in alloc; "'{front}'")?.as_str())?;
+            let prefix = text.get(..kept).unwrap_or(text);
+            self.tell(format!(in alloc; "'{prefix}'")?.as_str())?;
         }
         Ok(())
     }
@@ -192,7 +192,7 @@ impl Cutter {
             Part::Close(bracket) => self.close(bracket)?,
             Part::Word(word) if reached == word.len() => self.tell(word)?,
             Part::Word(_) => {}
-            Part::Number(_, fronts) => self.number(fronts, reached)?,
+            Part::Number(_, prefixes) => self.number(prefixes, reached)?,
             Part::Plain(text) => self.plain(text, reached)?,
             Part::Text(characters) => self.text(characters, reached)?,
         }
@@ -256,20 +256,20 @@ impl<'j> Scratches<'j> {
         }
     }
 
-    // Whether each reading answers this line of a front, but for the marks where it owns each text. By turns it takes
+    // Whether each reading answers this line of a prefix, but for the marks where it owns each text. By turns it takes
     // no more of them than three a byte and three more.
     fn answer_so(
         &mut self,
         alloc: Global,
-        front: &'j [u8],
+        prefix: &'j [u8],
         mode: PartialMode,
         wanted: &str,
     ) -> Result<bool, Fail> {
-        let parsed = answer_text(alloc, front, true, mode)?;
-        let turned = answer_by_turns(alloc, front, mode)?;
-        let lent = outcome_text(alloc, &self.lending.parse(front, true, mode))?;
-        let owned = outcome_text(alloc, &JsonValue::parse_owned(alloc, front, true, mode))?;
-        let kept = outcome_text(alloc, &self.owning.parse_owned(front, true, mode))?;
+        let parsed = answer_text(alloc, prefix, true, mode)?;
+        let turned = answer_by_turns(alloc, prefix, mode)?;
+        let lent = outcome_text(alloc, &self.lending.parse(prefix, true, mode))?;
+        let owned = outcome_text(alloc, &JsonValue::parse_owned(alloc, prefix, true, mode))?;
+        let kept = outcome_text(alloc, &self.owning.parse_owned(prefix, true, mode))?;
         let bare = unmarked(alloc, wanted)?;
         let alike = parsed.as_str() == wanted && turned.as_str() == wanted;
         Ok(
@@ -281,7 +281,7 @@ impl<'j> Scratches<'j> {
     }
 }
 
-// The first place behind the first bracket at which some reading does not answer the cut.
+// The first place after the first bracket at which some reading does not answer the cut.
 fn first_miss<'j>(
     alloc: Global,
     parts: &[Part],
@@ -295,9 +295,9 @@ fn first_miss<'j>(
     };
     let keeps_strings = mode == PartialMode::TrailingStrings;
     for place in bracket.saturating_add(1)..=source.len() {
-        let front = &source[..place];
+        let prefix = &source[..place];
         let wanted = cut(alloc, parts, place, keeps_strings)?;
-        if !scratches.answer_so(alloc, front, mode, wanted.as_str())? {
+        if !scratches.answer_so(alloc, prefix, mode, wanted.as_str())? {
             return Ok(Some(place));
         }
     }

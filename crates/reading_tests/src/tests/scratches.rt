@@ -31,15 +31,15 @@ const MODES: [PartialMode; 3] = [
     PartialMode::TrailingStrings,
 ];
 
-// The front so many times, the middle, and the back as often.
+// The prefix so many times, the middle, and the back as often.
 fn nested(
     alloc: Global,
-    front: &str,
+    prefix: &str,
     times: usize,
     middle: &str,
     back: &str,
 ) -> Result<String, AllocError> {
-    let opened = front.repeat(alloc, times)?;
+    let opened = prefix.repeat(alloc, times)?;
     let closed = back.repeat(alloc, times)?;
     format!(in alloc; "{opened}{middle}{closed}")
 }
@@ -95,7 +95,7 @@ fn a_scratch_answers_each_document_as_a_fresh_parse(rt: HostRuntime) -> Result<(
     Ok(())
 }
 
-// Documents whose fronts one scratch reads by both of its calls.
+// Documents whose prefixes one scratch reads by both of its calls.
 const SERVED: [&[u8]; 5] = [
     b"\n{\"name\": \"John Doe\", \"age\": 43, \"phones\": [\"+44 1234567\", \"+44 2345678\"]}",
     b"[\"ok\\n\", {\"d\": 4}]",
@@ -117,7 +117,7 @@ fn is_served(
     lent == fresh && owned == fresh
 }
 
-// The length of the first front of which they do not.
+// The length of the first prefix of which they do not.
 fn first_unserved(
     alloc: Global,
     scratch: &mut JsonValueScratch<'static>,

@@ -11,7 +11,7 @@ fn error_of(alloc: Global, bytes: &[u8]) -> Result<UniqueError, Fail> {
     }
 }
 
-// An object, but for its last bracket: a first key `0`, and behind it so many, `k0`, `k1` and so on.
+// An object, but for its last bracket: a first key `0`, and after it so many, `k0`, `k1` and so on.
 fn numbered(alloc: Global, count: usize) -> Result<String, AllocError> {
     let mut source = String::from_str(alloc, "{\"0\":0")?;
     for i in 0..count {
@@ -79,7 +79,7 @@ fn a_key_is_found_wherever_it_stood(rt: HostRuntime) -> Result<(), Fail> {
     for &(count, key) in &ROWS {
         assert!(rt;
             is_repeat(rt.alloc(), count, key)?,
-            "{key} behind {count} keys"
+            "{key} after {count} keys"
         );
         assert!(rt; is_read(rt.alloc(), count)?, "{count} keys");
     }
@@ -123,11 +123,11 @@ fn keys_of_one_ending_are_told_apart(rt: HostRuntime) -> Result<(), Fail> {
 #[test]
 fn long_keys_are_compared_to_their_last_byte(rt: HostRuntime) -> Result<(), Fail> {
     let alloc = rt.alloc();
-    let front = "x".repeat(alloc, 100000)?;
-    let unlike = format!(in alloc; "{{\"{front}a\":1,\"{front}b\":2}}")?;
+    let prefix = "x".repeat(alloc, 100000)?;
+    let unlike = format!(in alloc; "{{\"{prefix}a\":1,\"{prefix}b\":2}}")?;
     let whole = JsonValue::parse_unique(alloc, unlike.as_bytes(), false, PartialMode::Off);
     assert!(rt; whole.is_ok());
-    let like = format!(in alloc; "{{\"{front}a\":1,\"{front}b\":2,\"{front}a\":3}}")?;
+    let like = format!(in alloc; "{{\"{prefix}a\":1,\"{prefix}b\":2,\"{prefix}a\":3}}")?;
     let error = error_of(alloc, like.as_bytes())?;
     assert!(rt;
         matches!(&error.error_type, UniqueErrorType::DuplicateKey(key) if key.len() == 100001)

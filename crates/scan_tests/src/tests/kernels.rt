@@ -103,11 +103,11 @@ fn each_short_text_is_scanned(rt: HostRuntime) {
 // The digits 1 to 9 and 0, again and again.
 const DIGITS: [u8; 40] = *b"1234567890123456789012345678901234567890";
 
-// So many digits from the second byte on, and another byte behind them.
-fn run_of(count: usize, behind: u8) -> [u8; 64]
+// So many digits from the second byte on, and another byte after them.
+fn run_of(count: usize, after: u8) -> [u8; 64]
     requires { count ≤ 40 }
 {
-    let mut text = [behind; 64];
+    let mut text = [after; 64];
     text[1..count + 1].copy_from_slice(&DIGITS[..count]);
     text
 }
@@ -115,9 +115,9 @@ fn run_of(count: usize, behind: u8) -> [u8; 64]
 #[test]
 fn runs_of_digits_end_within_their_limit(rt: HostRuntime) {
     for count in 0..41 {
-        for behind in [b'/', b':', b',', b'e', 0, 0x80, 0xff] {
-            let text = run_of(count, behind);
-            // with bytes behind the run, and with none
+        for after in [b'/', b':', b',', b'e', 0, 0x80, 0xff] {
+            let text = run_of(count, after);
+            // with bytes after the run, and with none
             for end in [64, count + 1] {
                 let bytes = &text[..end];
                 assert_eq!(rt; digits_end(bytes, 1, 4300), Some(count + 1));
@@ -154,8 +154,8 @@ const VALUES: [u64; 16] = [
 #[test]
 fn digits_are_counted_and_read(rt: HostRuntime) {
     for count in 0..17 {
-        for behind in [b'/', b':', b',', 0, 0x80, 0xff] {
-            let mut chunk = [behind; 16];
+        for after in [b'/', b':', b',', 0, 0x80, 0xff] {
+            let mut chunk = [after; 16];
             chunk[..count].copy_from_slice(&DIGITS[..count]);
             assert_eq!(rt; digit_count(chunk), count);
             for some in 1..count + 1 {

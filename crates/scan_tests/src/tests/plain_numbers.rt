@@ -1,13 +1,13 @@
 //! Numbers of each length, far from the end of the input and near it.
+use jiter_scan::fast_number::{FastNumber, fast_number_at};
 use jiter_scan::number_decoder::number_at;
-use jiter_scan::plain_number::{PlainNumber, plain_number_at};
 use std::alloc::{AllocError, Global};
 use std::test::*;
 
 // What follows a number that is far from the end.
 const FAR: &str = ",                                                                ";
 
-// Each part with so many sevens behind it, and then the end.
+// Each part with so many sevens after it, and then the end.
 fn spelled(alloc: Global, parts: &[(&str, usize)], end: &str) -> Result<Vec<u8>, AllocError> {
     let mut text = Vec::new(alloc);
     for (part, count) in parts {
@@ -20,7 +20,7 @@ fn spelled(alloc: Global, parts: &[(&str, usize)], end: &str) -> Result<Vec<u8>,
     Ok(text)
 }
 
-// The place behind the number that the text begins with.
+// The place after the number that the text begins with.
 fn number_end(text: &[u8]) -> Option<usize> {
     if text.is_empty() {
         return None;
@@ -53,12 +53,12 @@ fn runs_of_digits_end_at_each_length(rt: HostRuntime) -> Result<(), Fail> {
     Ok(())
 }
 
-// What a number of so many digits before its point, behind it and in its exponent is.
-fn wanted_of(whole: usize, fraction: usize, power: usize, length: usize) -> PlainNumber {
+// What a number of so many digits before its point, after it and in its exponent is.
+fn wanted_of(whole: usize, fraction: usize, power: usize, length: usize) -> FastNumber {
     if whole < 16 && fraction < 32 && power < 16 {
-        PlainNumber::Float(length)
+        FastNumber::Float(length)
     } else {
-        PlainNumber::Other
+        FastNumber::Other
     }
 }
 
@@ -71,7 +71,7 @@ fn floats_are_short_up_to_each_limit(rt: HostRuntime) -> Result<(), Fail> {
                 let alone = spelled(rt.alloc(), &parts, "")?;
                 let text = spelled(rt.alloc(), &parts, FAR)?;
                 let wanted = wanted_of(whole, fraction, power, alone.len());
-                assert_eq!(rt; plain_number_at(&text, 0), wanted);
+                assert_eq!(rt; fast_number_at(&text, 0), wanted);
                 assert_eq!(rt; number_end(&alone), Some(alone.len()));
             }
         }
@@ -109,7 +109,7 @@ fn floats_of_one_part_are_short_up_to_its_limit(rt: HostRuntime) -> Result<(), F
             ),
         ] {
             let text = spelled(rt.alloc(), parts, FAR)?;
-            assert_eq!(rt; plain_number_at(&text, 0), wanted);
+            assert_eq!(rt; fast_number_at(&text, 0), wanted);
         }
     }
     Ok(())
@@ -118,18 +118,18 @@ fn floats_of_one_part_are_short_up_to_its_limit(rt: HostRuntime) -> Result<(), F
 #[test]
 fn at_the_end_no_number_is_short(rt: HostRuntime) -> Result<(), Fail> {
     for (number, end, enough, short) in [
-        ("7.5e-7", 6, 34, PlainNumber::Float(6)),
-        ("7", 1, 16, PlainNumber::Int(7, 1)),
+        ("7.5e-7", 6, 34, FastNumber::Float(6)),
+        ("7", 1, 16, FastNumber::Int(7, 1)),
     ] {
         let text = spelled(rt.alloc(), &[(number, 0)], FAR)?;
         for length in end..text.len() + 1 {
             let part = &text[..length];
             let wanted = if length < enough {
-                PlainNumber::Other
+                FastNumber::Other
             } else {
                 short
             };
-            assert_eq!(rt; plain_number_at(part, 0), wanted);
+            assert_eq!(rt; fast_number_at(part, 0), wanted);
             assert_eq!(rt; number_end(part), Some(end));
         }
     }

@@ -3,7 +3,7 @@ use jiter_scan::errors::{
     Fault, FaultKind, JsonError, JsonErrorType as Kind, LinePosition, push_position,
 };
 use jiter_scan::memory::{
-    Refused, copy_text, extend, lengthen, make_room, push, push_number, push_text, split_off,
+    AllocFailed, copy_text, extend, lengthen, make_room, push, push_number, push_text, split_off,
     with_capacity,
 };
 use std::alloc::{AllocError, Global};
@@ -11,7 +11,7 @@ use std::test::*;
 
 // How many items a list has that has room for each, how many one that grows by each, and how many are split off it
 // at this place.
-fn grown(alloc: Global, count: usize, at: usize) -> Result<(usize, usize, usize), Refused> {
+fn grown(alloc: Global, count: usize, at: usize) -> Result<(usize, usize, usize), AllocFailed> {
     let mut items = with_capacity(alloc, count)?;
     let mut more = Vec::new(alloc);
     for item in 0..count {
@@ -25,7 +25,7 @@ fn grown(alloc: Global, count: usize, at: usize) -> Result<(usize, usize, usize)
 }
 
 // How long bytes are that grow by this text and by as many zeros, and a copy of the text that grows by it.
-fn lengthened(alloc: Global, text: &str, first: &[u8]) -> Result<(usize, usize), Refused> {
+fn lengthened(alloc: Global, text: &str, first: &[u8]) -> Result<(usize, usize), AllocFailed> {
     let mut bytes = Vec::new(alloc);
     extend(&mut bytes, first)?;
     extend(&mut bytes, text.as_bytes())?;
@@ -58,7 +58,7 @@ fn growths_of_every_size_are_granted(rt: HostRuntime) -> Result<(), Fail> {
         let twice = size.saturating_mul(2);
         let seen = lengthened(alloc, text.as_str(), b"").ok();
         assert!(rt; seen == Some((twice, twice)), "{size} bytes");
-        let seen = lengthened(alloc, text.as_str(), b"behind others").ok();
+        let seen = lengthened(alloc, text.as_str(), b"after others").ok();
         assert!(rt;
             seen == Some((twice.saturating_add(13), twice)),
             "{size} more bytes"

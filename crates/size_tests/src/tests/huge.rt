@@ -137,8 +137,8 @@ fn a_million_bytes_of_a_string_are_read(rt: HostRuntime) -> Result<(), Fail> {
         };
         assert_eq!(rt; matches!(decoded, CowStr::Owned(_)), owned);
         assert!(rt; decoded.as_str() == text.repeat(alloc, times)?.as_str());
-        let front = source.as_bytes().get(..MILLION).ok_or("shorter")?;
-        let seen = fault_of(alloc, front, false);
+        let prefix = source.as_bytes().get(..MILLION).ok_or("shorter")?;
+        let seen = fault_of(alloc, prefix, false);
         assert_eq!(rt; seen, Some((Kind::EofWhileParsingString, MILLION)));
     }
     Ok(())
@@ -148,15 +148,15 @@ fn a_million_bytes_of_a_string_are_read(rt: HostRuntime) -> Result<(), Fail> {
 fn a_million_digits_are_read(rt: HostRuntime) -> Result<(), Fail> {
     let alloc = rt.alloc();
     let digits = "7".repeat(alloc, MILLION)?;
-    for front in ["1.", "1e", "-1.5e-"] {
-        let text = format!(in alloc; "{front}{digits}")?;
+    for prefix in ["1.", "1e", "-1.5e-"] {
+        let text = format!(in alloc; "{prefix}{digits}")?;
         let number = NumberAny::from_bytes(text.as_bytes(), false)?;
-        assert!(rt; number == NumberAny::Float(text.as_str()), "{front}");
+        assert!(rt; number == NumberAny::Float(text.as_str()), "{prefix}");
         let value = JsonValue::parse(alloc, text.as_bytes(), false)?;
         let JsonValue::Float(seen) = &value else {
             return Err("no float".into());
         };
-        assert!(rt; seen.as_str() == text.as_str(), "{front}");
+        assert!(rt; seen.as_str() == text.as_str(), "{prefix}");
     }
     let error = NumberInt::from_bytes(digits.as_bytes())
         .err()

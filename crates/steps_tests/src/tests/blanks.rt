@@ -1,4 +1,4 @@
-//! Runs of each blank: each length, each byte behind, and the end of the input.
+//! Runs of each blank: each length, each byte after, and the end of the input.
 ghost use Rattle.std.specs.Prelude.{◌<◌, ◌≤◌};
 
 use jiter_steps::blank::past_blanks;
@@ -14,7 +14,7 @@ fn text_of(blank: u8, place: usize, other: u8) -> [u8; 64]
 }
 
 // The blanks from a place on end at another, whether a byte that is none stands there, with or without more
-// behind it, or the input ends there.
+// after it, or the input ends there.
 fn is_passed(blank: u8, from: usize, end: usize, other: u8) -> bool
     requires { (from ≤ end) × (end < 64) }
 {

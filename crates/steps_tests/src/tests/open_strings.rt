@@ -2,8 +2,8 @@
 ghost use Rattle.std.specs.Prelude.{◌<◌};
 
 use jiter_scan::errors::FaultKind;
-use jiter_scan::memory::Refused;
-use jiter_steps::open_string::{OpenString, Went};
+use jiter_scan::memory::AllocFailed;
+use jiter_steps::partial_string::{PartialString, Went};
 use jiter_steps::read_error::ReadError;
 use jiter_steps::string_decoder::string_at;
 use std::alloc::Global;
@@ -19,7 +19,11 @@ enum Reached {
 }
 
 // Reads a piece that begins at this index of the whole. Each turn takes a byte at least.
-fn read_piece(string: &mut OpenString, piece: &[u8], begin: usize) -> Result<Reached, Refused> {
+fn read_piece(
+    string: &mut PartialString,
+    piece: &[u8],
+    begin: usize,
+) -> Result<Reached, AllocFailed> {
     let mut at = 0;
     for _ in 0..piece.len() {
         if piece.len() <= at {
@@ -35,13 +39,13 @@ fn read_piece(string: &mut OpenString, piece: &[u8], begin: usize) -> Result<Rea
     Ok(Reached::End)
 }
 
-// Reads the bytes behind the opening quote in pieces of this size, which begin at this index.
+// Reads the bytes after the opening quote in pieces of this size, which begin at this index.
 fn read_pieces(
-    string: &mut OpenString,
+    string: &mut PartialString,
     content: &[u8],
     begin: usize,
     size: usize,
-) -> Result<Reached, Refused>
+) -> Result<Reached, AllocFailed>
     requires { 0 < size }
 {
     let mut from = begin;
@@ -57,11 +61,11 @@ fn read_pieces(
 
 // The same, cut in two first.
 fn read_cut(
-    string: &mut OpenString,
+    string: &mut PartialString,
     content: &[u8],
     cut: usize,
     size: usize,
-) -> Result<Reached, Refused>
+) -> Result<Reached, AllocFailed>
     requires { 0 < size }
 {
     let cut = cut.min(content.len());
@@ -72,8 +76,8 @@ fn read_cut(
     read_pieces(string, &content[cut..], cut.wrapping_add(1), size)
 }
 
-// The place behind the string's text, or the fault that it has.
-fn ended(string: &OpenString, keep: bool, end: usize) -> Result<usize, (FaultKind, usize)> {
+// The place after the string's text, or the fault that it has.
+fn ended(string: &PartialString, keep: bool, end: usize) -> Result<usize, (FaultKind, usize)> {
     if string.is_text(keep) {
         Ok(end)
     } else {
@@ -84,7 +88,7 @@ fn ended(string: &OpenString, keep: bool, end: usize) -> Result<usize, (FaultKin
 
 // What was read, of a whole of this length.
 fn told(
-    string: &OpenString,
+    string: &PartialString,
     reached: Reached,
     keep: bool,
     length: usize,
@@ -104,7 +108,7 @@ fn agrees(alloc: Global, bytes: &[u8], cut: usize, size: usize, keep: bool) -> b
     if bytes.is_empty() {
         return false;
     }
-    let mut string = OpenString::new(alloc);
+    let mut string = PartialString::new(alloc);
     let Ok(reached) = read_cut(&mut string, &bytes[1..], cut, size) else {
         return false;
     };
@@ -182,7 +186,7 @@ fn hostile_strings_cut_at_every_byte(rt: HostRuntime) {
 
 #[test]
 fn a_text_is_taken_out_and_given_back(rt: HostRuntime) {
-    let mut string = OpenString::new(rt.alloc());
+    let mut string = PartialString::new(rt.alloc());
     assert_eq!(rt; string.next(b"ab\xc3", 0), Ok(Went::Taken(3)));
     let text = string.take_text();
     assert_eq!(rt; text.as_str(), "ab");
@@ -195,7 +199,7 @@ fn a_text_is_taken_out_and_given_back(rt: HostRuntime) {
 
 #[test]
 fn an_escape_is_taken_at_once_as_far_as_a_piece_has_it(rt: HostRuntime) {
-    let mut string = OpenString::new(rt.alloc());
+    let mut string = PartialString::new(rt.alloc());
     assert_eq!(rt; string.next(b"a\\ud83d\\ude00b", 0), Ok(Went::Taken(1)));
     assert_eq!(rt; string.next(b"a\\ud83d\\ude00b", 1), Ok(Went::Taken(12)));
     assert_eq!(rt; string.next(b"\\u20", 0), Ok(Went::Taken(4)));

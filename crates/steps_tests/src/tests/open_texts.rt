@@ -1,10 +1,10 @@
 //! A text between whose parts an escape stands.
-use jiter_steps::open_text::OpenText;
+use jiter_steps::partial_text::PartialText;
 use std::test::*;
 
 #[test]
 fn an_escape_ends_an_unfinished_character(rt: HostRuntime) {
-    let mut text = OpenText::new(rt.alloc());
+    let mut text = PartialText::new(rt.alloc());
     assert_eq!(rt; text.add_char('\u{e9}'), Ok(()));
     assert_eq!(rt; text.add(b"b\xe2"), Ok(2));
     assert_eq!(rt; text.add_char('\u{ac}'), Ok(()));

@@ -8,7 +8,7 @@ use std::test::*;
 // Whether a raw reading took these bytes and ended there.
 fn took<'a>(answer: Result<(&'a [u8], usize), Fault>, content: &'a [u8], end: usize) -> bool {
     match answer {
-        Ok((bytes, behind)) => bytes == content && behind == end,
+        Ok((bytes, after)) => bytes == content && after == end,
         Err(_) => false,
     }
 }
@@ -78,7 +78,7 @@ fn damaged(count: usize, damage: &[u8]) -> [u8; 64]
 }
 
 #[test]
-fn damage_is_found_behind_each_count_of_bytes(rt: HostRuntime) {
+fn damage_is_found_after_each_count_of_bytes(rt: HostRuntime) {
     for count in 0..41 {
         let text = damaged(count, b"\xff");
         assert!(rt; closes(&text, 0, &text[1..count + 2], count + 3));
@@ -96,7 +96,7 @@ fn damage_is_found_behind_each_count_of_bytes(rt: HostRuntime) {
             assert!(rt; index < 8);
             assert!(rt;
                 refuses(&text, 0, kind, count + index),
-                "of {damage:?} behind {count}"
+                "of {damage:?} after {count}"
             );
         }
     }

@@ -29,7 +29,7 @@ fn skipped(bytes: &[u8]) -> Option<(Result<(), Fault>, usize)> {
 fn damage_is_met_at_any_place_of_a_string(rt: HostRuntime) -> Result<(), Fail> {
     let alloc = rt.alloc();
     for letters in 0..41 {
-        for (damage, kind, behind) in [
+        for (damage, kind, after) in [
             (
                 b"\x1f".as_slice(),
                 Kind::ControlCharacterWhileParsingString,
@@ -40,7 +40,7 @@ fn damage_is_met_at_any_place_of_a_string(rt: HostRuntime) -> Result<(), Fail> {
             (b"\\ud83dx", Kind::UnexpectedEndOfHexEscape, 7),
         ] {
             let bytes = with_damage(alloc, letters, damage)?;
-            let index = letters + behind;
+            let index = letters + after;
             let wanted = Some((Err(Fault { kind, index }), 0));
             assert!(rt; skipped(bytes.as_slice()) == wanted, "{letters} letters");
         }

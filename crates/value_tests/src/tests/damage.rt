@@ -14,17 +14,17 @@ fn with_damage(alloc: Global, letters: usize, damage: &[u8]) -> Result<Vec<u8>, 
     Ok(bytes)
 }
 
-// The first count of letters, up to 40, behind which the damage is not refused with this kind, so many bytes
-// behind the letters.
+// The first count of letters, up to 40, after which the damage is not refused with this kind, so many bytes
+// after the letters.
 fn first_miss(
     alloc: Global,
     damage: &[u8],
     kind: &Kind,
-    behind: usize,
+    after: usize,
 ) -> Result<Option<usize>, AllocError> {
     for letters in 0..=40usize {
         let bytes = with_damage(alloc, letters, damage)?;
-        let index = letters.saturating_add(behind);
+        let index = letters.saturating_add(after);
         match fault_of(alloc, bytes.as_slice(), false) {
             Some((seen, place)) if seen == *kind && place == index => {}
             _ => return Ok(Some(letters)),
@@ -42,8 +42,8 @@ fn damage_is_found_at_each_place_of_a_string(rt: HostRuntime) -> Result<(), Fail
         (br"\udc00", Kind::LoneLeadingSurrogateInHexEscape, 6),
         (br"\ud83dx", Kind::UnexpectedEndOfHexEscape, 7),
     ];
-    for (damage, kind, behind) in &ROWS {
-        let miss = first_miss(rt.alloc(), damage, kind, *behind)?;
+    for (damage, kind, after) in &ROWS {
+        let miss = first_miss(rt.alloc(), damage, kind, *after)?;
         assert_eq!(rt; miss, None, "{kind}");
     }
     Ok(())

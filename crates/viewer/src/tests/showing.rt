@@ -55,8 +55,8 @@ fn shows_cut(
         out: out.as_str(),
         err: err.as_str(),
     };
-    let front = DOCUMENT.as_bytes().get(..end).unwrap_or(b"");
-    does(alloc, &[mode], front, 1, wanted)
+    let prefix = DOCUMENT.as_bytes().get(..end).unwrap_or(b"");
+    does(alloc, &[mode], prefix, 1, wanted)
 }
 
 #[test]

@@ -1,7 +1,7 @@
 use Rattle.std.proofs.Common.{◌-◌, ◌≤◌, ◌∙◌, refl, sym, ap, subst}
 use Rattle.std.specs.Prelude.{IfSome, option_map, string_bytes}
 use Rattle.config.specs.Settings.{config_view, configured}
-use Rattle.config.proofs.Held.{held-by}
+use Rattle.config.proofs.PendingBytes.{held-by}
 use Rattle.config.proofs.Judged.{judged-refused, passed-on, text-refused, truth-refused}
 use Rattle.config.proofs.Members.{all_set, debug-read, debug-unfit, host-read, host-unfit, no_host, no_port_set}
 use Rattle.config.proofs.Members.{none-refused, other-read, passed-not_refused, port-read, port-unfit, read-as}

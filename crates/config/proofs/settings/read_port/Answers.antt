@@ -1,6 +1,6 @@
 use Rattle.std.proofs.Common.{◌≡◌, ◌∙◌, refl, sym, ap, arith, to_z, of_z, w64, to_z-of_z}
 use Rattle.jiter.specs.Caller.{byte_of, int_read}
-use Rattle.jiter.proofs.Peeking.{known-behind_peek}
+use Rattle.jiter.proofs.Peeking.{known-after_peek}
 use Rattle.jiter.proofs.Walking.{moves-on}
 use Rattle.config.specs.Settings.{no_port, port_in, port_of, unfit}
 use Rattle.config.proofs.Judged.{integer-given, integer-refused, judged-refused, no_integer-given}
@@ -14,7 +14,7 @@ returns-in_err-number-clause-reads c =
     let s = c.args.jiter.now in
     let p = c.in_ok-peek in
     let same =
-    known-behind_peek int_read s c.peek.new.self (byte_of p.peek) (λ i. refl) p.ensures.reads.moves p.ensures.place
+    known-after_peek int_read s c.peek.new.self (byte_of p.peek) (λ i. refl) p.ensures.reads.moves p.ensures.place
     p.ensures.here in
     record {
       moves = moves-on s _ _ p.ensures.reads.moves c.in_err-number.ensures.reads.moves;
@@ -30,7 +30,7 @@ returns-in-Int-clause-reads c =
     let s = c.args.jiter.now in
     let p = c.in_ok-peek in
     let same =
-    known-behind_peek int_read s c.peek.new.self (byte_of p.peek) (λ i. refl) p.ensures.reads.moves p.ensures.place
+    known-after_peek int_read s c.peek.new.self (byte_of p.peek) (λ i. refl) p.ensures.reads.moves p.ensures.place
     p.ensures.here in
     let value = rw c.in-Int.is at c.in_ok-number.ensures.reads.value in
     let z = to_z w64 (of_z w64 c.in-Int.number) in
@@ -48,7 +48,7 @@ returns-in_default-clause-reads c =
     let s = c.args.jiter.now in
     let p = c.in_ok-peek in
     let same =
-    known-behind_peek int_read s c.peek.new.self (byte_of p.peek) (λ i. refl) p.ensures.reads.moves p.ensures.place
+    known-after_peek int_read s c.peek.new.self (byte_of p.peek) (λ i. refl) p.ensures.reads.moves p.ensures.place
     p.ensures.here in
     let at = c.current_index-at.ensures.value ∙ p.ensures.place in
     record {

@@ -14,7 +14,7 @@ use Rattle.jiter.specs.Reads.{Reads, anywhere}
 use Rattle.jiter.specs.Reader.{refused, value_reply}
 use Rattle.jiter.proofs.Building.{known-first, items-laws, members-laws}
 use Rattle.jiter.proofs.Containers.{passed-on, map-pushed, array-opens, object-opens, begins}
-use Rattle.jiter.proofs.Containers.{first-refused, part-refused, stuck-behind, turn-ahead, goes-on, ended}
+use Rattle.jiter.proofs.Containers.{first-refused, part-refused, stuck-after, turn-ahead, goes-on, ended}
 use Rattle.jiter.proofs.ReadLaws.{read-anywhere}
 use Rattle.jiter.proofs.client.+build.Goals as goal
 
@@ -37,7 +37,7 @@ build_array-returns-in_err-next-2-clause-reads t c =
     let inv = rw c.in-Some.is at c.loop-next.invariant in
     let stepped = read-anywhere _ (option_map byte_of) (Err c.in_err-next-2.field-0.0) c.in_err-next-2.ensures.reads in
     passed-on c.from_residual-in_err-next-2.result c.from_residual-in_err-next-2.ensures.1
-    (stuck-behind (items-laws c.args.jiter.now c.args.levels) inv c.in_ok-item.ensures.reads stepped)
+    (stuck-after (items-laws c.args.jiter.now c.args.levels) inv c.in_ok-item.ensures.reads stepped)
 
 pub build_array-loop-next-smaller : goal.build_array-loop-next-smaller
 build_array-loop-next-smaller t c =
@@ -80,7 +80,7 @@ pub build_object-returns-in_err-next-2-clause-reads : goal.build_object-returns-
 build_object-returns-in_err-next-2-clause-reads t c =
     let inv = rw c.in-Some.is at c.loop-next.invariant in
     passed-on c.from_residual-in_err-next-2.result c.from_residual-in_err-next-2.ensures.1
-    (stuck-behind (members-laws c.args.jiter.now c.args.levels) inv c.in_ok-value.ensures.reads
+    (stuck-after (members-laws c.args.jiter.now c.args.levels) inv c.in_ok-value.ensures.reads
     c.in_err-next-2.ensures.reads)
 
 pub build_object-loop-next-smaller : goal.build_object-loop-next-smaller

@@ -1,14 +1,14 @@
 use Rattle.std.proofs.Common.{ℕ, ◌∙◌, Ok, sym}
 use Rattle.jiter.specs.Errors.{cause_of}
 use Rattle.jiter.specs.Jiter.{byte_of}
-use Rattle.jiter.specs.Parts.{RefusedBehind}
+use Rattle.jiter.specs.Parts.{RefusedAfter}
 use Rattle.jiter_c.specs.Parts.{into_read}
 use Rattle.jiter_c.specs.Replies.{next_reply, state_of}
 use Rattle.jiter_c.proofs.Into.{into-refused, peek-gave, peek-into}
 use Rattle.jiter.proofs.Walking.{moves-on}
 use Rattle.jiter_c.proofs.Walks.{count-begins, count-ends, count-goes_on, count-less, first-not_refused, is-bracket}
 use Rattle.jiter_c.proofs.Walks.{next-not_refused, next-refuses, part-refuses, passed-on}
-use Rattle.jiter_c.proofs.Walks.{refused-behind, skip-not_refused}
+use Rattle.jiter_c.proofs.Walks.{refused-after, skip-not_refused}
 use Rattle.jiter_c.proofs.parts.count_parts.Goals as goal
 
 pub returns-in_err-more-clause-counts : goal.returns-in_err-more-clause-counts
@@ -22,10 +22,10 @@ pub returns-in_err-more-clause-refusal : goal.returns-in_err-more-clause-refusal
 returns-in_err-more-clause-refusal c =
     let s = state_of c.args.reader.now in
     let p = rw c.jiter_at-jiter.ensures at c.in_ok-peek.ensures in
-    passed-on (λ e. (stop : ℕ) × RefusedBehind s (cause_of e.error_type) e.index stop) _ _
+    passed-on (λ e. (stop : ℕ) × RefusedAfter s (cause_of e.error_type) e.index stop) _ _
     c.from_residual-in_err-more.ensures.1 (
       _,
-      refused-behind s c.peek.new.self c.first_part.new.jiter _ _ p.reads.moves c.in_err-more.ensures.reads.moves
+      refused-after s c.peek.new.self c.first_part.new.jiter _ _ p.reads.moves c.in_err-more.ensures.reads.moves
           (part-refuses c.eq-object.result _ _ _ _ c.in_err-more.ensures.reads.value),
     )
 
@@ -54,10 +54,10 @@ returns-in_err-more-2-clause-counts c = λ n h w.
 pub returns-in_err-more-2-clause-refusal : goal.returns-in_err-more-2-clause-refusal
 returns-in_err-more-2-clause-refusal c =
     let s = state_of c.args.reader.now in
-    passed-on (λ e. (stop : ℕ) × RefusedBehind s (cause_of e.error_type) e.index stop) _ _
+    passed-on (λ e. (stop : ℕ) × RefusedAfter s (cause_of e.error_type) e.index stop) _ _
     c.from_residual-in_err-more-2.ensures.1 (
       _,
-      refused-behind s c.next_skip.new.self c.next_part.new.jiter _ _
+      refused-after s c.next_skip.new.self c.next_part.new.jiter _ _
           (moves-on s _ _ c.loop-more.invariant.moves c.in_ok-next_skip.ensures.reads.moves)
           c.in_err-more-2.ensures.reads.moves
           (next-refuses c.eq-object.result _ _ _ _ c.in_err-more-2.ensures.reads.value),

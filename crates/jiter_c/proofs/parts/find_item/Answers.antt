@@ -3,10 +3,10 @@ use Rattle.std.specs.Prelude.{not}
 use Rattle.std.proofs.lemmas.Bool.{false≢true}
 use Rattle.jiter.specs.Errors.{cause_of}
 use Rattle.jiter.specs.Jiter.{byte_of}
-use Rattle.jiter.specs.Parts.{RefusedBehind, Refuses}
+use Rattle.jiter.specs.Parts.{RefusedAfter, Refuses}
 use Rattle.jiter.proofs.Walking.{moves-on}
 use Rattle.jiter_c.proofs.Walks.{has-item, item-found, item-not_refused, items-begin, items-end, items-go_on, items-not_refused}
-use Rattle.jiter_c.proofs.Walks.{passed-on, place-not_refused, refused-behind, stays, step-not_refused}
+use Rattle.jiter_c.proofs.Walks.{passed-on, place-not_refused, refused-after, stays, step-not_refused}
 use Rattle.jiter_c.proofs.parts.find_item.Goals as goal
 use Rattle.jiter_c.proofs.parts.find_item.Goals.{else-loop-item-test, then-loop-item-test+else-before-gt0}
 
@@ -18,9 +18,9 @@ pub returns-in_err-item-clause-refusal : goal.returns-in_err-item-clause-refusal
 returns-in_err-item-clause-refusal c =
     let s = c.args.jiter.now in
     let m = c.in_err-item.ensures.reads.moves in
-    passed-on (λ e. RefusedBehind s (cause_of e.error_type) e.index c.next_array.new.self.position) _ _
+    passed-on (λ e. RefusedAfter s (cause_of e.error_type) e.index c.next_array.new.self.position) _ _
     c.from_residual.ensures.1
-    (refused-behind s s c.next_array.new.self _ _ (stays s _ m) m (Refuses.at_array c.in_err-item.ensures.reads.value))
+    (refused-after s s c.next_array.new.self _ _ (stays s _ m) m (Refuses.at_array c.in_err-item.ensures.reads.value))
 
 pub loop-item-init : goal.loop-item-init
 loop-item-init c =
@@ -41,9 +41,9 @@ returns-in_err-next_skip-clause-led c = λ b e ns h.
 pub returns-in_err-next_skip-clause-refusal : goal.returns-in_err-next_skip-clause-refusal
 returns-in_err-next_skip-clause-refusal c =
     let s = c.args.jiter.now in
-    passed-on (λ e. RefusedBehind s (cause_of e.error_type) e.index c.next_skip.new.self.position) _ _
+    passed-on (λ e. RefusedAfter s (cause_of e.error_type) e.index c.next_skip.new.self.position) _ _
     c.from_residual-in_err-next_skip.ensures.1
-    (refused-behind s c.loop-item.jiter c.next_skip.new.self _ _ c.loop-item.invariant.moves
+    (refused-after s c.loop-item.jiter c.next_skip.new.self _ _ c.loop-item.invariant.moves
     c.in_err-next_skip.ensures.reads.moves (Refuses.at_skip c.in_err-next_skip.ensures.reads.value))
 
 pub returns-in_err-item-2-clause-moves : goal.returns-in_err-item-2-clause-moves
@@ -62,9 +62,9 @@ returns-in_err-item-2-clause-led c = λ b e ns h.
 pub returns-in_err-item-2-clause-refusal : goal.returns-in_err-item-2-clause-refusal
 returns-in_err-item-2-clause-refusal c =
     let s = c.args.jiter.now in
-    passed-on (λ e. RefusedBehind s (cause_of e.error_type) e.index c.array_step.new.self.position) _ _
+    passed-on (λ e. RefusedAfter s (cause_of e.error_type) e.index c.array_step.new.self.position) _ _
     c.from_residual-in_err-item-2.ensures.1
-    (refused-behind s c.next_skip.new.self c.array_step.new.self _ _
+    (refused-after s c.next_skip.new.self c.array_step.new.self _ _
     (moves-on s _ _ c.loop-item.invariant.moves c.in_ok-next_skip.ensures.reads.moves)
     c.in_err-item-2.ensures.reads.moves (Refuses.at_item c.in_err-item-2.ensures.reads.value))
 
@@ -107,9 +107,9 @@ returns-in_err-peek-clause-led c = λ b e ns h.
 pub returns-in_err-peek-clause-refusal : goal.returns-in_err-peek-clause-refusal
 returns-in_err-peek-clause-refusal c =
     let s = c.args.jiter.now in
-    passed-on (λ e. RefusedBehind s (cause_of e.error_type) e.index c.peek.new.self.position) _ _
+    passed-on (λ e. RefusedAfter s (cause_of e.error_type) e.index c.peek.new.self.position) _ _
     c.from_residual-in_err-peek.ensures.1
-    (refused-behind s c.loop-item.jiter c.peek.new.self _ _ c.loop-item.invariant.moves
+    (refused-after s c.loop-item.jiter c.peek.new.self _ _ c.loop-item.invariant.moves
     c.in_err-peek.ensures.reads.moves (Refuses.at_peek c.in_err-peek.ensures.reads.value))
 
 pub returns-clause-moves : goal.returns-clause-moves

@@ -2,14 +2,14 @@ use Rattle.std.proofs.Common.{◌≡◌, ◌∙◌, sym, ap, subst}
 use Rattle.std.specs.Prelude.{if◌then◌else◌, Some}
 use Rattle.jiter.specs.Errors.{cause_of}
 use Rattle.jiter.specs.Jiter.{key_bytes}
-use Rattle.jiter.specs.Parts.{RefusedBehind, Refuses}
+use Rattle.jiter.specs.Parts.{RefusedAfter, Refuses}
 use Rattle.jiter.specs.Reader.{ReaderState}
 use Rattle.jiter_steps.specs.StringDecoder.{WantsMemory}
 use Rattle.jiter_steps.specs.StringReading.{whole}
 use Rattle.jiter.proofs.Walking.{moves-on}
 use Rattle.jiter_c.proofs.Walks.{MembersTo, member-not_refused, members-begin, members-end, members-go_on, members-less}
 use Rattle.jiter_c.proofs.Walks.{members-not_refused, named-given, next_key-not_refused, passed-on}
-use Rattle.jiter_c.proofs.Walks.{refused-behind, seen-refused, stays, unless-memory, where-memory}
+use Rattle.jiter_c.proofs.Walks.{refused-after, seen-refused, stays, unless-memory, where-memory}
 use Rattle.jiter_c.proofs.parts.last_member.Goals as goal
 use Rattle.jiter_c.proofs.parts.last_member.Goals.{else-same, then-same}
 
@@ -27,8 +27,8 @@ returns-in_err-next_object-clause-refusal c =
     let left = rw c.in_err-next_object.was at c.next_object.follows.holds-at-none in
     let is = c.from_residual.ensures.1 in
     unless-memory c.from_residual.result _ _ is
-    (λ bytes. passed-on (λ e. RefusedBehind s (cause_of e.error_type) e.index s1.position) c.from_residual.result _ is
-    (refused-behind s s s1 _ _ (stays s s1 left.moves) left.moves
+    (λ bytes. passed-on (λ e. RefusedAfter s (cause_of e.error_type) e.index s1.position) c.from_residual.result _ is
+    (refused-after s s s1 _ _ (stays s s1 left.moves) left.moves
     (Refuses.at_object whole (seen-refused key_bytes _ _ _ _ (left.value bytes)))))
 
 pub loop-named-init : goal.loop-named-init
@@ -53,9 +53,9 @@ returns-in_err-start-clause-refusal c =
     let s1 = c.pass.new.jiter in
     let is = c.from_residual-in_err-start.ensures.1 in
     unless-memory c.from_residual-in_err-start.result _ _ is
-    (λ bytes. passed-on (λ e. RefusedBehind s (cause_of e.error_type) e.index s1.position)
+    (λ bytes. passed-on (λ e. RefusedAfter s (cause_of e.error_type) e.index s1.position)
     c.from_residual-in_err-start.result _ is
-    (refused-behind s c.loop-named.jiter s1 _ _ c.loop-named.invariant.moves c.in_err-start.ensures.reads.moves
+    (refused-after s c.loop-named.jiter s1 _ _ c.loop-named.invariant.moves c.in_err-start.ensures.reads.moves
     (Refuses.at_skip c.in_err-start.ensures.reads.value)))
 
 pub returns-in_err-start-clause-memory : goal.returns-in_err-start-clause-memory
@@ -91,9 +91,9 @@ returns-in_err-next_key-clause-refusal c =
     let left = rw c.in_err-next_key.was at c.next_key.follows.holds-at-none in
     let is = c.from_residual-in_err-next_key.ensures.1 in
     unless-memory c.from_residual-in_err-next_key.result _ _ is
-    (λ bytes. passed-on (λ e. RefusedBehind s (cause_of e.error_type) e.index s2.position)
+    (λ bytes. passed-on (λ e. RefusedAfter s (cause_of e.error_type) e.index s2.position)
     c.from_residual-in_err-next_key.result _ is
-    (refused-behind s c.pass.new.jiter s2 _ _
+    (refused-after s c.pass.new.jiter s2 _ _
     (moves-on s _ _ c.loop-named.invariant.moves c.in_ok-start.ensures.reads.moves) left.moves
     (Refuses.at_key whole (seen-refused key_bytes _ _ _ _ (left.value bytes)))))
 

@@ -3,14 +3,14 @@ use Rattle.jiter_steps.specs.Tree.{Tree}
 use Rattle.jiter_incremental.specs.Spine.{StandsFor}
 use Rattle.jiter_value.specs.Value.{view}
 use Rattle.jiter_incremental.proofs.Arrivals.{shown-stands, shown-answers}
-use Rattle.jiter_incremental.proofs.Spines.{behind-of, carried-first, carried-on, not-empty, stands-in-place, put-together}
+use Rattle.jiter_incremental.proofs.Spines.{after-of, carried-first, carried-on, not-empty, stands-in-place, put-together}
 use Rattle.jiter_incremental.proofs.spine.put_together.Goals as goal
 
 pub put_back-requires : goal.put_back-requires
 put_back-requires c =
     let i = c.loop-child.invariant.1 in
     let stands = subst (λ ys. StandsFor ys c.loop-child.root i.0) c.in-Some.ensures.items i.1 in
-    let b = behind-of c.pop.new.self.items c.in-Some.child c.loop-child.root i.0 stands in
+    let b = after-of c.pop.new.self.items c.in-Some.child c.loop-child.root i.0 stands in
     (b.frames, b.parents)
 
 pub loop-child-preserved : goal.loop-child-preserved
@@ -20,7 +20,7 @@ loop-child-preserved c =
     → StandsFor c.put_back.new.spine.items c.put_back.new.root v =
     λ v s.
     let stands = subst (λ ys. StandsFor ys c.loop-child.root v) c.in-Some.ensures.items s in
-    let b = behind-of c.pop.new.self.items c.in-Some.child c.loop-child.root v stands in
+    let b = after-of c.pop.new.self.items c.in-Some.child c.loop-child.root v stands in
     stands-in-place b.frames c.put_back.new.spine.items c.put_back.new.root (view c.in-Some.child) v
     (c.put_back.ensures.value b.frames b.parents) b.whole in (
       λ v s. goes v (i.0 v s),

@@ -3,7 +3,7 @@ use Rattle.std.proofs.Common.{◌≤◌, ◌+◌, ◌++◌, ◌∷◌, [], ◌�
 use Rattle.std.specs.Prelude.{flat_map}
 use Rattle.std.proofs.lemmas.Result.{IfOk-weaker, on_err_weaker}
 use Rattle.jiter_print.specs.Print.{print_byte, print_text, Appends}
-use Rattle.jiter_print.proofs.Printing.{text-behind, text-whole, kept-through}
+use Rattle.jiter_print.proofs.Printing.{text-after, text-whole, kept-through}
 use Rattle.jiter_print.proofs.strings.append_text.Goals as goal
 
 pub returns-then-is_plain_to : goal.returns-then-is_plain_to
@@ -41,14 +41,14 @@ returns c =
     let laid = c.put.new.line.items in
     let at = c.args.count in
     let printed = flat_map print_byte bytes ++ 34 ∷ [] in
-    let behind = text-behind old.items roomy.items laid bytes at (omega (arith, old.ok.0))
+    let after = text-after old.items roomy.items laid bytes at (omega (arith, old.ok.0))
     (omega (arith, roomy.ok.0, c.in_ok-make_room_for.ensures.room)) c.in_ok-make_room_for.ensures.kept
     c.put.ensures.text
     printed in
     let text = ap (λ w. take at old.items ++ print_text w) c.as_bytes-bytes.ensures.value in
     let closed = c.append_escaped in
     let within : at ≤ length old.items = omega (arith, old.ok.0) in
-    let quote = text-behind old.items roomy.items laid bytes at within
+    let quote = text-after old.items roomy.items laid bytes at within
     (omega (arith, roomy.ok.0, c.in_ok-make_room_for.ensures.room)) c.in_ok-make_room_for.ensures.kept
     c.put.ensures.text
     [] in
@@ -56,7 +56,7 @@ returns c =
       text =
           IfOk-weaker closed.result (Appends laid closed.new.line.items (at + 1) printed)
           (Appends old.items closed.new.line.items at (print_text c.args.text.now))
-          (λ end h. (h.0 ∙ behind ∙ text, h.1)) closed.ensures.text;
+          (λ end h. (h.0 ∙ after ∙ text, h.1)) closed.ensures.text;
       kept =
           on_err_weaker closed.result
           (λ same. kept-through old.items laid closed.new.line.items (34 ∷ []) at (at + 1) within

@@ -3,14 +3,14 @@ use Rattle.std.proofs.lemmas.Simd.{zip2_splat}
 use Rattle.std.proofs.lemmas.List.{length-map}
 use lib.Lanes.{number_l}
 use Rattle.jiter_scan.specs.Simd.{less_zero}
-use Rattle.jiter_scan.proofs.DigitWords.{number_l-front, number_l-high, less_zero-below}
+use Rattle.jiter_scan.proofs.DigitWords.{number_l-prefix, number_l-high, less_zero-below}
 use Rattle.jiter_scan.proofs.decimal.halves.Goals as goal
 
 pub returns-clause-low : goal.returns-clause-low
 returns-clause-low c =
     let v = c.args.bytes in
     ap (λ zs. number_l 256 zs % 2 ^ 64) (zip2_splat (λ a b. (a + (256 - b)) % 256) v 16 48 (omega arith))
-    ∙ number_l-front (map less_zero v) 8 (less_zero-below v)
+    ∙ number_l-prefix (map less_zero v) 8 (less_zero-below v)
 
 pub returns-clause-high : goal.returns-clause-high
 returns-clause-high c =

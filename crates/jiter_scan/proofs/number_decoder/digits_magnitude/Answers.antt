@@ -14,7 +14,7 @@ joined-requires-clause-fits c =
     let t = c.args.bytes.now in
     let at = c.args.at in
     let end = c.args.end in
-    let both = decimal_of-joined t at end _ _ (omega arith) (omega arith) c.digits_value-front.ensures
+    let both = decimal_of-joined t at end _ _ (omega arith) (omega arith) c.digits_value-prefix.ensures
     c.digits_value-back.ensures in
     omega (arith, both, decimal_of-few t at end (omega arith) (omega arith) (omega arith) 19 (omega arith))
 
@@ -30,7 +30,7 @@ returns-then-count-le19 c =
     let end = c.args.end in
     magnitude_of-short t at end (omega arith) (omega arith) (omega arith) c.joined.result (omega arith)
     (c.joined.ensures
-    ∙ decimal_of-joined t at end _ _ (omega arith) (omega arith) c.digits_value-front.ensures
+    ∙ decimal_of-joined t at end _ _ (omega arith) (omega arith) c.digits_value-prefix.ensures
     c.digits_value-back.ensures)
 
 pub returns-else-count-le19 : goal.returns-else-count-le19

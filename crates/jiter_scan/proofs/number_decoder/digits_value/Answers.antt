@@ -1,13 +1,13 @@
 use Rattle.std.proofs.Common.{◌≡◌, ◌+◌, ◌-◌, ◌∙◌, ap, arith, slice_range}
 use Rattle.jiter_scan.specs.Digits.{decimal_of}
-use Rattle.jiter_scan.proofs.Magnitudes.{digits-front}
+use Rattle.jiter_scan.proofs.Magnitudes.{digits-prefix}
 use Rattle.jiter_scan.proofs.number_decoder.digits_value.Goals as goal
 
 pub digit_word-requires-clause-digits : goal.digit_word-requires-clause-digits
 digit_word-requires-clause-digits c =
     let at = c.args.at in
     let n = c.args.end - at in
-    digits-front c.args.bytes.now c.chunk_at.result at n (c.chunk_at.ensures n (omega arith) (omega arith))
+    digits-prefix c.args.bytes.now c.chunk_at.result at n (c.chunk_at.ensures n (omega arith) (omega arith))
     (omega arith)
 
 pub returns : goal.returns

@@ -2,7 +2,7 @@ use Rattle.std.proofs.Common.{◌≡◌, ℕ, ◌+◌, ◌-◌, ◌/◌, ◌^◌
 use lib.Lanes.{chunk}
 use Rattle.jiter_scan.specs.Scan.{is_ascii, is_plain}
 use Rattle.jiter_scan.specs.Simd.{failing}
-use Rattle.jiter_scan.proofs.Chunks.{failing-behind, run_end-clear, run_end-stopped}
+use Rattle.jiter_scan.proofs.Chunks.{failing-after, run_end-clear, run_end-stopped}
 use Rattle.jiter_scan.proofs.Runs.{run_end-ahead, run_end-within}
 use Rattle.jiter_scan.proofs.PlainRuns.{ascii_from-clear, ascii_from-stop, ascii_from-stopped}
 use Rattle.jiter_scan.proofs.simd.scan_last.Goals as goal
@@ -17,7 +17,7 @@ last-bits test t i m enough few within is =
     let all : 16 ≡ k + (length t - i) = omega arith in
     let place : start + k ≡ i = omega arith in
     ap (λ x. x / 2 ^ k) (is ∙ ap (λ n. failing test (chunk start n t)) all)
-    ∙ failing-behind test t start k (length t - i)
+    ∙ failing-after test t start k (length t - i)
     ∙ ap (λ j. failing test (chunk j (length t - i) t)) place
 
 pub first_stop-requires : goal.first_stop-requires
@@ -62,9 +62,9 @@ returns-then-found-eq0 c =
     let ahead = run_end-ahead is_plain t (i + n) in
     let end = run_end-within is_plain t (i + n) (omega arith) in
     let low = ascii_from-clear t i n found high stops highs (omega arith) (omega arith) in
-    let behind = ascii_from-stop t (i + n) (omega (arith, ahead, end)) in
+    let after = ascii_from-stop t (i + n) (omega (arith, ahead, end)) in
     record {
       stop = omega (arith, run, ahead, end);
       ascii = c.both.ensures
-          ∙ ap (λ b. c.args.ascii && b) (sym (low ∙ ap (λ b. eqb high 0 && b) behind ∙ and-true (eqb high 0)));
+          ∙ ap (λ b. c.args.ascii && b) (sym (low ∙ ap (λ b. eqb high 0 && b) after ∙ and-true (eqb high 0)));
     }

@@ -1,6 +1,6 @@
 use Rattle.std.proofs.Common.{◌+◌, false, ap, arith}
 use Rattle.jiter_steps.specs.Answer.{seen_as}
-use Rattle.jiter_steps.proofs.Calls.RawStrings.{raw-closed, raw-over_behind}
+use Rattle.jiter_steps.proofs.Calls.RawStrings.{raw-closed, raw-over_after}
 use Rattle.jiter_steps.proofs.raw_string.closed_end.Goals as goal
 
 pub returns-in-Some-eq34-clause-value : goal.returns-in-Some-eq34-clause-value
@@ -9,5 +9,5 @@ returns-in-Some-eq34-clause-value c =
     let i = c.args.at + 1 in
     let e = c.rest_end-end in
     let r = c.requires in
-    let over = raw-over_behind t i c.args.from e.result (omega arith) (omega arith) r.plain e.ensures.over in
+    let over = raw-over_after t i c.args.from e.result (omega arith) (omega arith) r.plain e.ensures.over in
     ap (seen_as (λ s k. tt {0})) (raw-closed t false i e.result over (cc))

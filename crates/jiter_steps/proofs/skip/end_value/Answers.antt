@@ -13,7 +13,7 @@ returns-in-Ok-true-clause-value c = λ names.
     let i = c.in-Ok-true in
     let m = c.next_inside.new.parser.index in
     let same = ap (λ bytes. bytes.now) l.invariant.moves.same in
-    let inner = open_frames-innermost l.nest.objects l.nest.depth _ (omega arith) c.shape_of.ensures in (
+    let inner = open_frames-innermost l.nest.objects l.nest.depth _ (omega arith) c.kind_of_container.ensures in (
       l.invariant.same names ∙ innermost-led names t p.bytes.now _ _ _ p.index _ inner same p.within
           (i.ensures.value ∙ ap (λ more. done more m) i.field-0-test)
           ∙ ap (λ fs. value_from (only_ends names) t fs m) (sym inner),
@@ -25,7 +25,7 @@ closing-preserved c =
     let l = c.closing in
     let p = l.parser in
     let i = c.in-Ok-false in
-    let inner = open_frames-innermost l.nest.objects l.nest.depth _ (omega arith) c.shape_of.ensures in
+    let inner = open_frames-innermost l.nest.objects l.nest.depth _ (omega arith) c.kind_of_container.ensures in
     record {
       moves = record { same = i.ensures.moves.same ∙ l.invariant.moves.same; forward = omega arith };
       same = λ names. l.invariant.same names
@@ -38,6 +38,6 @@ pub returns-in-Err-clause-value : goal.returns-in-Err-clause-value
 returns-in-Err-clause-value c = λ names.
     let l = c.closing in
     let p = l.parser in
-    let inner = open_frames-innermost l.nest.objects l.nest.depth _ (omega arith) c.shape_of.ensures in
+    let inner = open_frames-innermost l.nest.objects l.nest.depth _ (omega arith) c.kind_of_container.ensures in
     l.invariant.same names ∙ innermost-led names c.args.parser.now.bytes.now p.bytes.now _ _ _ p.index _ inner
     (ap (λ bytes. bytes.now) l.invariant.moves.same) p.within c.in-Err.ensures.value

@@ -9,22 +9,22 @@ use Rattle.jiter_steps.proofs.Calls.DecodeSteps.{decode-over, encode-sign, known
 use Rattle.jiter_steps.proofs.Calls.PlainRuns.{plain_stop}
 use Rattle.jiter_steps.proofs.string_decoder.decode.Goals as goal
 
-pub sign_at-sign-requires : goal.sign_at-sign-requires
-sign_at-sign-requires c =
+pub simple_escape_at-sign-requires : goal.simple_escape_at-sign-requires
+simple_escape_at-sign-requires c =
     let l = c.loop-stop in
     let e = c.in_ok-stop.ensures in
     copied-within c.args.bytes.now l.tape.items c.copy_plain.new.buffer.items l.at l.count c.in_ok-stop.end
     c.in_ok-stop.stop l.invariant.within e.stop e.text
 
-pub next_portion-requires-clause-within : goal.next_portion-requires-clause-within
-next_portion-requires-clause-within c =
+pub next_event-requires-clause-within : goal.next_event-requires-clause-within
+next_event-requires-clause-within c =
     let l = c.loop-stop in
     let e = c.in_ok-stop.ensures in
     copied-within c.args.bytes.now l.tape.items c.copy_plain.new.buffer.items l.at l.count c.in_ok-stop.end
     c.in_ok-stop.stop l.invariant.within e.stop e.text
 
-pub next_portion-requires-clause-stop : goal.next_portion-requires-clause-stop
-next_portion-requires-clause-stop c =
+pub next_event-requires-clause-stop : goal.next_event-requires-clause-stop
+next_event-requires-clause-stop c =
     plain_stop c.args.bytes.now c.loop-stop.at _ c.in_ok-stop.ensures.stop
 
 pub loop-stop-smaller-then-sign-ne0 : goal.loop-stop-smaller-then-sign-ne0
@@ -37,7 +37,7 @@ loop-stop-smaller-then-sign-ne0 c =
     let items = c.copy_plain.new.buffer.items in
     let d = copied-decoded t l.tape.items items l.at l.count end stop l.invariant.within e.stop e.text _ _
     (l.invariant.text, l.invariant.stop) in
-    let sign = c.sign_at-sign in
+    let sign = c.simple_escape_at-sign in
     let added = take-set_at items end (end + 1) sign.result (omega arith) (omega (arith, e.room))
     ∙ ap (λ w. take end items ++ w) (encode-sign sign.result sign.ensures.ascii) in
     let m = decode-more t _ _ _ stop d _ (encode_utf8 sign.result) (stop + 2)
@@ -56,7 +56,7 @@ loop-stop-preserved-then-sign-ne0 c =
     (l.invariant.text, l.invariant.stop) in
     let k = copied-known t l.tape.items items l.at l.count end stop l.invariant.within e.stop e.text l.known
     c.in_ok-stop.low c.both-known.result l.invariant.utf8 e.ascii.0 c.both-known.ensures in
-    let sign = c.sign_at-sign in
+    let sign = c.simple_escape_at-sign in
     let added = take-set_at items end (end + 1) sign.result (omega arith) (omega (arith, e.room))
     ∙ ap (λ w. take end items ++ w) (encode-sign sign.result sign.ensures.ascii) in
     let means = sign.ensures.value c.if-sign-ne0.true in

@@ -2,7 +2,7 @@ use Rattle.std.proofs.Common.{◌+◌, ◌∙◌, true, refl, ap, take}
 use Rattle.std.proofs.lemmas.Result.{err_from_is_err_and}
 use Rattle.jiter_scan.specs.Scanned.{taken}
 use Rattle.jiter_steps.specs.StringReading.{body_at, text_form}
-use Rattle.jiter_steps.proofs.Calls.Decoded.{front-front}
+use Rattle.jiter_steps.proofs.Calls.Decoded.{prefix-prefix}
 use Rattle.jiter_steps.proofs.Calls.StringAnswers.{string-escaped}
 use Rattle.jiter_steps.proofs.string_decoder.decode_to.Goals as goal
 
@@ -28,7 +28,7 @@ returns-in-Ok-clause-value c =
     rw (string-escaped t c.args.at r.within _ refl (text_form c.args.keep) r.backslash, ← d.stop, over, ← text)
     (c.in-Ok.ensures.value i c.in_ok-end.end true
     ∙ ap (λ w. taken (record { owned = true; bytes = w }) c.in_ok-end.end)
-    (front-front _ count c.in-Ok.fit c.in-Ok.ensures.front ∙ ap (take c.in-Ok.fit) items))
+    (prefix-prefix _ count c.in-Ok.fit c.in-Ok.ensures.prefix ∙ ap (take c.in-Ok.fit) items))
 
 pub returns-in-Err-clause-value : goal.returns-in-Err-clause-value
 returns-in-Err-clause-value c =

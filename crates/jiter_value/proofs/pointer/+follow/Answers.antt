@@ -3,7 +3,7 @@ use Rattle.std.specs.List.{slice_split}
 use Rattle.std.proofs.lemmas.Str.Pattern.{split_parts}
 use Rattle.jiter_value.specs.Pointer.{pointed, part_spelled, is_slash}
 use Rattle.jiter_value.specs.Value.{view}
-use Rattle.jiter_value.proofs.Pointing.{first_token, last_token, nothing_behind}
+use Rattle.jiter_value.proofs.Pointing.{first_token, last_token, nothing_after}
 use Rattle.jiter_value.proofs.pointer.+follow.Goals as goal
 
 pub returns-in_err-part_spelled-in-Some : goal.returns-in_err-part_spelled-in-Some
@@ -31,4 +31,4 @@ returns-in-None t c =
     let path = c.args.path.now in
     let none = rw c.in-None.is at (split_parts 47 path c.split_once.result c.split_once.ensures.cases (omega arith)) in
     c.part_spelled-in-None.ensures
-    ∙ sym (ap (λ ts. pointed ts v) (last_token path none) ∙ nothing_behind (part_spelled path v))
+    ∙ sym (ap (λ ts. pointed ts v) (last_token path none) ∙ nothing_after (part_spelled path v))

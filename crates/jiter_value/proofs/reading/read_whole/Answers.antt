@@ -9,7 +9,7 @@ returns-in_err-value_first-clause-value g c =
     let a = c.args in
     let e = err_from_is_err_and c.from_residual.result c.from_residual.ensures.1 in
     rw (e.1, e.2)
-    (answer-none (rules_as g.T.Texts.made a.reading.now.settings) a.reading.now.settings.mode a.parser.now.bytes.now _ _
+    (answer-none (rules_as g.T.StringStorage.made a.reading.now.settings) a.reading.now.settings.mode a.parser.now.bytes.now _ _
     c.value_first.new.self.index
     (rw c.requires.begins at c.in_err-value_first.ensures.value))
 
@@ -31,6 +31,6 @@ returns-in_err-value-clause-value g c =
     let at = value-begins-at t c.value_first.new.self.index (rw c.requires.begins at begun.value) in
     let e = err_from_is_err_and c.from_residual-in_err-value.result c.from_residual-in_err-value.ensures.1 in
     rw (e.1, e.2)
-    (answer-refused (rules_as g.T.Texts.made c.args.reading.now.settings) c.args.reading.now.settings.mode t
+    (answer-refused (rules_as g.T.StringStorage.made c.args.reading.now.settings) c.args.reading.now.settings.mode t
     (rw at begun.inside) _ c.run.new.parser.index
     (rw at (rw first at c.in_err-value.ensures.value)))

@@ -6,7 +6,7 @@ use Rattle.jiter_print.specs.Print.{with_line_feed}
 use Rattle.viewer.specs.Arrived.{HasArrived}
 use Rattle.viewer.specs.Shown.{fault_line}
 use Rattle.viewer.specs.declared.words.Words.{Words}
-use Rattle.viewer.proofs.Ending.{all-told, half-told, nothing-told, untold}
+use Rattle.viewer.proofs.StringEnd.{all-told, half-told, nothing-told, untold}
 use Rattle.viewer.proofs.Told.{fault-told, none-told}
 use Rattle.viewer.proofs.view.finish.Given.{Over}
 use Rattle.viewer.proofs.view.finish.Goals as goal
@@ -35,8 +35,8 @@ pub returns-in_err-write_line : goal.returns-in_err-write_line
 returns-in_err-write_line g c = λ words t h.
     let end = c.from_residual-in_err-write_line in
     let line = told g (goal.at.returns-in_err-write_line g c).In_ok-line words t h in
-    let front = rw c.as_bytes.ensures.value at c.in_err-write_line.ensures.front in
-    half-told end.result end.ensures.0 _ _ line _ _ front
+    let prefix = rw c.as_bytes.ensures.value at c.in_err-write_line.ensures.prefix in
+    half-told end.result end.ensures.0 _ _ line _ _ prefix
 
 pub returns : goal.returns
 returns g c = λ words t h.

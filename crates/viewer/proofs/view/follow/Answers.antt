@@ -1,6 +1,6 @@
 use Rattle.std.proofs.Common.{arith}
 use Rattle.std.specs.List.{concat}
-use Rattle.viewer.proofs.Arriving.{all-arrived, all-shown, arrives, breaks-off, goes-on, if-err, stays, stopped}
+use Rattle.viewer.proofs.IncrementalParser.{all-arrived, all-shown, arrives, breaks-off, goes-on, if-err, stays, stopped}
 use Rattle.viewer.proofs.view.follow.Goals as goal
 use Rattle.viewer.proofs.view.follow.Goals.{in-Ok+in_ok-push-in-Ok+in_ok-push-in-Ok-2+in_ok-last-in-Ok, in-Err}
 
@@ -16,26 +16,26 @@ returns-in-Ok-eq0-clause-shown g c = λ words none.
     let end = read.1 c.in-Ok-eq0.field-0-test (omega arith) in
     all-shown words _ _ _ _ _ _ _ (c.loop.invariant words none) _ (rw c.in-Ok-eq0.field-0-test at read.0) end
 
-pub returns-in_err-push-in-Ok-clause-front : goal.returns-in_err-push-in-Ok-clause-front
-returns-in_err-push-in-Ok-clause-front g c = λ words none.
+pub returns-in_err-push-in-Ok-clause-prefix : goal.returns-in_err-push-in-Ok-clause-prefix
+returns-in_err-push-in-Ok-clause-prefix g c = λ words none.
     if-err _ (stopped words _ _ _ _ _ _ _ (c.loop.invariant words none))
 
-pub returns-in_err-push-in-Ok-2-clause-front : goal.returns-in_err-push-in-Ok-2-clause-front
-returns-in_err-push-in-Ok-2-clause-front g c = λ words none.
+pub returns-in_err-push-in-Ok-2-clause-prefix : goal.returns-in_err-push-in-Ok-2-clause-prefix
+returns-in_err-push-in-Ok-2-clause-prefix g c = λ words none.
     if-err _ (stopped words _ _ _ _ _ _ _ (c.loop.invariant words none))
 
-pub returns-in_err-last-in-Ok-clause-front : goal.returns-in_err-last-in-Ok-clause-front
-returns-in_err-last-in-Ok-clause-front g c = λ words none.
+pub returns-in_err-last-in-Ok-clause-prefix : goal.returns-in_err-last-in-Ok-clause-prefix
+returns-in_err-last-in-Ok-clause-prefix g c = λ words none.
     let held = c.loop.invariant words none in
     let pushed = c.in_ok-push-in-Ok.ensures in
     let t = concat held.pieces in
     let more = arrives words _ _ _ _ t _ held.arrived (pushed.ok t held.arrived.read.received) pushed.settings
     (c.in_ok-push-in-Ok-2.ensures.ok t held.arrived.passed) in
-    let front = c.in_err-last-in-Ok.ensures.front words _ more.read in
-    if-err _ (breaks-off words _ _ _ _ _ _ _ held _ _ c.in-Ok.ensures.bytes.0 _ front)
+    let prefix = c.in_err-last-in-Ok.ensures.prefix words _ more.read in
+    if-err _ (breaks-off words _ _ _ _ _ _ _ held _ _ c.in-Ok.ensures.bytes.0 _ prefix)
 
-pub returns-in-Err-2-clause-front : goal.returns-in-Err-2-clause-front
-returns-in-Err-2-clause-front g c = λ words none. stopped words _ _ _ _ _ _ _ (c.loop.invariant words none)
+pub returns-in-Err-2-clause-prefix : goal.returns-in-Err-2-clause-prefix
+returns-in-Err-2-clause-prefix g c = λ words none. stopped words _ _ _ _ _ _ _ (c.loop.invariant words none)
 
 pub loop-preserved : goal.loop-preserved
 loop-preserved g c = λ words none.
@@ -53,5 +53,5 @@ loop-preserved g c = λ words none.
       | in-Err w ↦ rw w.out-is (rw w.document-is (rw w.lines-is (rw w.last-is (stays words _ _ _ _ _ _ _ held _ w.in-Err.ensures.bytes))))
     ]
 
-pub returns-clause-front : goal.returns-clause-front
-returns-clause-front g c = λ words none. stopped words _ _ _ _ _ _ _ (c.loop.invariant words none)
+pub returns-clause-prefix : goal.returns-clause-prefix
+returns-clause-prefix g c = λ words none. stopped words _ _ _ _ _ _ _ (c.loop.invariant words none)

@@ -1,5 +1,5 @@
 use Rattle.std.proofs.Common.{[]}
-use Rattle.viewer.proofs.Arriving.{Follows}
+use Rattle.viewer.proofs.IncrementalParser.{Follows}
 use Rattle.viewer.specs.Arrived.{HasArrived}
 use Rattle.viewer.specs.declared.words.Words.{Words}
 use Rattle.viewer.proofs.view.follow.Given as goal

@@ -1,6 +1,6 @@
 use Rattle.std.proofs.lemmas.Option.{IfSome_then}
-use Rattle.viewer.proofs.Arriving.{begun}
-use Rattle.viewer.proofs.Ending.{broke-off, cut-shown, ended, ran}
+use Rattle.viewer.proofs.IncrementalParser.{begun}
+use Rattle.viewer.proofs.StringEnd.{broke-off, cut-shown, ended, ran}
 use Rattle.viewer.proofs.view.run.Goals as goal
 
 pub returns-in_err-follow-clause-wrote : goal.returns-in_err-follow-clause-wrote
@@ -8,7 +8,7 @@ returns-in_err-follow-clause-wrote g c =
     let words = c.args.words in
     let new = c.new-document.ensures in
     broke-off words _ _ _ _ _ c.from_residual.ensures.0
-    (c.in_err-follow.ensures.front words (begun words _ _ new.begun new.names new.mode c.new-lines.ensures))
+    (c.in_err-follow.ensures.prefix words (begun words _ _ new.begun new.names new.mode c.new-lines.ensures))
 
 pub returns-in_err-follow-clause-cut : goal.returns-in_err-follow-clause-cut
 returns-in_err-follow-clause-cut g c = cut-shown c.args.words

@@ -6,7 +6,7 @@ use Rattle.jiter_print.specs.Print.{print_of, with_line_feed}
 use Rattle.viewer.specs.Arrived.{ReadsAs}
 use Rattle.viewer.specs.Shown.{value_line}
 use Rattle.viewer.specs.declared.words.Words.{Words}
-use Rattle.viewer.proofs.Arriving.{if-err}
+use Rattle.viewer.proofs.IncrementalParser.{if-err}
 use Rattle.viewer.proofs.Lines.{line-shown, same-line}
 use Rattle.viewer.proofs.Told.{line-told}
 use Rattle.viewer.proofs.view.show.Given.{Over}
@@ -20,17 +20,17 @@ told g c words t h =
     let text : c.push.new.self.items ≡ with_line_feed (print_of (view c.in-Ok.value.now)) = grind (arith, common_steps) in
     line-told words c.args.document.now t h c.in-Ok.value.now c.in-Ok.ensures c.push.new.self.items text
 
-pub returns-in_err-line-in-Ok-clause-front : goal.returns-in_err-line-in-Ok-clause-front
-returns-in_err-line-in-Ok-clause-front g c = λ words t h. if-err c.from_residual.result (0, Appends-nil _)
+pub returns-in_err-line-in-Ok-clause-prefix : goal.returns-in_err-line-in-Ok-clause-prefix
+returns-in_err-line-in-Ok-clause-prefix g c = λ words t h. if-err c.from_residual.result (0, Appends-nil _)
 
-pub returns-in_err-push-clause-front : goal.returns-in_err-push-clause-front
-returns-in_err-push-clause-front g c = λ words t h. if-err c.from_residual-in_err-push.result (0, Appends-nil _)
+pub returns-in_err-push-clause-prefix : goal.returns-in_err-push-clause-prefix
+returns-in_err-push-clause-prefix g c = λ words t h. if-err c.from_residual-in_err-push.result (0, Appends-nil _)
 
-pub returns-in_err-write_line-clause-front : goal.returns-in_err-write_line-clause-front
-returns-in_err-write_line-clause-front g c = λ words t h.
+pub returns-in_err-write_line-clause-prefix : goal.returns-in_err-write_line-clause-prefix
+returns-in_err-write_line-clause-prefix g c = λ words t h.
     let other = line-shown c.args.last.items c.push.new.self.items (sym c.ne.ensures ∙ c.if-ne.true) in
-    let written = rw c.as_slice.ensures.value at c.in_err-write_line.ensures.front in
-    rw (told g (goal.at.returns-in_err-write_line-clause-front g c).In_ok-push words t h)
+    let written = rw c.as_slice.ensures.value at c.in_err-write_line.ensures.prefix in
+    rw (told g (goal.at.returns-in_err-write_line-clause-prefix g c).In_ok-push words t h)
     (if-err c.from_residual-in_err-write_line.result (rw other written))
 
 pub returns-clause-last : goal.returns-clause-last

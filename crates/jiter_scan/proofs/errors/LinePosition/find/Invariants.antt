@@ -4,8 +4,8 @@ use Rattle.jiter_scan.proofs.errors.LinePosition.find.Given as goal
 
 abbrev pub invariant-loop-byte : goal.invariant-loop-byte
 invariant-loop-byte l = record {
-  line : l.line ≡ line_of (take l.byte-index l.front);
-  column : l.column ≡ column_of (take l.byte-index l.front);
+  line : l.line ≡ line_of (take l.byte-index l.prefix);
+  column : l.column ≡ column_of (take l.byte-index l.prefix);
   line_low : l.line ≤ l.byte-index + 1;
   column_low : l.column ≤ l.byte-index;
 }

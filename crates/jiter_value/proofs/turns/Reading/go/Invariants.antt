@@ -6,10 +6,10 @@ use Rattle.jiter_value.proofs.turns.Reading.go.Given as goal
 
 abbrev pub invariant-turning : goal.invariant-turning
 invariant-turning g l =
-    ((i : ℕ) → HasGone g.T.Texts.made g.T.Texts.wants l.bytes i l.initial.self
-    → HasCome g.T.Texts.made g.T.Texts.wants l.bytes i l.self.settings l.self.stacks l.at l.state)
+    ((i : ℕ) → HasGone g.T.StringStorage.made g.T.StringStorage.wants l.bytes i l.initial.self
+    → HasCome g.T.StringStorage.made g.T.StringStorage.wants l.bytes i l.self.settings l.self.stacks l.at l.state)
     × (l.self.settings ≡ l.initial.self.settings)
-    × g.K.Keys.serves l.keys g.T.Texts.made l.bytes
+    × g.K.Keys.serves l.keys g.T.StringStorage.made l.bytes
     × (GoesOn l.state → (ks : List (List ℕ)) × g.K.Keys.knows l.keys ks × HaveKeys ks l.self.stacks.members.items)
     × (l.once ≡ true → (l.at ≡ l.initial.self.at) × (l.state ≡ l.initial.self.state)
     × (l.self.stacks ≡ l.initial.self.stacks))

@@ -17,7 +17,7 @@ go-state-requires g c κs =
         (
           c.requires.repeats,
           (
-            (i, come-first g.T.Texts.made g.T.Texts.wants c.args.self.now.settings t s i h c.requires.within),
+            (i, come-first g.T.StringStorage.made g.T.StringStorage.wants c.args.self.now.settings t s i h c.requires.within),
             (tt, ([], tt, no-keys s h)),
           ),
         ),
@@ -28,7 +28,7 @@ pub invariant_of-parser : goal.invariant_of-parser
 invariant_of-parser g c =
     let t = c.args.parser.now.bytes.now in
     let i = c.args.parser.now.index in
-    let first = come-first g.T.Texts.made g.T.Texts.wants c.args.self.now.settings t c.args.self.now.stacks i
+    let first = come-first g.T.StringStorage.made g.T.StringStorage.wants c.args.self.now.settings t c.args.self.now.stacks i
     c.requires.holds c.requires.within in
     record { within = (c.go-state.ensures.gone i first).within.1 }
 
@@ -36,14 +36,14 @@ pub returns-in-Done-clause-moves : goal.returns-in-Done-clause-moves
 returns-in-Done-clause-moves g c =
     let t = c.args.parser.now.bytes.now in
     let i = c.args.parser.now.index in
-    let first = come-first g.T.Texts.made g.T.Texts.wants c.args.self.now.settings t c.args.self.now.stacks i
+    let first = come-first g.T.StringStorage.made g.T.StringStorage.wants c.args.self.now.settings t c.args.self.now.stacks i
     c.requires.holds c.requires.within in
     record { same = refl; forward = (c.go-state.ensures.gone i first).within.0 }
 
 pub returns-in-Done-clause-value : goal.returns-in-Done-clause-value
 returns-in-Done-clause-value g c =
-    let made = g.T.Texts.made in
-    let W = g.T.Texts.wants in
+    let made = g.T.StringStorage.made in
+    let W = g.T.StringStorage.wants in
     let t = c.args.parser.now.bytes.now in
     let i = c.args.parser.now.index in
     let r = c.go-state.new.self in
@@ -56,8 +56,8 @@ returns-in-Done-clause-value g c =
 
 pub returns-in-Done-clause-cleared : goal.returns-in-Done-clause-cleared
 returns-in-Done-clause-cleared g c =
-    let made = g.T.Texts.made in
-    let W = g.T.Texts.wants in
+    let made = g.T.StringStorage.made in
+    let W = g.T.StringStorage.wants in
     let t = c.args.parser.now.bytes.now in
     let i = c.args.parser.now.index in
     let r = c.go-state.new.self in
@@ -69,8 +69,8 @@ returns-in-Done-clause-cleared g c =
 
 pub returns-in_default : goal.returns-in_default
 returns-in_default g c =
-    let made = g.T.Texts.made in
-    let W = g.T.Texts.wants in
+    let made = g.T.StringStorage.made in
+    let W = g.T.StringStorage.wants in
     let t = c.args.parser.now.bytes.now in
     let i = c.args.parser.now.index in
     let r = c.go-state.new.self in

@@ -10,11 +10,11 @@ returns-then-not-ends g c =
     let r = c.if-not-ends.ensures.resolved in
     record {
       leads = record {
-        within = (omega (arith, c.plain_first-next.ensures.within.0), c.plain_first-next.ensures.within.1);
-        reaches = begins-fails g.T.Texts.made a.reading.now.settings a.bytes.now a.reading.now.stacks a.slot c.requires.at_value.0
+        within = (omega (arith, c.fast_first-next.ensures.within.0), c.fast_first-next.ensures.within.1);
+        reaches = begins-fails g.T.StringStorage.made a.reading.now.settings a.bytes.now a.reading.now.stacks a.slot c.requires.at_value.0
             c.requires.at_value.1
             a.at
-            a.shape c.plain_first-next.result.0 c.ends.new.stacks.error c.requires.bracket r;
+            a.shape c.fast_first-next.result.0 c.ends.new.stacks.error c.requires.bracket r;
         left = tt;
         held = tt;
       };
@@ -30,13 +30,13 @@ returns g c =
     let ends = c.if-not-ends.ensures in
     let empty = c.empty.ensures in
     let same = ends.same refl in
-    let forward = c.plain_first-next.ensures.within.0 in
+    let forward = c.fast_first-next.ensures.within.0 in
     record {
       leads = leads-weaker (rw same at empty.leads) (omega (arith, forward)) (omega (arith, forward)) (omega arith)
-          (begins-closed g.T.Texts.made a.reading.now.settings a.bytes.now a.reading.now.stacks a.slot c.requires.at_value.0
+          (begins-closed g.T.StringStorage.made a.reading.now.settings a.bytes.now a.reading.now.stacks a.slot c.requires.at_value.0
           c.requires.at_value.1 a.at
           a.shape
-          c.plain_first-next.result.0 c.requires.bracket ends.resolved);
+          c.fast_first-next.result.0 c.requires.bracket ends.resolved);
       memory = λ e. root-grows r _ (empty.root e) (refused-weaker r _ _ (λ other. absurd (other e)) empty.memory);
       keys = rw same at empty.keys;
       settings = empty.settings;

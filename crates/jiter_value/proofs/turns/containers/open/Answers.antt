@@ -13,7 +13,7 @@ returns-then-is_full g c =
       leads = record {
         within = (omega (arith, c.requires.within.0), omega (arith, c.requires.within.1));
         reaches = rw c.too_deep.ensures.error
-            (array-too-deep g.T.Texts.made a.reading.now.settings a.bytes.now a.reading.now.stacks a.slot c.requires.stands
+            (array-too-deep g.T.StringStorage.made a.reading.now.settings a.bytes.now a.reading.now.stacks a.slot c.requires.stands
             c.requires.levels a.at a.next
             full.1 c.requires.within.1 (rw full.0 at c.requires.bracket) (rw full.0 at c.requires.part));
         left = tt;
@@ -30,7 +30,7 @@ returns-in-Ok g c =
       leads = record {
         within = (omega (arith, c.requires.within.0), omega (arith, c.requires.within.1));
         reaches = rw c.part_of.ensures
-            (shape-opens g.T.Texts.made a.reading.now.settings a.bytes.now a.reading.now.stacks a.slot c.requires.stands c.requires.levels
+            (shape-opens g.T.StringStorage.made a.reading.now.settings a.bytes.now a.reading.now.stacks a.slot c.requires.stands c.requires.levels
             a.at a.shape
             a.next
             c.push_small.new.items (rw c.base_of-base.ensures at c.in-Ok.ensures.ok) c.requires.within.1

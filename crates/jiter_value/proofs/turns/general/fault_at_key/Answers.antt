@@ -15,7 +15,7 @@ returns-then-not-forgives g c =
       leads = record {
         within = (omega arith, c.requires.within);
         reaches = rw c.give_up.ensures.error
-            (key-kept g.T.Texts.made a.reading.now.settings a.bytes.now (reverse s.nest.items) s.items.items s.members.items k
+            (key-kept g.T.StringStorage.made a.reading.now.settings a.bytes.now (reverse s.nest.items) s.items.items s.members.items k
             a.problem.index a.at
             bad);
         left = tt;

@@ -1,6 +1,6 @@
 use Rattle.std.proofs.Common.{◌≡◌, ◌-◌, ◌∙◌, sym, ap, arith, length, take, reverse, false}
 use Rattle.jiter_scan.specs.Kind.{fault_kind}
-use Rattle.jiter_steps.specs.declared.parse.Shape.TheVariants as shape
+use Rattle.jiter_steps.specs.declared.parse.ContainerKind.TheVariants as shape
 use Rattle.jiter_steps.specs.Frames.{resume}
 use Rattle.jiter_steps.specs.Read.{fault}
 use Rattle.jiter_steps.proofs.Calls.Resumed.{resume-fault}
@@ -24,7 +24,7 @@ returns-then-not-forgives-clause-leads g c =
     (record {
       within = (omega arith, c.requires.within);
       reaches = rw c.give_up.ensures.error
-          (resume-fault (rules_as g.T.Texts.made a.reading.now.settings) a.bytes.now
+          (resume-fault (rules_as g.T.StringStorage.made a.reading.now.settings) a.bytes.now
           (frames a.slot (reverse s.nest.items) s.items.items s.members.items) k a.problem.index a.at bad);
       left = tt;
       held = tt;
@@ -47,11 +47,11 @@ returns-in-Member-clause-leads g c =
     let outer = ap (inside_size_in shape.Object os es) popped in
     rw c.in-Member.is
     (leads-weaker c.close_and_go_on-in-Member.ensures.leads (omega arith) (omega arith) (omega (arith, outer, was))
-    (ap (λ ys. resume (rules_as g.T.Texts.made a.reading.now.settings) a.bytes.now (frames slot.Member os es ys)
+    (ap (λ ys. resume (rules_as g.T.StringStorage.made a.reading.now.settings) a.bytes.now (frames slot.Member os es ys)
     (fault k a.problem.index a.at))
     last.1
-    ∙ fault-value g.T.Texts.made a.reading.now.settings a.bytes.now os es before last.0 k a.problem.index a.at last.2 ok
-    ∙ ap (λ ys. container_in g.T.Texts.made a.reading.now.settings a.bytes.now shape.Object os es ys a.at) (sym popped)))
+    ∙ fault-value g.T.StringStorage.made a.reading.now.settings a.bytes.now os es before last.0 k a.problem.index a.at last.2 ok
+    ∙ ap (λ ys. container_in g.T.StringStorage.made a.reading.now.settings a.bytes.now shape.Object os es ys a.at) (sym popped)))
 
 pub returns-in-Member-clause-keys : goal.returns-in-Member-clause-keys
 returns-in-Member-clause-keys g c =

@@ -8,7 +8,7 @@ pub returns-in-Ok-keep_decoded-clause-put : goal.returns-in-Ok-keep_decoded-clau
 returns-in-Ok-keep_decoded-clause-put g c = λ _.
     let a = c.args in
     let t = a.bytes.now in
-    let made = g.T.Texts.made in
+    let made = g.T.StringStorage.made in
     let d = c.in-Ok in
     let n = c.put_reserved.ensures in
     let bytes = c.utf8_text-decoded.ensures ∙ ap (take d.count) c.as_slice.ensures.value in

@@ -1,7 +1,7 @@
 use Rattle.jiter_steps.specs.StringReading.{string_at, whole}
 use Rattle.jiter_value.specs.Settings.{lent_unique}
 use Rattle.jiter_value.specs.Stacks.{keys_of, key_seen}
-use Rattle.jiter_value.proofs.KeySets.{more-all}
+use Rattle.jiter_value.proofs.DuplicateKeys.{more-all}
 use Rattle.jiter_value.proofs.turns.unique.is_new_in_set.Goals as goal
 
 pub returns-then-len-base-le-FEW-clause-sets : goal.returns-then-len-base-le-FEW-clause-sets

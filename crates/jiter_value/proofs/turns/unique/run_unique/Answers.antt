@@ -1,7 +1,7 @@
 use Rattle.std.proofs.Common.{◌∙◌, [], ap, arith, refl, subst, sym}
 use Rattle.std.proofs.lemmas.List.Elements.{All-nil}
 use Rattle.jiter_steps.specs.Read.{done}
-use Rattle.jiter_value.specs.KeySets.{HasKeys}
+use Rattle.jiter_value.specs.DuplicateKeys.{HasKeys}
 use Rattle.jiter_value.specs.Settings.{lent_unique}
 use Rattle.jiter_value.specs.Turns.{HasCome}
 use Rattle.jiter_value.specs.Value.{view}

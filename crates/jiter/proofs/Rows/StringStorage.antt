@@ -1,0 +1,24 @@
+-- StringStorage of causes, by computation.
+use Rattle.std.proofs.Common.{◌≡◌, ℕ, List, [], ◌∷◌, refl, codes, map}
+use Rattle.std.specs.Fmt.{digits}
+use Rattle.jiter_scan.specs.Kind.{trailing_comma}
+use Rattle.jiter.specs.Cause.{Cause, json_error, wrong_type, null, bool, int, float, string, array, object}
+use Rattle.jiter.specs.Cause.{cause_text, error_text, error_description}
+
+abbrev causes : List (Cause × List ℕ)
+causes =
+    (wrong_type null bool, codes "expected null but found bool") ∷
+    (wrong_type array object, codes "expected array but found object") ∷
+    (wrong_type float string, codes "expected float but found string") ∷
+    []
+
+causes-read : map (λ r. cause_text r.0) causes ≡ map (λ r. r.1) causes
+causes-read = refl
+
+errors-read :
+    (error_text (json_error trailing_comma) 3 ≡ codes "trailing comma at index 3")
+    × (error_text (wrong_type int float) 1 ≡ codes "expected int but found float at index 1")
+    × (error_description (wrong_type int float) 1 (codes " 1.5")
+    ≡ codes "expected int but found float at line 1 column 2")
+unfolding digits
+errors-read = (refl, refl, refl)

@@ -1,0 +1,10 @@
+use Rattle.jiter_value.specs.Owned.{owned_tree}
+use Rattle.jiter_value.specs.Parses.{as_read}
+use Rattle.jiter.proofs.Growth.{prefixes-grow, extends-owned}
+use Rattle.jiter.proofs.client.prefixes.a_longer_prefix_extends_a_shorter.Goals as goal
+
+pub returns-clause-lent : goal.returns-clause-lent
+returns-clause-lent c = prefixes-grow as_read (λ v w h. h)
+
+pub returns-clause-owned : goal.returns-clause-owned
+returns-clause-owned c = prefixes-grow owned_tree extends-owned

@@ -1,0 +1,87 @@
+use Rattle.std.proofs.Common.{rules, ◌+◌, get_or, sym, ap, ◌∙◌, arith}
+use Rattle.std.proofs.lemmas.Option.{slice_get-get_or}
+use Rattle.std.proofs.lemmas.Bool.{false≢true}
+use Rattle.jiter_scan.specs.Digits.{decimal_of}
+use Rattle.jiter_scan.specs.NumberReading.{is_float_sign}
+use Rattle.jiter_scan.proofs.Magnitudes.{decimal_of-few, magnitude_of-short}
+use Rattle.jiter_scan.proofs.NumberExtents.{decimal_at-tail}
+use Rattle.jiter_scan.proofs.NumberValues.{number_value-tail}
+use Rattle.jiter_scan.proofs.PlainNumbers.{digits-counted, digits-of_chunk, int_part_at-counted, decimal_at-int_part}
+use Rattle.jiter_scan.proofs.PlainNumbers.{tail-place}
+use Rattle.jiter_scan.proofs.fast_number.padded_number_at.Goals as goal
+use Rattle.jiter_scan.proofs.fast_number.padded_number_at.Goals.{then-count-eq0-via-then-count-eq0}
+use Rattle.jiter_scan.proofs.fast_number.padded_number_at.Goals.{then-count-eq0-via-else-count-eq0+then-count-ne1}
+use Rattle.jiter_scan.proofs.fast_number.padded_number_at.Goals.{then-bytes-at-eq48, else-bytes-at-eq48}
+
+pub returns-then-not-goes_on : goal.returns-then-not-goes_on
+returns-then-not-goes_on c =
+    let t = c.args.bytes.now in
+    let i = c.args.at in
+    let chunk = c.full_chunk_at-chunk in
+    let n = c.digit_count-count.result in
+    let run = digits-counted t chunk.result i n c.digit_count-count.ensures (omega arith) (omega arith) chunk.ensures in
+    let int_part =
+    int_part_at-counted t chunk.result i n c.digit_count-count.ensures (omega arith) (omega arith) chunk.ensures
+    (omega arith) c.if-count-ne1.either in
+    let value = c.digit_word.ensures ∙ ap decimal_of (chunk.ensures n (omega arith) (omega arith)) in
+    record {
+      int_part = int_part;
+      decimal = decimal_at-int_part t i (i + n) (get_or t (i + n) 0) int_part
+          (slice_get-get_or t (i + n) 0 (omega arith))
+          (sym c.goes_on.ensures ∙ c.if-not-goes_on.true);
+      magnitude = magnitude_of-short t i (i + n) (omega arith) (omega arith) (omega arith) c.digit_word.result
+          (omega arith) value;
+      small = omega
+          (arith, decimal_of-few t i (i + n) (omega arith) (omega arith) (omega arith) 15 (omega arith), value);
+      some = omega arith;
+      within = omega arith;
+    }
+
+pub returns-in-Some : goal.returns-in-Some
+returns-in-Some c =
+    let t = c.args.bytes.now in
+    let i = c.args.at in
+    let chunk = c.full_chunk_at-chunk in
+    let n = c.digit_count-count.result in
+    let int_part =
+    int_part_at-counted t chunk.result i n c.digit_count-count.ensures (omega arith) (omega arith) chunk.ensures
+    (omega arith) c.if-count-ne1.either in
+    let end = c.in-Some.after in
+    let place = tail-place t (i + n) end (get_or t (i + n) 0) (slice_get-get_or t (i + n) 0 (omega arith))
+    (sym c.goes_on.ensures ∙ c.if-not-goes_on.false) c.in-Some.ensures in
+    record {
+      decimal = decimal_at-tail t i (i + n) end int_part c.in-Some.ensures;
+      value = λ j le.
+          number_value-tail t j (i + n) end (omega arith) (omega (arith, place.0)) (omega arith) c.in-Some.ensures;
+      some = omega (arith, place.0);
+      within = place.1;
+    }
+
+pub returns-then-count-eq0 : goal.returns-then-count-eq0
+returns-then-count-eq0 c h =
+    let chunk = c.full_chunk_at-chunk in
+    let run = digits-counted c.args.bytes.now chunk.result c.args.at c.digit_count-count.result
+    c.digit_count-count.ensures (omega arith) (omega (arith, h.reach)) chunk.ensures in
+    elim c.then-count-eq0.branch [
+      | then-count-eq0-via-then-count-eq0 w ↦ omega (arith, run, h.some, w.if-count-eq0.true)
+      | then-count-eq0-via-else-count-eq0+then-count-ne1 w ↦ elim w.if-bytes-at-eq48.branch [
+        | then-bytes-at-eq48 zero ↦ h.first zero.if-bytes-at-eq48.true
+        | else-bytes-at-eq48 other ↦ search rules
+      ]
+    ]
+
+pub returns-in-None : goal.returns-in-None
+returns-in-None c h =
+    let t = c.args.bytes.now in
+    let i = c.args.at in
+    let chunk = c.full_chunk_at-chunk in
+    let run = digits-counted t chunk.result i c.digit_count-count.result c.digit_count-count.ensures (omega arith)
+    (omega arith) chunk.ensures in
+    let alone = ap (λ k. is_float_sign (get_or t k 0)) (sym run) ∙ h.alone in
+    absurd (false≢true (sym alone ∙ sym c.goes_on.ensures ∙ c.if-not-goes_on.false))
+
+pub two_chunks_at-requires-clause-digits : goal.two_chunks_at-requires-clause-digits
+two_chunks_at-requires-clause-digits c =
+    let chunk = c.full_chunk_at-chunk in
+    digits-of_chunk c.args.bytes.now chunk.result c.args.at 16 (omega (arith, c.digit_count-count.ensures))
+    (chunk.ensures 16 (omega arith) (omega arith))

@@ -1,8 +1,0 @@
-use Rattle.std.proofs.lemmas.Option.{IfSome_then}
-use Rattle.jiter_scan.proofs.NumberExtents.{tail-parts}
-use Rattle.jiter_scan.proofs.plain_number.plain_float_end.Goals as goal
-
-pub returns-in-Some : goal.returns-in-Some
-returns-in-Some c =
-    IfSome_then c.plain_exponent_end.result c.plain_exponent_end.ensures
-    (λ e x. tail-parts c.args.bytes.now c.args.at c.in-Some.end e c.in-Some.ensures.end x)

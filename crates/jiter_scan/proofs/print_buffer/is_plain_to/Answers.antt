@@ -1,0 +1,38 @@
+use Rattle.std.proofs.Common.{◌≡◌, ℕ, ◌+◌, ◌-◌, ◌≤◌, sym, ap, ◌∙◌, arith}
+use Rattle.std.specs.Prelude.{nat_le}
+use Rattle.std.proofs.lemmas.Bool.{le-leb}
+use Rattle.std.proofs.lemmas.Bool.Decides.{nat_tests}
+use lib.Count.{count_trailing_zeros}
+use Rattle.jiter_scan.specs.Scan.{is_plain, scan_stop}
+use Rattle.jiter_scan.proofs.Chunks.{run_end-clear, run_end-stopped}
+use Rattle.jiter_scan.proofs.Runs.{run_end-ahead}
+use Rattle.jiter_scan.proofs.print_buffer.is_plain_to.Goals as goal
+
+le-moved : (to i n : ℕ) → i ≤ to → nat_le (to - i) n ≡ nat_le to (i + n)
+le-moved to i n h = grind (arith, nat_tests, h)
+
+pub returns-then-found-ne0 : goal.returns-then-found-ne0
+returns-then-found-ne0 c =
+    let t = c.args.bytes.now in
+    let at = c.loop-from in
+    let found = c.stops-found in
+    let run = run_end-stopped is_plain t at.i 16 found.result found.ensures (omega arith) (omega arith) (omega arith) in
+    le-moved c.args.to at.i (count_trailing_zeros 64 found.result) at.invariant.within
+    ∙ ap (nat_le c.args.to) (sym (at.invariant.same ∙ run))
+
+pub returns-then-to-i-le16 : goal.returns-then-to-i-le16
+returns-then-to-i-le16 c =
+    let t = c.args.bytes.now in
+    let at = c.loop-from in
+    let found = c.stops-found in
+    let run = run_end-clear is_plain t at.i 16 found.result found.ensures (omega arith) c.if-found-ne0.false in
+    sym (le-leb c.args.to (scan_stop t c.args.from)
+    (omega (arith, at.invariant.same, run, run_end-ahead is_plain t (at.i + 16))))
+
+pub loop-from-preserved : goal.loop-from-preserved
+loop-from-preserved c =
+    let t = c.args.bytes.now in
+    let at = c.loop-from in
+    let found = c.stops-found in
+    let run = run_end-clear is_plain t at.i 16 found.result found.ensures (omega arith) c.if-found-ne0.false in
+    record { within = omega arith; same = at.invariant.same ∙ run }

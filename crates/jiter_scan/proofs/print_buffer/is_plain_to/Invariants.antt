@@ -1,0 +1,12 @@
+use Rattle.std.proofs.Common.{◌≡◌, ◌-◌, ◌≤◌}
+use Rattle.jiter_scan.specs.Scan.{scan_stop}
+use Rattle.jiter_scan.proofs.print_buffer.is_plain_to.Given as goal
+
+abbrev pub invariant-loop-from : goal.invariant-loop-from
+invariant-loop-from l = record {
+  within : l.i ≤ l.to;
+  same : scan_stop l.bytes l.from ≡ scan_stop l.bytes l.i;
+}
+
+abbrev pub decreases-loop-from : goal.decreases-loop-from
+decreases-loop-from l = l.to - l.i

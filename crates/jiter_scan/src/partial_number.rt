@@ -1,0 +1,492 @@
+//! Numbers that a chunk may truncate (RFC 8259, 6). All bytes of a chunk that continue a number are taken at once, and
+//! a stage says how far it was read.
+ghost use Rattle.std.specs.Prelude.{◌≡◌, ◌+◌, ◌-◌, ◌<◌, ◌≤◌, ◌++◌, [], Bool, IfOk, IfSome, List, None, OnErr, OnOk, Some};
+ghost use Rattle.std.specs.Prelude.{false, length, slice_get, slice_index, slice_range, string_bytes, string_capacity};
+ghost use Rattle.std.specs.Prelude.{string_len, true, ℕ};
+ghost use Rattle.std.specs.Str.{IsAscii};
+ghost use Rattle.jiter_scan.specs.Number.{big, integer, is_float_byte, number_value};
+ghost use Rattle.jiter_scan.specs.NumberExtent.{minus_end};
+ghost use Rattle.jiter_scan.specs.NumberReading.{exponent_at, decimal_at, int_part_at, number_extent, number_at};
+ghost use Rattle.jiter_scan.specs.Scanned.{taken};
+ghost use Rattle.jiter_scan.specs.PartialNumber.{BeginsThere, Fits, GoesTo, HoldsNumber, IsBegun, Leads, at_end, begins_decimal};
+ghost use Rattle.jiter_scan.specs.PartialNumber.{int_of, is_int_stage, is_whole, kept_bytes, kind_view};
+ghost use Rattle.jiter_scan.specs.PartialNumber.{number_by, number_from, own_view, tail_at};
+
+use crate::decimal::is_digit;
+use crate::memory::{AllocFailed, push_text};
+use crate::number_decoder::{NumberInt, long_integer};
+use crate::number_extent::minus_end;
+use crate::text::ascii_text;
+use std::alloc::Global;
+use std::mem;
+
+// How many digits an integer part may have after its first one.
+const MORE_DIGITS: usize = 4299;
+
+/// How far a number was read.
+#[derive(Clone, Copy, Debug, PartialEq, Eq)]
+pub enum Stage {
+    /// After its minus.
+    Minus,
+    /// After the `0` of its integer part.
+    Zero,
+    /// After a digit of another integer part, which may have so many more.
+    Digits(usize),
+    /// After its point.
+    Point,
+    /// After a digit of its fraction.
+    Fraction,
+    /// After the letter of its exponent.
+    Letter,
+    /// After the sign of its exponent.
+    Sign,
+    /// After a digit of its exponent.
+    Exponent,
+}
+
+/// What the next byte is to a number.
+#[derive(Clone, Copy, Debug, PartialEq, Eq)]
+pub enum Went {
+    /// A byte of the number, which brings it to this stage.
+    Taken(Stage),
+    /// No byte of the number, which ends before it.
+    Over,
+    /// The `I` after its minus, which begins `Infinity`.
+    Named,
+    /// A byte that does not fit.
+    Invalid,
+    /// A digit that is one too many.
+    TooLong,
+}
+
+/// What a complete number is.
+#[derive(Clone, Copy, Debug, PartialEq, Eq)]
+pub enum NumberKind {
+    /// An integer that an `i64` holds.
+    Int(i64),
+    /// Any other integer.
+    BigInt,
+    /// A number with a point or an exponent.
+    Float,
+}
+
+/// A number that owns its source text.
+#[derive(Debug, Drop)]
+pub enum OwnNumber {
+    /// An integer that an `i64` holds.
+    Int(i64),
+    /// The source text of any other integer.
+    BigInt(String),
+    /// The source text of a number with a point or an exponent.
+    Float(String),
+}
+
+fn first_stage(byte: u8) -> Stage
+    requires { begins_decimal byte ≡ true }
+    ensures leads { (names : Bool) (t : List ℕ) (j : ℕ) → slice_get t j ≡ Some byte
+        → number_extent names t j ≡ number_from names result t (j + 1) }
+    ensures whole { is_int_stage result ≡ true }
+    ensures byte { (byte < 128) × (is_float_byte byte ≡ false) }
+{
+    if byte == b'-' {
+        Stage::Minus
+    } else if byte == b'0' {
+        Stage::Zero
+    } else {
+        Stage::Digits(MORE_DIGITS)
+    }
+}
+
+#[inline(always)]
+fn first_digit(byte: u8) -> Went
+    ensures leads { (names : Bool) (t : List ℕ) (j : ℕ) → slice_get t j ≡ Some byte
+        → decimal_at t j ≡ number_by names t j result }
+    ensures fits { Fits Stage.Minus byte result }
+{
+    if byte == b'0' {
+        Went::Taken(Stage::Zero)
+    } else if is_digit(byte) {
+        Went::Taken(Stage::Digits(MORE_DIGITS))
+    } else {
+        Went::Invalid
+    }
+}
+
+#[inline(always)]
+fn after_minus(byte: u8) -> Went
+    ensures leads { Leads Stage.Minus byte result }
+    ensures fits { Fits Stage.Minus byte result }
+{
+    if byte == b'I' {
+        Went::Named
+    } else {
+        first_digit(byte)
+    }
+}
+
+#[inline(always)]
+fn after_fraction(byte: u8) -> Went
+    ensures leads { (names : Bool) (t : List ℕ) (j : ℕ) → slice_get t j ≡ Some byte
+        → exponent_at t j ≡ number_by names t j result }
+    ensures fits { (s : Stage) → is_whole s ≡ true → Fits s byte result }
+{
+    if byte == b'e' || byte == b'E' {
+        Went::Taken(Stage::Letter)
+    } else {
+        Went::Over
+    }
+}
+
+#[inline(always)]
+fn after_int_part(byte: u8) -> Went
+    ensures leads { (names : Bool) (t : List ℕ) (j : ℕ) → slice_get t j ≡ Some byte
+        → tail_at t j ≡ number_by names t j result }
+    ensures fits { (s : Stage) → is_whole s ≡ true → Fits s byte result }
+{
+    if byte == b'.' {
+        Went::Taken(Stage::Point)
+    } else {
+        after_fraction(byte)
+    }
+}
+
+#[inline(always)]
+fn after_zero(byte: u8) -> Went
+    ensures leads { Leads Stage.Zero byte result }
+    ensures fits { Fits Stage.Zero byte result }
+{
+    if is_digit(byte) {
+        Went::Invalid
+    } else {
+        after_int_part(byte)
+    }
+}
+
+// The integer part may have `room` more digits.
+#[inline(always)]
+fn after_digit(room: usize, byte: u8) -> Went
+    ensures leads { Leads (Stage.Digits room) byte result }
+    ensures fits { Fits (Stage.Digits room) byte result }
+{
+    if is_digit(byte) {
+        if room == 0 {
+            Went::TooLong
+        } else {
+            Went::Taken(Stage::Digits(room - 1))
+        }
+    } else {
+        after_int_part(byte)
+    }
+}
+
+#[inline(always)]
+fn after_point(byte: u8) -> Went
+    ensures leads { Leads Stage.Point byte result }
+    ensures fits { Fits Stage.Point byte result }
+{
+    if is_digit(byte) {
+        Went::Taken(Stage::Fraction)
+    } else {
+        Went::Invalid
+    }
+}
+
+#[inline(always)]
+fn after_fraction_digit(byte: u8) -> Went
+    ensures leads { Leads Stage.Fraction byte result }
+    ensures fits { Fits Stage.Fraction byte result }
+{
+    if is_digit(byte) {
+        Went::Taken(Stage::Fraction)
+    } else {
+        after_fraction(byte)
+    }
+}
+
+#[inline(always)]
+fn after_sign(byte: u8) -> Went
+    ensures leads { Leads Stage.Sign byte result }
+    ensures fits { (s : Stage) → is_int_stage s ≡ false → Fits s byte result }
+{
+    if is_digit(byte) {
+        Went::Taken(Stage::Exponent)
+    } else {
+        Went::Invalid
+    }
+}
+
+#[inline(always)]
+fn after_letter(byte: u8) -> Went
+    ensures leads { Leads Stage.Letter byte result }
+    ensures fits { Fits Stage.Letter byte result }
+{
+    if byte == b'+' || byte == b'-' {
+        Went::Taken(Stage::Sign)
+    } else {
+        after_sign(byte)
+    }
+}
+
+#[inline(always)]
+fn after_exponent_digit(byte: u8) -> Went
+    ensures leads { Leads Stage.Exponent byte result }
+    ensures fits { Fits Stage.Exponent byte result }
+{
+    if is_digit(byte) {
+        Went::Taken(Stage::Exponent)
+    } else {
+        Went::Over
+    }
+}
+
+#[inline(always)]
+fn next_of(stage: Stage, byte: u8) -> Went
+    ensures leads { Leads stage byte result }
+    ensures fits { Fits stage byte result }
+{
+    match stage {
+        Stage::Minus => after_minus(byte),
+        Stage::Zero => after_zero(byte),
+        Stage::Digits(room) => after_digit(room, byte),
+        Stage::Point => after_point(byte),
+        Stage::Fraction => after_fraction_digit(byte),
+        Stage::Letter => after_letter(byte),
+        Stage::Sign => after_sign(byte),
+        Stage::Exponent => after_exponent_digit(byte),
+    }
+}
+
+// The value of an integer, if an `i64` holds it. At most 20 bytes are read: the minus and nineteen digits.
+fn integer_in(text: &[u8]) -> Option<i64>
+    requires some { 0 < length text.now }
+    requires digits { int_part_at text.now (minus_end text.now 0) ≡ taken tt (length text.now) }
+    requires read { number_at false text.now 0 ≡ taken (number_value text.now) (length text.now) }
+    ensures { result ≡ int_of (number_at false text.now 0) }
+{
+    match long_integer(text, 0, minus_end(text, 0), text.len()) {
+        NumberInt::Int(number) => Some(number),
+        NumberInt::BigInt(_) => None,
+    }
+}
+
+// The number has neither a point nor an exponent so far.
+#[inline(always)]
+fn is_int_stage(stage: Stage) -> bool
+    ensures { result ≡ is_int_stage stage }
+{
+    match stage {
+        Stage::Minus => true,
+        Stage::Zero => true,
+        Stage::Digits(_) => true,
+        Stage::Point => false,
+        Stage::Fraction => false,
+        Stage::Letter => false,
+        Stage::Sign => false,
+        Stage::Exponent => false,
+    }
+}
+
+// Returns the stage after all bytes at `at` that continue the number, and the index after them.
+fn bytes_end(stage: Stage, piece: &[u8], at: usize) -> (Stage, usize)
+    requires { at ≤ length piece.now }
+    ensures { GoesTo stage piece.now at result.0 result.1 }
+{
+    let mut reached = stage;
+    let mut end = at;
+    while end < piece.len() {
+        match next_of(reached, piece[end]) {
+            Went::Taken(next) => reached = next,
+            _ => break,
+        }
+        end += 1;
+    }
+    (reached, end)
+}
+
+/// Returns the stage that the bytes of the number at `at` reach, and the index after them. The number begins with a
+/// minus or a digit.
+#[inline(always)]
+pub fn begun_at(piece: &[u8], at: usize) -> (Stage, usize)
+    requires within { at < length piece.now }
+    requires begins { begins_decimal (slice_index piece.now at) ≡ true }
+    ensures { BeginsThere piece.now at result.0 result.1 }
+{
+    bytes_end(first_stage(piece[at]), piece, at + 1)
+}
+
+/// A number that a chunk may truncate: its bytes so far, and the stage that they reach.
+#[derive(Drop)]
+pub struct PartialNumber {
+    text: String,
+    stage: Stage,
+}
+
+impl PartialNumber {
+    /// Returns a number without bytes. Does not allocate.
+    pub fn new(alloc: Global) -> PartialNumber
+        ensures { string_bytes result.text ≡ [] }
+    {
+        PartialNumber {
+            text: String::new(alloc),
+            stage: Stage::Minus,
+        }
+    }
+
+    #[inline(always)]
+    fn take(&mut self, stage: Stage, piece: &[u8], at: usize, end: usize) -> Result<(), AllocFailed>
+        requires within { (at ≤ end) × (end ≤ length piece.now) }
+        requires ascii { IsAscii (slice_range piece.now at end) }
+        ensures taken { OnOk result ((self.new.stage ≡ stage)
+            × (string_bytes self.new.text ≡ string_bytes self.old.text ++ slice_range piece.now at end)) }
+        ensures refused { OnErr result
+            ((string_bytes self.new.text ≡ string_bytes self.old.text) × (self.new.stage ≡ self.old.stage)) }
+        ensures full { OnErr result (string_capacity self.old.text < string_len self.old.text + (end - at)) }
+    {
+        push_text(&mut self.text, ascii_text(&piece[at..end]))?;
+        self.stage = stage;
+        Ok(())
+    }
+
+    /// Takes the number's first bytes, from `at` to before `end`. `stage` and `end` are what [`begun_at`] returned for
+    /// `at`. If the allocation fails, nothing changes.
+    pub fn begin(
+        &mut self,
+        piece: &[u8],
+        at: usize,
+        stage: Stage,
+        end: usize,
+    ) -> Result<(), AllocFailed>
+        requires none { string_bytes self.old.text ≡ [] }
+        requires begun { BeginsThere piece.now at stage end }
+        ensures held { OnOk result (HoldsNumber self.new (slice_range piece.now at end)) }
+        ensures refused { OnErr result
+            ((string_bytes self.new.text ≡ []) × (self.new.stage ≡ self.old.stage)) }
+        ensures full { OnErr result (string_capacity self.old.text < end - at) }
+    {
+        self.take(stage, piece, at, end)
+    }
+
+    /// Returns what the next byte is to the number. The byte is not taken.
+    pub fn next(&self, byte: u8) -> Went
+        ensures leads { Leads self.now.stage byte result }
+        ensures fits { Fits self.now.stage byte result }
+    {
+        next_of(self.stage, byte)
+    }
+
+    /// Takes the byte at `at` and all bytes after it that continue the number, and returns how many. `stage` is what
+    /// [`next`](PartialNumber::next) returned for the byte. If the allocation fails, nothing changes.
+    pub fn more(&mut self, stage: Stage, piece: &[u8], at: usize) -> Result<usize, AllocFailed>
+        requires within { at < length piece.now }
+        requires leads { Leads self.old.stage (slice_index piece.now at) (Went.Taken stage) }
+        requires fits { Fits self.old.stage (slice_index piece.now at) (Went.Taken stage) }
+        ensures part { IfOk result (λ n. (0 < n) × (at + n ≤ length piece.now)) }
+        ensures held { IfOk result (λ n. (w : List ℕ) → HoldsNumber self.old w
+            → HoldsNumber self.new (w ++ slice_range piece.now at (at + n))) }
+        ensures refused { OnErr result
+            ((string_bytes self.new.text ≡ string_bytes self.old.text) × (self.new.stage ≡ self.old.stage)) }
+        ensures full { OnErr result (string_capacity self.old.text
+            < string_len self.old.text + (length piece.now - at)) }
+    {
+        let (after, end) = bytes_end(stage, piece, at + 1);
+        self.take(after, piece, at, end)?;
+        Ok(end - at)
+    }
+
+    /// Returns whether the bytes so far are a number.
+    pub fn is_whole(&self) -> bool
+        ensures value { result ≡ is_whole self.now.stage }
+        ensures ends { (names : Bool) (t : List ℕ) (j : ℕ) → slice_get t j ≡ None
+            → number_from names self.now.stage t j ≡ at_end result j }
+    {
+        match self.stage {
+            Stage::Zero => true,
+            Stage::Digits(_) => true,
+            Stage::Fraction => true,
+            Stage::Exponent => true,
+            Stage::Minus => false,
+            Stage::Point => false,
+            Stage::Letter => false,
+            Stage::Sign => false,
+        }
+    }
+
+    fn small_integer(&self) -> Option<i64>
+        requires begun { IsBegun (string_bytes self.now.text) self.now.stage }
+        requires whole { is_whole self.now.stage ≡ true }
+        requires int { is_int_stage self.now.stage ≡ true }
+        ensures some { IfSome result (λ n. number_value (string_bytes self.now.text) ≡ integer n) }
+        ensures none { result ≡ None → number_value (string_bytes self.now.text) ≡ big (string_bytes self.now.text) }
+    {
+        integer_in(self.text.as_bytes())
+    }
+
+    /// Returns what the number is. The bytes so far must be a number. At most 20 bytes are read.
+    pub fn kind(&self) -> NumberKind
+        requires begun { IsBegun (string_bytes self.now.text) self.now.stage }
+        requires whole { is_whole self.now.stage ≡ true }
+        ensures { kind_view result (string_bytes self.now.text) ≡ number_value (string_bytes self.now.text) }
+    {
+        if !is_int_stage(self.stage) {
+            return NumberKind::Float;
+        }
+        match self.small_integer() {
+            Some(number) => NumberKind::Int(number),
+            None => NumberKind::BigInt,
+        }
+    }
+
+    /// Returns the bytes so far.
+    pub fn text(&self) -> &str
+        ensures { result.now ≡ string_bytes self.now.text }
+    {
+        self.text.as_str()
+    }
+
+    /// Moves the bytes so far out, and leaves none. Does not allocate.
+    pub fn take_text(&mut self) -> String
+        ensures text { string_bytes result ≡ string_bytes self.old.text }
+        ensures none { string_bytes self.new.text ≡ [] }
+        ensures stage { self.new.stage ≡ self.old.stage }
+    {
+        let alloc = *self.text.allocator();
+        mem::replace(&mut self.text, String::new(alloc))
+    }
+
+    /// Returns the number, and moves its source text into it. For an `i64` the bytes stay here. The bytes so far must
+    /// be a number.
+    ///
+    /// Does not allocate, and reads at most 20 bytes.
+    pub fn take_value(&mut self) -> OwnNumber
+        requires begun { IsBegun (string_bytes self.old.text) self.old.stage }
+        requires whole { is_whole self.old.stage ≡ true }
+        ensures value { own_view result ≡ number_value (string_bytes self.old.text) }
+        ensures kept { kept_bytes result (string_bytes self.new.text) ≡ string_bytes self.old.text }
+        ensures stage { self.new.stage ≡ self.old.stage }
+    {
+        match self.kind() {
+            NumberKind::Int(number) => OwnNumber::Int(number),
+            NumberKind::BigInt => OwnNumber::BigInt(self.take_text()),
+            NumberKind::Float => OwnNumber::Float(self.take_text()),
+        }
+    }
+
+    /// Takes back what [`take_value`](PartialNumber::take_value) returned, so that more bytes can follow.
+    pub fn give_back(&mut self, number: OwnNumber)
+        ensures text { string_bytes self.new.text ≡ kept_bytes number (string_bytes self.old.text) }
+        ensures stage { self.new.stage ≡ self.old.stage }
+    {
+        match number {
+            OwnNumber::Int(_) => {}
+            OwnNumber::BigInt(text) => self.text = text,
+            OwnNumber::Float(text) => self.text = text,
+        }
+    }
+
+    /// Drops the bytes.
+    pub fn clear(&mut self)
+        ensures { string_bytes self.new.text ≡ [] }
+    {
+        self.text.clear();
+    }
+}

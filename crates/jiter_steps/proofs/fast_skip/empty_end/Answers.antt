@@ -1,0 +1,8 @@
+use Rattle.std.proofs.Common.{◌∙◌, arith}
+use Rattle.jiter_steps.proofs.Calls.PlainSkips.{empty-ends}
+use Rattle.jiter_steps.proofs.fast_skip.empty_end.Goals as goal
+
+pub returns-then-bytes-at-clause-value : goal.returns-then-bytes-at-clause-value
+returns-then-bytes-at-clause-value c =
+    empty-ends c.args.bytes.now c.args.at c.args.shape c.requires.bracket (omega (arith, c.if-bytes-at-gt1.true))
+    (c.if-bytes-at.true ∙ c.closer.ensures)

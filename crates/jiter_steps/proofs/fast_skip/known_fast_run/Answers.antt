@@ -1,0 +1,42 @@
+use Rattle.std.proofs.Common.{◌∷◌, ◌∙◌, refl, arith}
+use Rattle.jiter_steps.specs.Skip.{frame_of}
+use Rattle.jiter_steps.proofs.Calls.PlainSkips.{plain-next, plain-passed, leads-from}
+use Rattle.jiter_steps.proofs.fast_skip.known_fast_run.Goals as goal
+
+pub parts-init : goal.parts-init
+parts-init c = record { place = (omega arith, c.requires); same = λ names fs few. refl }
+
+pub parts-preserved : goal.parts-preserved
+parts-preserved c =
+    let l = c.parts in
+    let t = c.args.bytes.now in
+    let b = c.args.shape in
+    let at = c.in-Some.at in
+    let e = c.in-Some-padded_value_end.after in
+    let next = c.in-Some.ensures in
+    let plain = c.in-Some-padded_value_end.ensures in
+    record {
+      place = (omega arith, plain.within.1);
+      same = λ names fs few. l.invariant.same names fs few
+          ∙ plain-next names t b fs l.end at l.invariant.place.1 next.value
+          ∙ plain-passed names t (frame_of b ∷ fs) at e (omega arith) plain.value;
+    }
+
+pub returns-in-None-clause-leads : goal.returns-in-None-clause-leads
+returns-in-None-clause-leads c = λ names fs few. c.parts.invariant.same names fs few
+
+pub returns-in-None-padded_value_end-clause-leads : goal.returns-in-None-padded_value_end-clause-leads
+returns-in-None-padded_value_end-clause-leads c = λ names fs few.
+    let l = c.parts in
+    let at = c.in-Some.at in (
+      l.invariant.same names fs few
+          ∙ plain-next names c.args.bytes.now c.args.shape fs l.end at l.invariant.place.1 c.in-Some.ensures.value,
+      omega (arith, c.in-Some.ensures.within.1),
+    )
+
+pub returns-clause-leads : goal.returns-clause-leads
+returns-clause-leads c = λ names fs few.
+    let l = c.parts in
+    let near = c.tail_run-2 in
+    leads-from names c.args.bytes.now (frame_of c.args.shape ∷ fs) near.result.1 near.result.0 _ _
+    (l.invariant.same names fs few) (near.ensures.leads names fs few)

@@ -1,0 +1,6 @@
+use Rattle.jiter_steps.proofs.Calls.PlainSkips.{some-as, number-ends}
+use Rattle.jiter_steps.proofs.fast_skip.padded_short_end.Goals as goal
+
+pub returns-clause-value : goal.returns-clause-value
+returns-clause-value c =
+    some-as _ (λ e is. number-ends c.args.bytes.now c.args.at e c.requires.begins is) c.padded_number_end.ensures.end

@@ -1,8 +1,0 @@
-use Rattle.std.proofs.Common.{ap, arith, length}
-use Rattle.jiter_steps.proofs.OpenEscapes.{cut_short}
-use Rattle.jiter_steps.proofs.open_escape.OpenEscape.cut.Goals as goal
-
-pub with-requires : goal.with-requires
-with-requires c =
-    let short = cut_short c.args.bytes.now c.requires in
-    omega (arith, short, ap length c.new.ensures)

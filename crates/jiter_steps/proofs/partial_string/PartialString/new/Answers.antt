@@ -1,0 +1,10 @@
+use Rattle.std.proofs.Common.{[], sym, subst, refl}
+use Rattle.jiter_steps.specs.PartialText.{HoldsText, nothing}
+use Rattle.jiter_steps.proofs.OpenStrings.{nothing-taken}
+use Rattle.jiter_steps.proofs.OpenTexts.{nil-unfinished}
+use Rattle.jiter_steps.proofs.partial_string.PartialString.new.Goals as goal
+
+pub returns : goal.returns
+returns c =
+    let none : HoldsText nothing [] = (refl, nil-unfinished) in
+    nothing-taken c.new.result (subst (λ s. HoldsText s []) (sym c.new.ensures) none)

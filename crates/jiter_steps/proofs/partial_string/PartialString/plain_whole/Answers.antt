@@ -1,0 +1,26 @@
+use Rattle.std.proofs.Common.{◌-◌, refl}
+use Rattle.std.specs.Prelude.{slice_range}
+use Rattle.jiter_steps.proofs.OpenStrings.{grown-range, run-goes-if, run-plain, run-whole}
+use Rattle.jiter_steps.proofs.partial_string.PartialString.plain_whole.Goals as goal
+
+pub returns-then-low-clause-taken : goal.returns-then-low-clause-taken
+returns-then-low-clause-taken c =
+    λ w h.
+    let to = c.scan_string-to.result.0 in
+    let piece = c.args.piece.now in
+    let at = c.args.at in
+    grown-range c.args.self.now w h piece at to c.requires.even
+    c.scan_string-to.ensures.within.0
+    (run-plain piece at to c.scan_string-to.ensures.stop) c.add_ascii.new.self c.in_ok-add_ascii.ensures.ok
+    (to - at) refl
+
+pub returns-clause-taken : goal.returns-clause-taken
+returns-clause-taken c =
+    λ w h.
+    let to = c.scan_string-to.result.0 in
+    let piece = c.args.piece.now in
+    let at = c.args.at in
+    run-goes-if c.args.self.now w h piece (slice_range piece at to) at c.add.new.self c.requires.even.0
+    (run-plain piece at to c.scan_string-to.ensures.stop)
+    (run-whole piece at to c.scan_string-to.ensures.within.0 c.scan_string-to.ensures.within.1)
+    c.add.result (c.add.ensures.taken h.decoded h.holds) c.add.ensures.within

@@ -1,0 +1,15 @@
+use Rattle.std.proofs.Common.{◌∙◌, ap, false, subst, sym, take, true}
+use Rattle.jiter_steps.specs.PartialString.{IsTextWithin}
+use Rattle.jiter_steps.proofs.StringsWithin.{decoded-within}
+use Rattle.jiter_steps.proofs.partial_string.decoded_within.Goals as goal
+
+pub returns-in_ok-copy_text-in-Ok : goal.returns-in_ok-copy_text-in-Ok
+returns-in_ok-copy_text-in-Ok c =
+    let piece = c.args.piece.now in
+    let at = c.args.at in
+    let d = c.in-Ok in
+    let decoded = take d.count c.decode_whole.new.tape.items in
+    let text = c.utf8_text-text.ensures ∙ ap (take d.count) c.as_slice.ensures.value in
+    subst (λ w. IsTextWithin piece at w d.end) (sym (c.in_ok-copy_text-in-Ok.ensures ∙ text))
+    (decoded-within piece at d.end (record { owned = true; bytes = decoded }) d.ensures.text (d.ensures.value false)
+    c.requires.first)

@@ -1,0 +1,319 @@
+//! Strings in chunks (RFC 8259, 7 and 8.1). A chunk may end anywhere, also inside a character or an escape. A string
+//! that is complete in its chunk is read by `text_within`.
+ghost use Rattle.std.specs.Prelude.{◌≡◌, ◌+◌, ◌<◌, ◌≤◌, [], IfOk, IfSome, List, None, OnErr, OnOk, Some, length};
+ghost use Rattle.std.specs.Prelude.{◌++◌, ◌||◌, is_some, false, not, slice_get, slice_index, slice_range, string_bytes, take, true, ℕ};
+ghost use Rattle.jiter_scan.specs.Ascii as ascii;
+ghost use Rattle.jiter_scan.specs.Kind.{eof_string};
+ghost use Rattle.jiter_scan.specs.Scan.{Pass, is_plain, is_plain_ascii};
+ghost use Rattle.jiter_scan.specs.Scanned.{failed};
+ghost use Rattle.jiter_steps.specs.PartialString.{Goes, HasTaken, HasTakenFrom, IsCountAt, IsEven, IsPart, IsTextWithin};
+ghost use Rattle.jiter_steps.specs.PartialString.{Wherever, grown, text_or};
+ghost use Rattle.jiter_steps.specs.PartialText.{IsWhole, with_text};
+ghost use Rattle.jiter_steps.specs.StringDecoder.{WantsMemory};
+ghost use Rattle.jiter_steps.specs.StringReading.{content_at, kept, text_form, whole};
+
+use crate::escape::{StringEnd, StringEvent, next_event, simple_escape_at};
+use crate::partial_escape::{PartialEscape, Spelled};
+use crate::partial_text::{FEW, PartialText};
+use crate::plain::{ascii_between, text_between};
+use crate::string_decoder::decode_whole;
+use jiter_scan::errors::FaultKind;
+use jiter_scan::memory::{AllocFailed, copy_text};
+use jiter_scan::simd::{scan_string, string_stop};
+use jiter_scan::text::utf8_text;
+use std::alloc::Global;
+
+/// What the next bytes are to a string.
+#[derive(Clone, Copy, Debug, PartialEq, Eq)]
+pub enum Went {
+    /// This many of them were taken.
+    Taken(usize),
+    /// The first one is the closing quote.
+    Quote,
+    /// An error: its kind, and how many bytes its index is before the first of them.
+    Wrong(FaultKind, usize),
+}
+
+/// A string whose opening quote was read, but not its closing one.
+#[derive(Drop)]
+pub struct PartialString {
+    text: PartialText,
+    escape: Option<PartialEscape>,
+}
+
+fn plain_run(piece: &[u8], at: usize, most: usize) -> &[u8]
+    requires within { at < length piece.now }
+    requires most { 0 < most }
+    requires plain { is_plain (slice_index piece.now at) ≡ true }
+    ensures plain { Pass is_plain result.now }
+    ensures is { result.now ≡ slice_range piece.now at (at + length result.now) }
+    ensures some { 0 < length result.now }
+    ensures within { at + length result.now ≤ length piece.now }
+{
+    let near = &piece[..at + (piece.len() - at).min(most)];
+    &near[at..string_stop(near, at)]
+}
+
+#[inline(never)]
+fn decoded_within(
+    alloc: Global,
+    tape: &mut Vec<u8>,
+    piece: &[u8],
+    at: usize,
+) -> Result<Option<(String, usize)>, AllocFailed>
+    requires first { slice_get piece.now at ≡ Some ascii.quote }
+    requires backslash { WantsMemory piece.now at }
+    ensures { IfOk result (λ found. IfSome found (λ x. IsTextWithin piece.now at (string_bytes x.0) x.1)) }
+{
+    match decode_whole(tape, piece, at) {
+        Ok((count, end)) => {
+            let text = utf8_text(&tape.as_slice()[..count]);
+            Ok(Some((copy_text(alloc, text)?, end)))
+        }
+        Err(Some(refused)) => Err(refused),
+        Err(None) => Ok(None),
+    }
+}
+
+/// Returns the string whose opening quote is at `at`, and the index after its closing quote, if the chunk has both. A
+/// string with a backslash is decoded on the tape.
+///
+/// Returns `None` if no quote is at `at`, the chunk ends first, or the string has an error. An [`PartialString`] then
+/// reads it.
+pub fn text_within(
+    alloc: Global,
+    tape: &mut Vec<u8>,
+    piece: &[u8],
+    at: usize,
+) -> Result<Option<(String, usize)>, AllocFailed>
+    requires { at < length piece.now }
+    ensures { IfOk result (λ found. IfSome found (λ x. IsTextWithin piece.now at (string_bytes x.0) x.1)) }
+{
+    if piece[at] != b'"' {
+        return Ok(None);
+    }
+    let (to, low) = scan_string(piece, at + 1);
+    if to >= piece.len() {
+        return Ok(None);
+    }
+    if piece[to] != b'"' {
+        if piece[to] != b'\\' {
+            return Ok(None);
+        }
+        return decoded_within(alloc, tape, piece, at);
+    }
+    let found = if low {
+        Some(ascii_between(piece, at, to))
+    } else {
+        text_between(piece, at, to)
+    };
+    match found {
+        Some(text) => Ok(Some((copy_text(alloc, text)?, to + 1))),
+        None => Ok(None),
+    }
+}
+
+impl PartialString {
+    /// Returns a string of which only the opening quote was read. Does not allocate.
+    pub fn new(alloc: Global) -> PartialString
+        ensures { HasTaken result [] }
+    {
+        PartialString {
+            text: PartialText::new(alloc),
+            escape: None,
+        }
+    }
+
+    // Takes the next byte of the incomplete escape.
+    #[inline(never)]
+    fn spell(&mut self, piece: &[u8], at: usize) -> Result<Went, AllocFailed>
+        requires within { at < length piece.now }
+        requires open { ¬ (self.old.escape ≡ None) }
+        ensures goes { (w : List ℕ) → HasTaken self.old w → IfOk result (Goes self.new w piece.now at) }
+        ensures part { IfOk result (IsPart piece.now at) }
+        ensures refused { OnErr result (self.new ≡ self.old) }
+    {
+        let Some(escape) = &mut self.escape else {
+            unreachable!();
+        };
+        match escape.next(piece[at]) {
+            Spelled::Part => {}
+            Spelled::Whole(c) => {
+                self.text.add_char(c)?;
+                self.escape = None;
+            }
+            Spelled::Wrong(kind, after) => {
+                return Ok(Went::Wrong(kind, escape.count() - after));
+            }
+        }
+        Ok(Went::Taken(1))
+    }
+
+    // A truncated escape is kept for the next chunk. Of a wrong one only the backslash is taken: the next calls read
+    // the other bytes one by one, up to the error.
+    fn take_long_escape(&mut self, piece: &[u8], at: usize) -> Result<usize, AllocFailed>
+        requires within { at < length piece.now }
+        requires none { self.old.escape ≡ None }
+        requires backslash { slice_get piece.now at ≡ Some ascii.backslash }
+        ensures taken { (w : List ℕ) → HasTaken self.old w → IfOk result (HasTakenFrom self.new w piece.now at) }
+        ensures part { IfOk result (IsCountAt piece.now at) }
+        ensures refused { OnErr result (self.new ≡ self.old) }
+    {
+        let rest = &piece[at..];
+        match next_event(rest, 0) {
+            StringEvent::Escape(c, end) => {
+                self.text.add_char(c)?;
+                Ok(end)
+            }
+            StringEvent::End(StringEnd::Cut) => {
+                self.escape = Some(PartialEscape::cut(rest));
+                Ok(rest.len())
+            }
+            StringEvent::End(_) => {
+                self.escape = Some(PartialEscape::new());
+                Ok(1)
+            }
+        }
+    }
+
+    // The fast path for short escapes.
+    #[inline(always)]
+    fn take_escape(&mut self, piece: &[u8], at: usize) -> Result<usize, AllocFailed>
+        requires within { at < length piece.now }
+        requires none { self.old.escape ≡ None }
+        requires backslash { slice_get piece.now at ≡ Some ascii.backslash }
+        ensures taken { (w : List ℕ) → HasTaken self.old w → IfOk result (HasTakenFrom self.new w piece.now at) }
+        ensures part { IfOk result (IsCountAt piece.now at) }
+        ensures refused { OnErr result (self.new ≡ self.old) }
+    {
+        if piece.len() - at < 2 {
+            return self.take_long_escape(piece, at);
+        }
+        let sign = simple_escape_at(piece, at);
+        if sign == 0 {
+            return self.take_long_escape(piece, at);
+        }
+        self.text.add_char(sign as char)?;
+        Ok(2)
+    }
+
+    // No character is incomplete, so bytes below 80 hex need no test.
+    #[inline(always)]
+    fn plain_whole(&mut self, piece: &[u8], at: usize) -> Result<usize, AllocFailed>
+        requires within { at < length piece.now }
+        requires even { IsEven self.old }
+        requires plain { is_plain (slice_index piece.now at) ≡ true }
+        ensures taken { (w : List ℕ) → HasTaken self.old w → IfOk result (HasTakenFrom self.new w piece.now at) }
+        ensures part { IfOk result (IsCountAt piece.now at) }
+        ensures refused { OnErr result (self.new ≡ self.old) }
+    {
+        let (to, low) = scan_string(piece, at);
+        let run = &piece[at..to];
+        if low {
+            self.text.add_ascii(run)?;
+            return Ok(to - at);
+        }
+        self.text.add(run)
+    }
+
+    // Next to an incomplete character, only a few bytes are read. After a wrong one, nothing is tested.
+    fn plain(&mut self, piece: &[u8], at: usize) -> Result<usize, AllocFailed>
+        requires within { at < length piece.now }
+        requires none { self.old.escape ≡ None }
+        requires plain { is_plain (slice_index piece.now at) ≡ true }
+        ensures taken { (w : List ℕ) → HasTaken self.old w → IfOk result (HasTakenFrom self.new w piece.now at) }
+        ensures part { IfOk result (IsCountAt piece.now at) }
+        ensures refused { OnErr result (self.new ≡ self.old) }
+    {
+        if self.text.is_whole() {
+            return self.plain_whole(piece, at);
+        }
+        let most = if self.text.is_unfinished() {
+            FEW
+        } else {
+            piece.len()
+        };
+        self.text.add(plain_run(piece, at, most))
+    }
+
+    /// Takes bytes of the chunk from `at` on. Returns how many, or what ends the string there. If an allocation fails,
+    /// nothing changes.
+    pub fn next(&mut self, piece: &[u8], at: usize) -> Result<Went, AllocFailed>
+        requires { at < length piece.now }
+        ensures goes { (w : List ℕ) → HasTaken self.old w → IfOk result (Goes self.new w piece.now at) }
+        ensures part { IfOk result (IsPart piece.now at) }
+        ensures refused { OnErr result (self.new ≡ self.old) }
+    {
+        if self.escape.is_some() {
+            return self.spell(piece, at);
+        }
+        match piece[at] {
+            b'"' => Ok(Went::Quote),
+            b'\\' => Ok(Went::Taken(self.take_escape(piece, at)?)),
+            0..=31 => Ok(Went::Wrong(FaultKind::ControlCharacterWhileParsingString, 0)),
+            _ => Ok(Went::Taken(self.plain(piece, at)?)),
+        }
+    }
+
+    /// Returns whether the bytes so far are complete characters and complete escapes.
+    pub fn is_even(&self) -> bool
+        ensures { result ≡ true → IsEven self.now }
+    {
+        self.escape.is_none() && self.text.is_whole()
+    }
+
+    /// Takes bytes that are plain and below 80 hex. If the allocation fails, nothing changes.
+    #[inline(always)]
+    pub fn add_plain(&mut self, bytes: &[u8]) -> Result<(), AllocFailed>
+        requires even { IsEven self.old }
+        requires plain { Pass is_plain_ascii bytes.now }
+        ensures taken { (w : List ℕ) → HasTaken self.old w → OnOk result (HasTaken self.new (w ++ bytes.now)) }
+        ensures ok { OnOk result (self.new ≡ grown self.old bytes.now) }
+        ensures refused { OnErr result (self.new ≡ self.old) }
+        ensures some { OnErr result (0 < length bytes.now) }
+    {
+        self.text.add_ascii(bytes)
+    }
+
+    /// Returns whether the string is UTF-8 if it ends here: with its closing quote, or with the input if `keep` is set.
+    /// With `keep`, an incomplete character at its end is left out.
+    ///
+    /// If the string is not UTF-8, its first wrong byte is after the characters so far.
+    pub fn is_text(&self, keep: bool) -> bool
+        ensures closed { (w : List ℕ) → (h : HasTaken self.now w) → self.now.escape ≡ None
+            → Wherever w (λ t i j. slice_get t j ≡ Some ascii.quote
+            → content_at (text_form keep) t i ≡ text_or result i h.escaped self.now.text.text (j + 1)) }
+        ensures cut { (w : List ℕ) → (h : HasTaken self.now w) → keep ≡ true → Wherever w (λ t i j. length t ≡ j
+            → content_at kept t i
+            ≡ text_or result i (h.escaped || is_some self.now.escape) self.now.text.text j) }
+        ensures kept { keep ≡ true → result ≡ not self.now.text.broken }
+        ensures unclosed { (w : List ℕ) → HasTaken self.now w → Wherever w (λ t i j. length t ≡ j
+            → content_at whole t i ≡ failed eof_string j) }
+    {
+        self.text.is_text(keep)
+    }
+
+    /// Returns the characters so far.
+    pub fn text(&self) -> &str
+        ensures { result.now ≡ self.now.text.text }
+    {
+        self.text.text()
+    }
+
+    /// Moves the characters so far out, so that they can be shown, and leaves none. Does not allocate.
+    pub fn take_text(&mut self) -> String
+        ensures text { string_bytes result ≡ self.old.text.text }
+        ensures rest { self.new.text ≡ with_text self.old.text [] }
+        ensures escape { self.new.escape ≡ self.old.escape }
+    {
+        self.text.take_text()
+    }
+
+    /// Puts back the characters that [`take_text`](PartialString::take_text) returned.
+    pub fn give_back(&mut self, text: String)
+        ensures text { self.new.text ≡ with_text self.old.text (string_bytes text) }
+        ensures escape { self.new.escape ≡ self.old.escape }
+    {
+        self.text.give_back(text);
+    }
+}

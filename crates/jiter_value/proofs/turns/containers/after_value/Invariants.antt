@@ -1,0 +1,23 @@
+use Rattle.std.proofs.Common.{◌≡◌, ◌≤◌, length}
+use Rattle.jiter_value.specs.Size.{after_size}
+use Rattle.jiter_value.specs.Stacks.{after, Stands, LeavesKeys}
+use Rattle.jiter_value.specs.Turns.{left}
+use Rattle.jiter_value.specs.declared.stacks.Slot.TheVariants as slot
+use Rattle.jiter_value.proofs.turns.containers.after_value.Given as goal
+
+abbrev pub invariant-closing : goal.invariant-closing
+invariant-closing g l =
+    (l.fn.from ≤ l.at) × (l.at ≤ length l.fn.bytes)
+    ×
+    (after g.T.StringStorage.made l.fn.reading.settings l.fn.bytes l.fn.reading.stacks l.fn.slot l.fn.from ≡ after g.T.StringStorage.made l.fn.reading.settings
+    l.fn.bytes l.reading.stacks l.inside
+    l.at)
+    × Stands l.reading.stacks l.inside × (length l.reading.stacks.nest.items ≤ 200)
+    × (left l.fn.bytes l.reading.stacks l.at ≤ left l.fn.bytes l.fn.reading.stacks l.fn.from)
+    × (after_size l.reading.stacks l.inside ≡ after_size l.fn.reading.stacks l.fn.slot)
+    × (l.fn.slot ≡ slot.Root → l.inside ≡ slot.Root)
+    × LeavesKeys l.fn.reading.stacks.members.items l.reading.stacks.members.items
+    × (l.reading.settings ≡ l.fn.reading.settings)
+
+abbrev pub decreases-closing : goal.decreases-closing
+decreases-closing g l = length l.reading.stacks.nest.items

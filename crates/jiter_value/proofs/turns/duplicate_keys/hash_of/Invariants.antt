@@ -1,0 +1,7 @@
+use Rattle.std.proofs.Common.{◌≡◌, drop}
+use Rattle.jiter_value.specs.DuplicateKeys.{hash_of, mark_on}
+use Rattle.jiter_value.proofs.turns.duplicate_keys.hash_of.Given as goal
+
+abbrev pub invariant-loop-i : goal.invariant-loop-i
+invariant-loop-i l =
+    mark_on l.mark (drop l.i l.bytes) ≡ hash_of l.key

@@ -1,0 +1,8 @@
+use Rattle.std.proofs.Common.{◌≡◌}
+use Rattle.jiter_value.specs.DuplicateKeys.{IsUpToDate}
+use Rattle.jiter_value.specs.Stacks.{keys_of}
+use Rattle.jiter_value.proofs.turns.duplicate_keys.index_new_members.Given as goal
+
+abbrev pub invariant-loop-i : goal.invariant-loop-i
+invariant-loop-i l =
+    IsUpToDate (keys_of l.members.items) l.set × (l.set.end ≡ l.i) × (l.set.base ≡ l.fn.set.base)
