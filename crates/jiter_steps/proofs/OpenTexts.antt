@@ -47,7 +47,7 @@ pub rest-none : (w : List ℕ) (n : ℕ) → IsValidUpTo w n → BeginsNoText (d
 rest-none w n v zero u = refl
 rest-none w n v (suc m) u =
     absurd (v.longest (n + suc m) (omega arith)
-    (subst IsUtf8 (sym (take-add n (suc m) w)) (IsUtf8-append (take n w) (take (suc m) (drop n w)) v.prefix u)))
+    (subst IsUtf8 (sym (take-add n (suc m) w)) (IsUtf8-append (take n w) (take (suc m) (drop n w)) v.front u)))
 
 module _ (text w : List ℕ) (u : IsUtf8 text) (none : BeginsNoText w) where
   -- no longer prefix than the text itself is one
@@ -72,7 +72,7 @@ module _ (text w : List ℕ) (u : IsUtf8 text) (none : BeginsNoText w) where
   valid-some : 0 < length w → IsValidUpTo (text ++ w) (length text)
   valid-some some = record {
     short = omega (arith, length-append text w);
-    prefix = subst IsUtf8 (sym (take-append_seam text w)) u;
+    front = subst IsUtf8 (sym (take-append_seam text w)) u;
     longest = λ m h t.
         let at : m ≡ length text + (m - length text) = omega arith in
         some-taken (m - length text) w (omega arith) some

@@ -17,7 +17,7 @@ ghost use Rattle.jiter_value.specs.declared.stacks.Stacks.{Stacks as StacksView}
 use crate::settings::Settings;
 use crate::stacks::{Slot, Stacks, State, take_error, take_root};
 use crate::texts::StringStorage;
-use crate::turns::containers::{after, begin};
+use crate::turns::containers::{after_value, begin};
 use crate::turns::general::{slow_key, slow_scalar};
 use crate::turns::plain::{Plain, fast_put_key, fast_put_scalar};
 use crate::value::JsonValue;

@@ -84,7 +84,7 @@ module _ (text w : List ℕ) (u : IsUtf8 text) (f : IsPrefix w) where
   valid-some : 0 < length w → IsValidUpTo (text ++ w) (length text)
   valid-some some = record {
     short = omega (arith, length-append text w);
-    prefix = subst IsUtf8 (sym (take-append_seam text w)) u;
+    front = subst IsUtf8 (sym (take-append_seam text w)) u;
     longest = λ m h t.
         let l = take m (text ++ w) in
         let long = length-take m (text ++ w) in

@@ -37,7 +37,7 @@ module _ (names : Bool) (t : List ℕ) where
         record {
           before = subst (IsBlank u 0) (sym here.1.0.begins) blanks;
           spelled = here.1.0.spelled;
-          later = no-blanks u (end here.0) (length u) here.1.0.ends (omega arith);
+          after = no-blanks u (end here.0) (length u) here.1.0.ends (omega arith);
           limit = here.1.1;
         },
       ))
@@ -62,7 +62,7 @@ module _ (names : Bool) (t : List ℕ) where
       let document : IsDocument names u n = record {
         before = subst (IsBlank u 0) (sym begins) (blanks-too t u x same 0 i (omega arith) before);
         spelled = spells-too names t u x same n (omega arith) is.0.spelled;
-        later = subst (λ k. IsBlank u k (length u)) (sym ends) after;
+        after = subst (λ k. IsBlank u k (length u)) (sym ends) after;
         limit = is.1;
       } in
       record { filler = []; closers = []; is_filler = inl refl; are_closers = tt; within = within; is = (n, document) }

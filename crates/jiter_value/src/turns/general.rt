@@ -22,7 +22,7 @@ use crate::settings::{Settings, forgives};
 use crate::stacks::{Slot, Stacks, State, give_up, no_memory, put, too_deep};
 use crate::texts::StringStorage;
 use crate::turns::Reading;
-use crate::turns::containers::{after, close_and_go_on};
+use crate::turns::containers::{after_value, close_and_go_on};
 use crate::turns::scalar::scalar;
 use crate::value::JsonValue;
 use jiter_scan::errors::Fault;
