@@ -15,7 +15,7 @@ returns-in-Ok-put-clause-leads g c =
     let one = c.in-Ok.ensures.one in
     let ahead = c.in-Ok.ensures.ahead in
     let nest = c.put.ensures.nest in
-    leads-weaker c.after.ensures.leads (omega (arith, ahead)) (omega (arith, ahead, ap length (ap (λ n. n.items) nest)))
+    leads-weaker c.after_value.ensures.leads (omega (arith, ahead)) (omega (arith, ahead, ap length (ap (λ n. n.items) nest)))
     (omega (arith, put.held, one))
     (value-read g.T.StringStorage.made a.reading.now.settings a.bytes.now a.reading.now.stacks a.slot c.requires.at_value.0 c.requires.at_value.1
     a.at
@@ -35,5 +35,5 @@ returns-in-Err-Fault-clause-leads g c =
 
 pub returns-in-Ok-put-clause-keys : goal.returns-in-Ok-put-clause-keys
 returns-in-Ok-put-clause-keys g c =
-    leaves-on c.after.new.reading.stacks c.after.result.1 c.args.reading.now.stacks.members.items c.put.new.stacks.members.items _
-    c.in-Ok-put.ensures.keys c.after.ensures.keys
+    leaves-on c.after_value.new.reading.stacks c.after_value.result.1 c.args.reading.now.stacks.members.items c.put.new.stacks.members.items _
+    c.in-Ok-put.ensures.keys c.after_value.ensures.keys
