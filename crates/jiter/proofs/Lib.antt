@@ -6,7 +6,7 @@ pub mod Integers
 pub mod Members
 pub mod OwnedTrees
 pub mod Peeking
-pub mod PlainReplies
+pub mod FastReplies
 pub mod ReadLaws
 pub mod Refusals
 pub mod SkipReplies

@@ -12,7 +12,7 @@ ghost use Rattle.jiter.specs.Jiter.{StandsAt, BeginsAs, byte_of};
 ghost use Rattle.jiter.specs.Reads.{Reads, never};
 
 use crate::errors::{JiterError, JiterErrorType, JiterResult, JsonType};
-use crate::jiter::plain::look;
+use crate::jiter::fast::look;
 use crate::peek::Peek;
 use jiter_scan::errors::{Fault, FaultKind, fault_at};
 use jiter_scan::number_decoder::number_at;
@@ -25,10 +25,10 @@ use std::borrow::CowStr;
 use std::marker::Model;
 
 mod arrays;
+mod fast;
 mod objects;
 mod owned_values;
 mod places;
-mod plain;
 mod scalars;
 mod skips;
 mod texts;

@@ -26,7 +26,7 @@ pub mod PlainRuns
 pub mod AsciiRuns
 pub mod DigitWords
 pub mod Magnitudes
-pub mod PlainNumbers
+pub mod FastNumbers
 pub mod Tapes
-pub mod PlainNumberValues
+pub mod FastNumberValues
 pub mod OverlaidTexts

@@ -20,5 +20,5 @@ pub mod Extends
 pub mod Frames
 pub mod FirstFault
 pub mod Skip
-pub mod Plain
+pub mod Fast
 pub mod Unique

@@ -12,8 +12,8 @@ ghost use Rattle.jiter_steps.specs.StringReading.{string_at, raw};
 ghost use Rattle.jiter_steps.specs.declared.parse.Start.{Start};
 
 use crate::blank::past_blanks;
+use crate::fast::{fast_colon, fast_literal_end};
 use crate::parse::{ContainerKind, Literal};
-use crate::plain::{fast_colon, fast_literal_end};
 use crate::raw_string::closed_end;
 use jiter_scan::number_extent::{NUMBER_REACH, padded_number_end};
 use jiter_scan::simd::stops;

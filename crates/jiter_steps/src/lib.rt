@@ -5,13 +5,13 @@
 pub mod blank;
 mod characters;
 mod escape;
+pub mod fast;
 mod fast_skip;
 mod held;
 pub mod parse;
 pub mod partial_escape;
 pub mod partial_string;
 pub mod partial_text;
-pub mod plain;
 pub mod raw_string;
 pub mod read_error;
 pub mod skip;

@@ -13,9 +13,9 @@ ghost use Rattle.jiter_steps.specs.StringDecoder.{WantsMemory};
 ghost use Rattle.jiter_steps.specs.StringReading.{content_at, kept, text_form, whole};
 
 use crate::escape::{StringEnd, StringEvent, next_event, simple_escape_at};
+use crate::fast::{ascii_between, text_between};
 use crate::partial_escape::{PartialEscape, Spelled};
 use crate::partial_text::{FEW, PartialText};
-use crate::plain::{ascii_between, text_between};
 use crate::string_decoder::decode_whole;
 use jiter_scan::errors::FaultKind;
 use jiter_scan::memory::{AllocFailed, copy_text};

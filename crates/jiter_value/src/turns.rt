@@ -18,8 +18,8 @@ use crate::settings::Settings;
 use crate::stacks::{Slot, Stacks, State, take_error, take_root};
 use crate::texts::StringStorage;
 use crate::turns::containers::{after_value, begin};
+use crate::turns::fast::{Plain, fast_put_key, fast_put_scalar};
 use crate::turns::general::{slow_key, slow_scalar};
-use crate::turns::plain::{Plain, fast_put_key, fast_put_scalar};
 use crate::value::JsonValue;
 use jiter_steps::parse::{ContainerKind, NESTING_LIMIT, Parser};
 use jiter_steps::read_error::ReadError;
@@ -27,8 +27,8 @@ use std::alloc::Global;
 
 pub(crate) mod containers;
 pub(crate) mod duplicate_keys;
+pub(crate) mod fast;
 pub(crate) mod general;
-pub(crate) mod plain;
 pub(crate) mod scalar;
 pub(crate) mod unique;
 

@@ -3,7 +3,7 @@ ghost use Rattle.std.specs.Prelude.{◌<◌, length};
 
 use jiter_scan::simd::scan_string;
 use jiter_scan::word::byte_at;
-use jiter_steps::plain::{fast_string_end, text_between};
+use jiter_steps::fast::{fast_string_end, text_between};
 use jiter_steps::raw_string::{raw_string_at, string_end};
 use jiter_steps::read_error::ReadError;
 use jiter_steps::string_decoder::string_at;

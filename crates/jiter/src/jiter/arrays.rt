@@ -8,7 +8,7 @@ ghost use Rattle.jiter.specs.Jiter.{Replies, RefusesBytes, BeginsAs, StandsAt, T
 ghost use Rattle.jiter.specs.Reads.{Reads, never};
 
 use crate::errors::{JiterResult, JsonType};
-use crate::jiter::plain::next_item;
+use crate::jiter::fast::next_item;
 use crate::jiter::{Jiter, refusal};
 use crate::peek::Peek;
 use jiter_scan::errors::Fault;

@@ -16,7 +16,7 @@ use Rattle.jiter_steps.proofs.Reading.Bodies.{body_at-event_by, part-ahead}
 use Rattle.std.specs.Char.{encode_utf8, IsScalar}
 use Rattle.jiter_steps.specs.Escape.{short_escape, is_high, is_low}
 use Rattle.jiter_steps.proofs.Calls.PlainRuns.{plain_run_prefix}
-use Rattle.jiter_steps.proofs.Calls.PlainAnswers.{plain-utf8}
+use Rattle.jiter_steps.proofs.Calls.FastAnswers.{plain-utf8}
 
 -- Escapes that one look shows to be whole, and no pair.
 module _ (t : List ℕ) (i : ℕ) (backslash : slice_get t i ≡ Some 92) where

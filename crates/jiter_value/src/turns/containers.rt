@@ -4,7 +4,7 @@ ghost use Rattle.std.specs.Prelude.{slice_index, true, false};
 ghost use Rattle.jiter_steps.specs.Literal.{start_of};
 ghost use Rattle.jiter_steps.specs.Node.{nesting_limit};
 ghost use Rattle.jiter_steps.specs.Parse.{Steps};
-ghost use Rattle.jiter_steps.specs.Plain.{IsNext, IsStuckAt};
+ghost use Rattle.jiter_steps.specs.Fast.{IsNext, IsStuckAt};
 ghost use Rattle.jiter_steps.specs.Read.{done};
 ghost use Rattle.jiter_steps.specs.ReadError.{WhereRefused};
 ghost use Rattle.jiter_steps.specs.Step.{Step, step, more, container_first, opening};
@@ -23,8 +23,8 @@ use crate::turns::Reading;
 use crate::value::JsonValue;
 use jiter_scan::errors::Fault;
 use jiter_scan::memory::{AllocFailed, push_small};
+use jiter_steps::fast::{Next, fast_first, fast_step};
 use jiter_steps::parse::{ContainerKind, NESTING_LIMIT, Parser};
-use jiter_steps::plain::{Next, fast_first, fast_step};
 use jiter_steps::read_error::ReadError;
 use std::alloc::Global;
 

@@ -1,6 +1,6 @@
 use Rattle.std.proofs.Common.{get_or, sym, ◌∙◌, arith}
 use Rattle.std.proofs.lemmas.Option.{IfSome_then, slice_get-get_or}
-use Rattle.jiter_scan.proofs.PlainNumbers.{exponent_at-run, exponent_at-none}
+use Rattle.jiter_scan.proofs.FastNumbers.{exponent_at-run, exponent_at-none}
 use Rattle.jiter_scan.proofs.fast_number.fast_exponent_end.Goals as goal
 
 pub returns-then-not-is_exponent_letter : goal.returns-then-not-is_exponent_letter

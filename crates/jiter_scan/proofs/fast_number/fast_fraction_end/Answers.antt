@@ -2,7 +2,7 @@ use Rattle.std.proofs.Common.{◌+◌, get_or, ap, ◌∙◌, arith}
 use Rattle.std.specs.Prelude.{Some}
 use Rattle.std.proofs.lemmas.Bool.{ne_eqb}
 use Rattle.std.proofs.lemmas.Option.{IfSome_then, slice_get-get_or}
-use Rattle.jiter_scan.proofs.PlainNumbers.{digits-counted, digits-of_chunk, fraction_at-run, fraction_at-none}
+use Rattle.jiter_scan.proofs.FastNumbers.{digits-counted, digits-of_chunk, fraction_at-run, fraction_at-none}
 use Rattle.jiter_scan.proofs.fast_number.fast_fraction_end.Goals as goal
 
 pub returns-then-bytes-at-ne46-clause-end : goal.returns-then-bytes-at-ne46-clause-end

@@ -6,8 +6,8 @@ use Rattle.jiter_scan.specs.NumberReading.{is_float_sign}
 use Rattle.jiter_scan.proofs.Magnitudes.{decimal_of-few, magnitude_of-short}
 use Rattle.jiter_scan.proofs.NumberExtents.{decimal_at-tail}
 use Rattle.jiter_scan.proofs.NumberValues.{number_value-tail}
-use Rattle.jiter_scan.proofs.PlainNumbers.{digits-counted, digits-of_chunk, int_part_at-counted, decimal_at-int_part}
-use Rattle.jiter_scan.proofs.PlainNumbers.{tail-place}
+use Rattle.jiter_scan.proofs.FastNumbers.{digits-counted, digits-of_chunk, int_part_at-counted, decimal_at-int_part}
+use Rattle.jiter_scan.proofs.FastNumbers.{tail-place}
 use Rattle.jiter_scan.proofs.fast_number.padded_number_at.Goals as goal
 use Rattle.jiter_scan.proofs.fast_number.padded_number_at.Goals.{then-count-eq0-via-then-count-eq0}
 use Rattle.jiter_scan.proofs.fast_number.padded_number_at.Goals.{then-count-eq0-via-else-count-eq0+then-count-ne1}

@@ -3,7 +3,7 @@ use Rattle.jiter_scan.specs.Number.{float}
 use Rattle.jiter_scan.specs.Scanned.{taken}
 use Rattle.jiter_scan.proofs.NumberBytes.{IsAscii-decimal}
 use Rattle.jiter_scan.proofs.NumberExtents.{extent-signed}
-use Rattle.jiter_scan.proofs.PlainNumberValues.{number_at-extent, short-signed_float}
+use Rattle.jiter_scan.proofs.FastNumberValues.{number_at-extent, short-signed_float}
 use Rattle.jiter_scan.proofs.number_decoder.number_at.Goals as goal
 
 pub ascii_text-text-requires : goal.ascii_text-text-requires

@@ -3,7 +3,7 @@ use Rattle.jiter_scan.specs.Number.{float}
 use Rattle.jiter_scan.specs.NumberExtent.{IsExtent, extent_end}
 use Rattle.jiter_scan.specs.NumberReading.{number_at, with_value}
 use Rattle.jiter_scan.specs.Scanned.{taken}
-use Rattle.jiter_scan.proofs.PlainNumberValues.{number_at-extent}
+use Rattle.jiter_scan.proofs.FastNumberValues.{number_at-extent}
 use Rattle.jiter_scan.proofs.number_decoder.slow_number_at.Goals as goal
 
 pub returns-in-Ok-Int-clause-value : goal.returns-in-Ok-Int-clause-value

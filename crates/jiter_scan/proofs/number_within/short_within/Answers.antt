@@ -4,7 +4,7 @@ use Rattle.jiter_scan.specs.Number.{float, integer, minus_of}
 use Rattle.jiter_scan.specs.NumberWithin.{EndsWithin}
 use Rattle.jiter_scan.proofs.NumberBytes.{IsAscii-decimal}
 use Rattle.jiter_scan.proofs.NumberEnds.{ends-within}
-use Rattle.jiter_scan.proofs.PlainNumberValues.{short-signed, short-signed_float}
+use Rattle.jiter_scan.proofs.FastNumberValues.{short-signed, short-signed_float}
 use Rattle.jiter_scan.proofs.number_within.short_within.Goals as goal
 
 pub returns-then-ends_number : goal.returns-then-ends_number

@@ -1,5 +1,5 @@
 use Rattle.std.proofs.Common.{◌∙◌, arith}
-use Rattle.jiter_steps.proofs.Calls.PlainSkips.{empty-ends}
+use Rattle.jiter_steps.proofs.Calls.FastSkips.{empty-ends}
 use Rattle.jiter_steps.proofs.fast_skip.empty_end.Goals as goal
 
 pub returns-then-bytes-at-clause-value : goal.returns-then-bytes-at-clause-value

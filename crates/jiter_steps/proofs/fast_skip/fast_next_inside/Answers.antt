@@ -1,5 +1,5 @@
 use Rattle.std.proofs.Common.{◌∙◌, sym, arith}
-use Rattle.jiter_steps.proofs.Calls.PlainSkips.{some-as, plain-comma}
+use Rattle.jiter_steps.proofs.Calls.FastSkips.{some-as, plain-comma}
 use Rattle.jiter_steps.proofs.fast_skip.fast_next_inside.Goals as goal
 
 pub returns-in-Some-clause-value : goal.returns-in-Some-clause-value

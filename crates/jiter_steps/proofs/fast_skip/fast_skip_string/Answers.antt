@@ -1,4 +1,4 @@
-use Rattle.jiter_steps.proofs.Calls.PlainSkips.{some-as, string-ends}
+use Rattle.jiter_steps.proofs.Calls.FastSkips.{some-as, string-ends}
 use Rattle.jiter_steps.proofs.fast_skip.fast_skip_string.Goals as goal
 
 pub returns-clause-value : goal.returns-clause-value

@@ -1,6 +1,6 @@
 use Rattle.std.proofs.Common.{◌∷◌, ◌∙◌, refl, arith}
 use Rattle.jiter_steps.specs.Skip.{frame_of}
-use Rattle.jiter_steps.proofs.Calls.PlainSkips.{plain-next, plain-passed, leads-from}
+use Rattle.jiter_steps.proofs.Calls.FastSkips.{plain-next, plain-passed, leads-from}
 use Rattle.jiter_steps.proofs.fast_skip.known_fast_run.Goals as goal
 
 pub parts-init : goal.parts-init

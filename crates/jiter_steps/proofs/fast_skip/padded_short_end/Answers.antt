@@ -1,4 +1,4 @@
-use Rattle.jiter_steps.proofs.Calls.PlainSkips.{some-as, number-ends}
+use Rattle.jiter_steps.proofs.Calls.FastSkips.{some-as, number-ends}
 use Rattle.jiter_steps.proofs.fast_skip.padded_short_end.Goals as goal
 
 pub returns-clause-value : goal.returns-clause-value

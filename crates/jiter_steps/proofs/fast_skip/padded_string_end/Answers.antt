@@ -1,4 +1,4 @@
-use Rattle.jiter_steps.proofs.Calls.PlainSkips.{some-as, string-ends}
+use Rattle.jiter_steps.proofs.Calls.FastSkips.{some-as, string-ends}
 use Rattle.jiter_steps.proofs.fast_skip.padded_string_end.Goals as goal
 
 pub returns-clause-value : goal.returns-clause-value

@@ -1,5 +1,5 @@
 use Rattle.std.proofs.Common.{arith}
-use Rattle.jiter_steps.proofs.Calls.PlainSkips.{colon-stands}
+use Rattle.jiter_steps.proofs.Calls.FastSkips.{colon-stands}
 use Rattle.jiter_steps.proofs.fast_skip.tail_colon.Goals as goal
 
 pub returns-then-bytes-from-gt32-clause-value : goal.returns-then-bytes-from-gt32-clause-value

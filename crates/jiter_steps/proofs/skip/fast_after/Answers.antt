@@ -1,5 +1,5 @@
 use Rattle.std.proofs.Common.{◌<◌, ◌∙◌, refl, true, false, arith}
-use Rattle.jiter_steps.proofs.Calls.PlainSkips.{run-leads, end-leads}
+use Rattle.jiter_steps.proofs.Calls.FastSkips.{run-leads, end-leads}
 use Rattle.jiter_steps.proofs.skip.fast_after.Goals as goal
 
 pub closing-init : goal.closing-init

@@ -1,6 +1,6 @@
 use Rattle.std.proofs.Common.{false, true, ap, arith}
 use Rattle.jiter_steps.specs.Literal.{start_of}
-use Rattle.jiter_steps.proofs.Calls.PlainSkips.{plain-opens}
+use Rattle.jiter_steps.proofs.Calls.FastSkips.{plain-opens}
 use Rattle.jiter_steps.proofs.skip.fast_open.Goals as goal
 
 pub returns-in_ok-next-in-91-clause-leads : goal.returns-in_ok-next-in-91-clause-leads

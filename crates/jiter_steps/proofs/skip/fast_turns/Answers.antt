@@ -1,5 +1,5 @@
 use Rattle.std.proofs.Common.{◌∙◌, Bool, refl, sym, ap, true, false, arith}
-use Rattle.jiter_steps.proofs.Calls.PlainSkips.{plain-passed, continues-told}
+use Rattle.jiter_steps.proofs.Calls.FastSkips.{plain-passed, continues-told}
 use Rattle.jiter_steps.proofs.Calls.Skipping.{length-open_frames}
 use Rattle.jiter_steps.specs.Answer.{only_ends}
 use Rattle.jiter_steps.specs.Frames.{value_from}

@@ -1,5 +1,5 @@
 use Rattle.std.specs.Prelude.{false}
-use Rattle.jiter.proofs.PlainReplies.{key-colon}
+use Rattle.jiter.proofs.FastReplies.{key-colon}
 use Rattle.jiter.proofs.jiter.Jiter.fast_key_at.Goals as goal
 
 pub returns-in_default-Some-eq58-clause-value : goal.returns-in_default-Some-eq58-clause-value

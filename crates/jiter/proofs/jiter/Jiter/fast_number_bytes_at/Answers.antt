@@ -1,4 +1,4 @@
-use Rattle.jiter.proofs.PlainReplies.{number-bytes, number-starts}
+use Rattle.jiter.proofs.FastReplies.{number-bytes, number-starts}
 use Rattle.jiter.proofs.jiter.Jiter.fast_number_bytes_at.Goals as goal
 
 pub returns-clause-value : goal.returns-clause-value

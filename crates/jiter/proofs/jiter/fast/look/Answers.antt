@@ -1,0 +1,12 @@
+use Rattle.std.proofs.Common.{arith, sym}
+use Rattle.jiter_steps.proofs.Grammar.Blanks.{past_blanks-above}
+use Rattle.jiter_steps.proofs.Grammar.Places.{got}
+use Rattle.jiter.proofs.jiter.fast.look.Goals as goal
+
+pub returns-then-byte-gt32-clause-place : goal.returns-then-byte-gt32-clause-place
+returns-then-byte-gt32-clause-place c =
+    sym (past_blanks-above c.args.bytes.now c.args.from (omega (arith, c.if-from-bytes.true))
+    (omega (arith, c.if-byte-gt32.true)))
+
+pub returns-then-byte-gt32-clause-byte : goal.returns-then-byte-gt32-clause-byte
+returns-then-byte-gt32-clause-byte c = sym (got c.args.bytes.now c.args.from (omega (arith, c.if-from-bytes.true)))

@@ -1,0 +1,323 @@
+//! The fast path: scalars and keys that one look shows, if their stack has the capacity. All results stay in registers.
+ghost use Rattle.std.specs.Prelude.{◌≡◌, ◌+◌, ◌^◌, ◌≤◌, ◌<◌, ◌⊎◌, length, pos, slice_get, slice_index, Some};
+ghost use Rattle.std.specs.Prelude.{if◌then◌else◌, vec_len, vec_capacity};
+ghost use Rattle.jiter_scan.specs.Ascii as ascii;
+ghost use Rattle.jiter_scan.specs.Number.{minus_of};
+ghost use Rattle.jiter_scan.specs.Scan.{scan_stop};
+ghost use Rattle.jiter_steps.specs.Literal.{start_of};
+ghost use Rattle.jiter_steps.specs.Node.{nesting_limit};
+ghost use Rattle.jiter_steps.specs.StringDecoder.{WantsMemory};
+ghost use Rattle.jiter_steps.specs.Tree.{int};
+ghost use Rattle.jiter_steps.specs.declared.parse.Start.{Start};
+ghost use Rattle.jiter_steps.specs.declared.read_error.ReadError.TheVariants as error;
+ghost use Rattle.jiter_value.specs.Stacks.{Stands, StandsAtKey, IsFree, HasRoom, KeepsKeys, LeavesKeys};
+ghost use Rattle.jiter_value.specs.declared.stacks.State.TheVariants as state;
+ghost use Rattle.jiter_value.specs.Turns.{IsAtValue, IsPutAt, IsKeyAt, IsRefusedAt};
+ghost use Rattle.jiter_value.specs.Value.{view, MayGrowBy};
+
+use crate::stacks::{Slot, Stacks, has_room, put_reserved};
+use crate::texts::{StringStorage, keep_decoded, keep_lent};
+use crate::turns::Reading;
+use crate::value::JsonValue;
+use jiter_scan::fast_number::{FastNumber, fast_number_at};
+use jiter_scan::memory::AllocFailed;
+use jiter_scan::number_extent::minus_end;
+use jiter_scan::simd::scan_string;
+use jiter_scan::text::{ascii_text, utf8_text};
+use jiter_steps::fast::{
+    ascii_between, fast_colon, fast_literal_end, fast_string_end, text_between,
+};
+use jiter_steps::parse::Literal;
+use jiter_steps::read_error::ReadError;
+use jiter_steps::string_decoder::decode_whole;
+use std::alloc::Global;
+
+/// What the fast path did at a scalar or a key.
+#[derive(Clone, Copy, Debug)]
+pub enum Plain {
+    /// Put it onto its stack.
+    Put,
+    /// Left it to the slow path, because it isn't plain or there is no capacity. The stacks are unchanged.
+    Other,
+    /// Stopped the reading, because an allocation for its text failed.
+    AllocFailed,
+}
+
+#[cold]
+#[inline(never)]
+fn refused_at(stacks: &mut Stacks<'_>, refused: AllocFailed, at: usize) -> (usize, Plain)
+    ensures place { result ≡ (at, Plain.AllocFailed) }
+    ensures error { stacks.new.error ≡ error.Memory refused }
+{
+    stacks.error = ReadError::Memory(refused);
+    (at, Plain::AllocFailed)
+}
+
+// Puts a string without a backslash that isn't all ASCII, if it is UTF-8. Returns the index after it.
+#[cold]
+#[inline(never)]
+fn fast_put_utf8<'s, T: StringStorage<'s>>(
+    texts: T,
+    stacks: &mut Stacks<'s>,
+    bytes: &[u8],
+    at: usize,
+    to: usize,
+    slot: Slot,
+) -> (usize, Plain)
+    requires texts { T.of texts bytes.now }
+    requires stands { Stands stacks.old slot }
+    requires few { length stacks.old.nest.items ≤ nesting_limit }
+    requires room { HasRoom stacks.old slot }
+    requires begins { start_of (slice_index bytes.now at) ≡ Start.String }
+    requires within { (at < to) × (to < length bytes.now) }
+    requires stop { to ≡ scan_stop bytes.now (at + 1) }
+    requires quote { slice_get bytes.now to ≡ Some ascii.quote }
+    ensures put { result.1 ≡ Plain.Put → IsPutAt T.made bytes.now stacks.old at slot stacks.new result.0 }
+    ensures other { result.1 ≡ Plain.Other → stacks.new ≡ stacks.old }
+    ensures refused { result.1 ≡ Plain.AllocFailed → IsRefusedAt bytes.now at stacks.new result.0 }
+    ensures memory { result.1 ≡ Plain.AllocFailed → T.wants }
+    ensures keys { result.1 ≡ Plain.Put → LeavesKeys stacks.old.members.items stacks.new.members.items }
+{
+    let Some(plain) = text_between(bytes, at, to) else {
+        return (at, Plain::Other);
+    };
+    match keep_lent(texts, bytes, at + 1, plain) {
+        Ok(text) => {
+            put_reserved(stacks, slot, JsonValue::Str(text));
+            (to + 1, Plain::Put)
+        }
+        Err(refused) => refused_at(stacks, refused, to + 1),
+    }
+}
+
+// Puts a string with a backslash, decoded, and returns the index after it. If it has an error, the slow path reads it
+// again.
+#[cold]
+#[inline(never)]
+fn put_decoded_text<'s, T: StringStorage<'s>>(
+    alloc: Global,
+    texts: T,
+    tape: &mut Vec<u8>,
+    stacks: &mut Stacks<'s>,
+    bytes: &[u8],
+    at: usize,
+    slot: Slot,
+) -> (usize, Plain)
+    requires texts { T.of texts bytes.now }
+    requires at_value { IsAtValue bytes.now stacks.old slot at }
+    requires room { HasRoom stacks.old slot }
+    requires begins { start_of (slice_index bytes.now at) ≡ Start.String }
+    requires backslash { WantsMemory bytes.now at }
+    ensures put { result.1 ≡ Plain.Put → IsPutAt T.made bytes.now stacks.old at slot stacks.new result.0 }
+    ensures other { result.1 ≡ Plain.Other → stacks.new ≡ stacks.old }
+    ensures refused { result.1 ≡ Plain.AllocFailed → IsRefusedAt bytes.now at stacks.new result.0 }
+    ensures keys { result.1 ≡ Plain.Put → LeavesKeys stacks.old.members.items stacks.new.members.items }
+{
+    match decode_whole(tape, bytes, at) {
+        Ok((count, end)) => {
+            let decoded = utf8_text(&tape.as_slice()[..count]);
+            match keep_decoded(alloc, texts, bytes, at + 1, decoded) {
+                Ok(text) => {
+                    put_reserved(stacks, slot, JsonValue::Str(text));
+                    (end, Plain::Put)
+                }
+                Err(refused) => refused_at(stacks, refused, at),
+            }
+        }
+        Err(Some(refused)) => refused_at(stacks, refused, at),
+        Err(None) => (at, Plain::Other),
+    }
+}
+
+// Puts a complete string. Returns the index after it.
+#[inline(always)]
+fn fast_put_text<'s, T: StringStorage<'s>>(
+    alloc: Global,
+    texts: T,
+    tape: &mut Vec<u8>,
+    stacks: &mut Stacks<'s>,
+    bytes: &[u8],
+    at: usize,
+    slot: Slot,
+) -> (usize, Plain)
+    requires texts { T.of texts bytes.now }
+    requires at_value { IsAtValue bytes.now stacks.old slot at }
+    requires room { HasRoom stacks.old slot }
+    requires begins { start_of (slice_index bytes.now at) ≡ Start.String }
+    ensures put { result.1 ≡ Plain.Put → IsPutAt T.made bytes.now stacks.old at slot stacks.new result.0 }
+    ensures other { result.1 ≡ Plain.Other → stacks.new ≡ stacks.old }
+    ensures refused { result.1 ≡ Plain.AllocFailed → IsRefusedAt bytes.now at stacks.new result.0 }
+    ensures memory { result.1 ≡ Plain.AllocFailed → WantsMemory bytes.now at ⊎ T.wants }
+    ensures keys { result.1 ≡ Plain.Put → LeavesKeys stacks.old.members.items stacks.new.members.items }
+{
+    let (to, low) = scan_string(bytes, at + 1);
+    if to >= bytes.len() {
+        return (at, Plain::Other);
+    }
+    if bytes[to] != b'"' {
+        if bytes[to] != b'\\' {
+            return (at, Plain::Other);
+        }
+        return put_decoded_text(alloc, texts, tape, stacks, bytes, at, slot);
+    }
+    if !low {
+        return fast_put_utf8(texts, stacks, bytes, at, to, slot);
+    }
+    match keep_lent(texts, bytes, at + 1, ascii_between(bytes, at, to)) {
+        Ok(text) => {
+            put_reserved(stacks, slot, JsonValue::Str(text));
+            (to + 1, Plain::Put)
+        }
+        Err(refused) => refused_at(stacks, refused, to + 1),
+    }
+}
+
+#[inline(always)]
+fn signed<'s>(magnitude: u64, negative: bool) -> JsonValue<'s>
+    requires { magnitude < 2 ^ 63 }
+    ensures { view result ≡ int (if negative then minus_of magnitude else pos magnitude) }
+{
+    let number = magnitude as i64;
+    JsonValue::Int(if negative { 0 - number } else { number })
+}
+
+// Puts a short number. Returns the index after it.
+#[inline(always)]
+fn fast_put_number<'s, T: StringStorage<'s>>(
+    texts: T,
+    stacks: &mut Stacks<'s>,
+    bytes: &[u8],
+    at: usize,
+    slot: Slot,
+) -> (usize, Plain)
+    requires texts { T.of texts bytes.now }
+    requires at_value { IsAtValue bytes.now stacks.old slot at }
+    requires room { HasRoom stacks.old slot }
+    requires begins { start_of (slice_index bytes.now at) ≡ Start.Number }
+    ensures put { result.1 ≡ Plain.Put → IsPutAt T.made bytes.now stacks.old at slot stacks.new result.0 }
+    ensures other { result.1 ≡ Plain.Other → stacks.new ≡ stacks.old }
+    ensures refused { result.1 ≡ Plain.AllocFailed → IsRefusedAt bytes.now at stacks.new result.0 }
+    ensures memory { result.1 ≡ Plain.AllocFailed → T.wants }
+    ensures keys { result.1 ≡ Plain.Put → LeavesKeys stacks.old.members.items stacks.new.members.items }
+{
+    let from = minus_end(bytes, at);
+    match fast_number_at(bytes, from) {
+        FastNumber::Int(magnitude, end) => {
+            put_reserved(stacks, slot, signed(magnitude, from > at));
+            (end, Plain::Put)
+        }
+        FastNumber::Float(end) => {
+            match keep_lent(texts, bytes, at, ascii_text(&bytes[at..end])) {
+                Ok(text) => {
+                    put_reserved(stacks, slot, JsonValue::Float(text));
+                    (end, Plain::Put)
+                }
+                Err(refused) => refused_at(stacks, refused, end),
+            }
+        }
+        FastNumber::Other => (at, Plain::Other),
+    }
+}
+
+// Puts a literal. Returns the index after it.
+#[inline(always)]
+fn fast_put_literal<'s, T: StringStorage<'s>>(
+    stacks: &mut Stacks<'s>,
+    bytes: &[u8],
+    at: usize,
+    slot: Slot,
+    literal: Literal,
+) -> (usize, Plain)
+    requires at_value { IsAtValue bytes.now stacks.old slot at }
+    requires room { HasRoom stacks.old slot }
+    requires begins { start_of (slice_index bytes.now at) ≡ Start.Literal literal }
+    ensures put { result.1 ≡ Plain.Put → IsPutAt T.made bytes.now stacks.old at slot stacks.new result.0 }
+    ensures other { result.1 ≡ Plain.Other → stacks.new ≡ stacks.old }
+    ensures refused { result.1 ≡ Plain.AllocFailed → IsRefusedAt bytes.now at stacks.new result.0 }
+    ensures memory { result.1 ≡ Plain.AllocFailed → ⊥ }
+    ensures keys { result.1 ≡ Plain.Put → LeavesKeys stacks.old.members.items stacks.new.members.items }
+{
+    let Some(end) = fast_literal_end(bytes, at, literal) else {
+        return (at, Plain::Other);
+    };
+    match literal {
+        Literal::Null => put_reserved(stacks, slot, JsonValue::Null),
+        Literal::True => put_reserved(stacks, slot, JsonValue::Bool(true)),
+        Literal::False => put_reserved(stacks, slot, JsonValue::Bool(false)),
+    }
+    (end, Plain::Put)
+}
+
+/// Puts a plain scalar or any complete string into its slot, if there is capacity. Returns the index after it.
+#[inline(always)]
+pub fn fast_put_scalar<'s, T: StringStorage<'s>>(
+    reading: &mut Reading<'s>,
+    texts: T,
+    bytes: &[u8],
+    at: usize,
+    slot: Slot,
+) -> (usize, Plain)
+    requires texts { T.of texts bytes.now }
+    requires at_value { IsAtValue bytes.now reading.old.stacks slot at }
+    ensures put { result.1 ≡ Plain.Put → IsPutAt T.made bytes.now reading.old.stacks at slot reading.new.stacks result.0 }
+    ensures other { result.1 ≡ Plain.Other → reading.new.stacks ≡ reading.old.stacks }
+    ensures refused { result.1 ≡ Plain.AllocFailed → IsRefusedAt bytes.now at reading.new.stacks result.0 }
+    ensures memory { result.1 ≡ Plain.AllocFailed → MayGrowBy T.wants bytes.now at }
+    ensures keys { result.1 ≡ Plain.Put → LeavesKeys reading.old.stacks.members.items reading.new.stacks.members.items }
+    ensures settings { reading.new.settings ≡ reading.old.settings }
+{
+    if !has_room(&reading.stacks, slot) {
+        return (at, Plain::Other);
+    }
+    match bytes[at] {
+        b'"' => fast_put_text(
+            reading.alloc,
+            texts,
+            &mut reading.tape,
+            &mut reading.stacks,
+            bytes,
+            at,
+            slot,
+        ),
+        b'0'..=b'9' | b'-' => fast_put_number(texts, &mut reading.stacks, bytes, at, slot),
+        b'n' => fast_put_literal::<T>(&mut reading.stacks, bytes, at, slot, Literal::Null),
+        b't' => fast_put_literal::<T>(&mut reading.stacks, bytes, at, slot, Literal::True),
+        b'f' => fast_put_literal::<T>(&mut reading.stacks, bytes, at, slot, Literal::False),
+        _ => (at, Plain::Other),
+    }
+}
+
+/// Pushes a plain key, if its colon and a value follow. Returns the index of the value.
+#[inline(always)]
+pub fn fast_put_key<'s, T: StringStorage<'s>>(
+    texts: T,
+    stacks: &mut Stacks<'s>,
+    bytes: &[u8],
+    at: usize,
+) -> (usize, Plain)
+    requires texts { T.of texts bytes.now }
+    requires stands { StandsAtKey stacks.old }
+    requires few { length stacks.old.nest.items ≤ nesting_limit }
+    requires room { vec_len stacks.old.members < vec_capacity stacks.old.members }
+    requires within { at < length bytes.now }
+    requires free { IsFree T.made bytes.now stacks.old at }
+    ensures put { result.1 ≡ Plain.Put → IsKeyAt T.made bytes.now stacks.old at stacks.new result.0 }
+    ensures other { result.1 ≡ Plain.Other → stacks.new ≡ stacks.old }
+    ensures refused { result.1 ≡ Plain.AllocFailed → IsRefusedAt bytes.now at stacks.new result.0 }
+    ensures keys { result.1 ≡ Plain.Put
+        → KeepsKeys T.made bytes.now stacks.old.members.items state.Key at stacks.new.members.items }
+{
+    let Some(to) = fast_string_end(bytes, at) else {
+        return (at, Plain::Other);
+    };
+    let Some(next) = fast_colon(bytes, to + 1) else {
+        return (at, Plain::Other);
+    };
+    match keep_lent(texts, bytes, at + 1, ascii_text(&bytes[at + 1..to])) {
+        Ok(key) => {
+            stacks.members.push_reserved((key, JsonValue::Int(0)));
+            (next, Plain::Put)
+        }
+        Err(refused) => refused_at(stacks, refused, next),
+    }
+}
