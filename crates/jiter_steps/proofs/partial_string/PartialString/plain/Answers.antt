@@ -1,5 +1,5 @@
 use Rattle.jiter_steps.proofs.OpenStrings.{run-goes-if}
-use Rattle.jiter_steps.proofs.partial_string.PartialString.fast.Goals as goal
+use Rattle.jiter_steps.proofs.partial_string.PartialString.plain.Goals as goal
 
 pub returns-clause-taken : goal.returns-clause-taken
 returns-clause-taken c =
