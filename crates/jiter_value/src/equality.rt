@@ -1,10 +1,11 @@
 //! Equality of values, whether their strings, keys and number texts are borrowed or owned.
-ghost use Rattle.std.specs.Prelude.{◌≡◌, true, map};
+ghost use Rattle.std.specs.Prelude.{◌≡◌, true, map, Some};
 ghost use Rattle.std.specs.Bool.{Decides};
 ghost use Rattle.std.specs.Cmp.{on_per, on_equiv, partial_equiv_from_equiv};
 ghost use Rattle.std.specs.Cmp.Lexicographic.{nat_list_eq_equiv};
 ghost use Rattle.jiter_steps.specs.StringDecoder.{text_view};
 ghost use Rattle.jiter_steps.specs.Tree.{Tree};
+ghost use Rattle.jiter_value.specs.Access.{boolean_in, int_in, string_in};
 ghost use Rattle.jiter_value.specs.Equality.{code, same_content};
 ghost use Rattle.jiter_value.specs.Owned.{owned_text, owned_tree, owned_member, HoldSame};
 ghost use Rattle.jiter_value.specs.Stacks.{member_view};
@@ -32,6 +33,50 @@ impl<'s> PartialEq for JsonValue<'s> {
 
 impl<'s> Eq for JsonValue<'s> {
     ghost laws = { on_equiv (λ v. code (view v)) nat_list_eq_equiv };
+}
+
+impl<'s> JsonValue<'s> {
+    /// Returns whether the value is a string with exactly these characters.
+    ///
+    /// Borrowed and owned strings compare alike, and escapes are compared decoded. Both sides of `==` have one type
+    /// here, so this stands for `value == "text"`.
+    ///
+    /// # Examples
+    ///
+    /// ```rust
+    /// let value = JsonValue::parse(alloc, br#""a\u0062""#, false)?;
+    /// assert!(rt; value.eq_str("ab"));
+    /// ```
+    pub fn eq_str(&self, text: &str) -> bool
+        ensures { Decides result (string_in (view self.now) ≡ Some text.now) }
+    {
+        match self {
+            JsonValue::Str(own) => own.as_str() == text,
+            _ => false,
+        }
+    }
+
+    /// Returns whether the value is an `Int` with this integer. Stands for `value == 5`.
+    ///
+    /// A `BigInt` or a `Float` never is: `5.0` and `5e0` are a `Float`.
+    pub fn eq_i64(&self, integer: i64) -> bool
+        ensures { Decides result (int_in (view self.now) ≡ Some integer) }
+    {
+        match self {
+            JsonValue::Int(own) => *own == integer,
+            _ => false,
+        }
+    }
+
+    /// Returns whether the value is this `bool`. Stands for `value == true`.
+    pub fn eq_bool(&self, truth: bool) -> bool
+        ensures { Decides result (boolean_in (view self.now) ≡ Some truth) }
+    {
+        match self {
+            JsonValue::Bool(own) => *own == truth,
+            _ => false,
+        }
+    }
 }
 
 /// Adds to your proof that equality is reflexive, symmetric and transitive.
