@@ -218,7 +218,7 @@ printed-again layout names v fits =
       record {
         before = subst (IsBlank u 0) (sym is.begins) (no_blank u 0 (omega arith));
         spelled = is.spelled;
-        later = feed-blank w (end a.again) is.ends;
+        after = feed-blank w (end a.again) is.ends;
         limit = a.spelled.1;
       },
       a.like,

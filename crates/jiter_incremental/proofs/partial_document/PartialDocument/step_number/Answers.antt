@@ -12,14 +12,14 @@ returns-in_ok-value-in-Float-clause-taken c = λ t arrived.
 
 pub returns-in-Other-clause-taken : goal.returns-in-Other-clause-taken
 returns-in-Other-clause-taken c =
-    taken-after c.args.self.now c.make_room.new.self c.step_long_number.new.self
-    (λ n. slice_range c.args.piece.now c.args.at (c.args.at + n)) c.step_long_number.result
-    c.make_room.ensures.stays c.step_long_number.ensures.taken
+    taken-after c.args.self.now c.make_room.new.self c.step_long_number-in-Other.new.self
+    (λ n. slice_range c.args.piece.now c.args.at (c.args.at + n)) c.step_long_number-in-Other.result
+    c.make_room.ensures.stays c.step_long_number-in-Other.ensures.taken
 
 pub returns-in-Other-clause-refused : goal.returns-in-Other-clause-refused
 returns-in-Other-clause-refused c =
-    refused-after c.args.self.now c.make_room.new.self c.step_long_number.new.self c.step_long_number.result
-    c.make_room.ensures.stays c.step_long_number.ensures.refused
+    refused-after c.args.self.now c.make_room.new.self c.step_long_number-in-Other.new.self c.step_long_number-in-Other.result
+    c.make_room.ensures.stays c.step_long_number-in-Other.ensures.refused
 
 pub returns-then-piece-at-lt-SHORT_REACH-clause-taken : goal.returns-then-piece-at-lt-SHORT_REACH-clause-taken
 returns-then-piece-at-lt-SHORT_REACH-clause-taken c =
