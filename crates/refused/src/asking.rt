@@ -52,6 +52,21 @@ pub enum Steps {
     Tapes,
 }
 
+/// Calls in a row, over the lines or the chunks of the text.
+#[derive(Debug, Clone, Copy)]
+pub enum Repeated {
+    /// `JsonValueScratch::parse` of each line.
+    Lines,
+    /// `JsonValueScratch::parse_owned` of each line.
+    OwnedLines,
+    /// `IncrementalParser::push` of each chunk, then `value`, `error` and `finish`.
+    Chunks,
+    /// `parse_chunks`
+    ParseChunks,
+    /// `LineIndex::push` of each chunk, then `position`.
+    LineIndex,
+}
+
 /// A call that copies a value, or tells of a fault or a place.
 #[derive(Debug, Clone, Copy)]
 pub enum Copying {
@@ -84,6 +99,8 @@ pub enum Call {
     StringStorage(bool),
     /// A reader's walk through a document of one form.
     Steps(Steps),
+    /// Calls in a row.
+    Repeated(Repeated),
     /// One that copies or tells.
     Copy(Copying),
     /// `IncrementalParser::push`, of pieces of so many bytes.
@@ -128,10 +145,22 @@ fn call_named(word: &str) -> Option<Call> {
         "plain-walk" => Some(Call::Steps(Steps::Plain)),
         "kept-tape" => Some(Call::Steps(Steps::KeptTape)),
         "tapes" => Some(Call::Steps(Steps::Tapes)),
-        _ => match reading_named(word) {
-            Some(reading) => Some(Call::Reading(reading)),
-            None => Some(Call::Copy(copying_named(word)?)),
+        _ => match (reading_named(word), repeated_named(word)) {
+            (Some(reading), _) => Some(Call::Reading(reading)),
+            (None, Some(repeated)) => Some(Call::Repeated(repeated)),
+            (None, None) => Some(Call::Copy(copying_named(word)?)),
         },
+    }
+}
+
+fn repeated_named(word: &str) -> Option<Repeated> {
+    match word {
+        "lines" => Some(Repeated::Lines),
+        "lines-owned" => Some(Repeated::OwnedLines),
+        "chunks" => Some(Repeated::Chunks),
+        "parse-chunks" => Some(Repeated::ParseChunks),
+        "line-index" => Some(Repeated::LineIndex),
+        _ => None,
     }
 }
 

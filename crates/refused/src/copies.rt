@@ -124,7 +124,10 @@ fn of_unique(
 
 // A copy of a fault, which is like it, or refused.
 fn error_copied(alloc: Global, error: &UniqueError) -> Result<Outcome, AllocError> {
-    match error.clone(alloc) {
+    let _ = mark(alloc);
+    let copy = error.clone(alloc);
+    let _ = mark(alloc);
+    match copy {
         Ok(copy) if &copy == error => Ok(Outcome::Answered(format!(in alloc; "{copy}")?)),
         Ok(_) => Outcome::broken(alloc, "a copy is not like the fault"),
         Err(_) => Outcome::refused(alloc),

@@ -9,6 +9,7 @@ mod mark;
 mod outcome;
 mod pieces;
 mod reading;
+mod repeated;
 mod scratch;
 mod steps;
 mod stop;
@@ -64,6 +65,7 @@ fn outcome_of(alloc: Global, bytes: &[u8], asked: Asked) -> Result<Outcome, Allo
         Call::Reading(call) => reading::outcome(alloc, bytes, call),
         Call::StringStorage(known) => walk::outcome(alloc, bytes, asked.mode, known),
         Call::Steps(call) => steps::outcome(alloc, bytes, call),
+        Call::Repeated(call) => repeated::outcome(alloc, bytes, asked.mode, call),
         Call::Copy(call) => copies::outcome(alloc, bytes, asked.mode, call),
         Call::Pieces(size) => pieces::outcome(alloc, bytes, asked.mode, size),
     }
