@@ -52,7 +52,7 @@ pub fn answer(rt: &HostRuntime, alloc: Global, row: &Row<'_>) -> io::Result<()> 
     };
     let error = JsonError { error_type, index };
     match row.call {
-        "kind" => println!(rt; "{}", error.error_type),
+        "kind" => println!(rt; "{:>80}", error.error_type),
         "error" => println!(rt;
             "{error:>40}, memory {}, shown {error:?}",
             error.is_memory()

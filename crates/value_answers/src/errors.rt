@@ -1,6 +1,6 @@
 //! What is told of the error of a document.
 use crate::readings::mode_of;
-use jiter::{JsonValue, LinePosition};
+use jiter::{JsonType, JsonValue, LinePosition};
 use std::alloc::{AllocError, Global};
 use test_rows::Row;
 
@@ -9,6 +9,8 @@ pub fn answer(alloc: Global, row: &Row<'_>, bytes: &[u8]) -> Result<Option<Strin
     let text = match row.call {
         "description" => description(alloc, bytes),
         "unique_description" => unique_description(alloc, row, bytes),
+        "unique_error" => unique_error(alloc, row, bytes),
+        "types" => types(alloc),
         _ => return Ok(None),
     };
     Ok(Some(text?))
@@ -36,6 +38,31 @@ fn unique_description(alloc: Global, row: &Row<'_>, bytes: &[u8]) -> Result<Stri
             error.get_position(bytes),
         ),
     }
+}
+
+// The cause and the error with a width, as `Debug` prints it, and whether its clone prints the same.
+fn unique_error(alloc: Global, row: &Row<'_>, bytes: &[u8]) -> Result<String, AllocError> {
+    match &JsonValue::parse_unique(alloc, bytes, row.allow_inf_nan, mode_of(row)) {
+        Ok(_) => String::from_str(alloc, "a value"),
+        Err(error) => {
+            let cause = &error.error_type;
+            let copy = error.clone(alloc)?;
+            format!(in alloc; "{cause:>40} / {error:>400} / {error:?} / {copy:>400}")
+        }
+    }
+}
+
+// The types of values, with a width.
+fn types(alloc: Global) -> Result<String, AllocError> {
+    let scalars = [
+        JsonType::Null,
+        JsonType::Bool,
+        JsonType::Int,
+        JsonType::Float,
+    ];
+    let [null, truth, int, float] = &scalars;
+    let [string, array, object] = &[JsonType::String, JsonType::Array, JsonType::Object];
+    format!(in alloc; "{null:>9} {truth:>9} {int:>9} {float:>9} {string:>9} {array:>9} {object:>9}")
 }
 
 fn told(alloc: Global, text: &str, position: LinePosition) -> Result<String, AllocError> {
