@@ -60,7 +60,7 @@ fn growths_of_every_size_are_granted(rt: HostRuntime) -> Result<(), Fail> {
         assert!(rt; seen == Some((twice, twice)), "{size} bytes");
         let seen = lengthened(alloc, text.as_str(), b"after others").ok();
         assert!(rt;
-            seen == Some((twice.saturating_add(13), twice)),
+            seen == Some((twice.saturating_add(12), twice)),
             "{size} more bytes"
         );
     }
