@@ -1,25 +1,35 @@
--- What the plain way's answers are, in the words of the replies.
-use Rattle.std.proofs.Common.{◌≡◌, ◌∙◌, ◌∷◌, ℕ, ◌+◌, ◌<◌, ◌≤◌, Bool, true, List, length, refl, ap, sym, subst, arith}
+-- What the fast path returns, in the words of the replies.
+use Rattle.std.proofs.Common.{◌≡◌, ◌∙◌, ◌∷◌, ℕ, ◌+◌, ◌<◌, ◌≤◌, Bool, true, List, length, refl, ap, sym, subst, arith, Ok, Err, Bor}
 use Rattle.std.specs.Prelude.{slice_get, slice_index, slice_range, Some}
 use Rattle.std.proofs.lemmas.Bool.Decides.{nat_tests}
-use Rattle.std.proofs.lemmas.Option.{slice_get-get_or}
+use Rattle.std.proofs.lemmas.Option.{get_or_from_slice_get, slice_get-get_or, slice_get_within}
 use Rattle.jiter_scan.proofs.NumberBytes.{number-begins}
 use Rattle.jiter_scan.proofs.NumberSound.{number_extent-sound}
 use Rattle.jiter_scan.proofs.Standing.{slice-stands, stands-slice}
+use Rattle.jiter_scan.proofs.Scanning.{ScalarWithin}
+use Rattle.jiter_scan.specs.Kind.{fault_kind}
 use Rattle.jiter_scan.specs.Number.{IsNumberText}
 use Rattle.jiter_scan.specs.NumberReading.{begins_number, number_extent, number_at, with_value}
-use Rattle.jiter_scan.specs.Scanned.{taken}
+use Rattle.jiter_scan.specs.Scanned.{Scanned, Scans, taken}
 use Rattle.jiter_steps.specs.Answer.{seen_as}
 use Rattle.jiter_steps.specs.Literal.{start_of}
 use Rattle.jiter_steps.specs.declared.parse.Start.TheVariants as start
+use Rattle.jiter_steps.specs.declared.read_error.ReadError.{ReadError}
+use Rattle.jiter_steps.specs.declared.read_error.ReadError.TheVariants as error
 use Rattle.jiter_steps.specs.Blank.{past_blanks}
-use Rattle.jiter_steps.proofs.Grammar.Blanks.{past_blanks-above}
-use Rattle.jiter_steps.specs.Step.{colon, step, container_comma, container_step}
-use Rattle.jiter_steps.specs.declared.parse.ContainerKind.{ContainerKind}
-use Rattle.jiter_steps.specs.declared.parse.ContainerKind.TheVariants as shape
-use Rattle.jiter_steps.specs.StringReading.{string_at, whole}
+use Rattle.jiter_steps.specs.ReadError.{UnlessRefused}
+use Rattle.jiter_steps.specs.Step.{Step, colon, more}
+use Rattle.jiter_steps.specs.StringDecoder.{WantsMemory}
+use Rattle.jiter_steps.specs.StringReading.{string_at, text_form, whole}
 use Rattle.jiter_steps.specs.Tree.{Text}
-use Rattle.jiter.specs.Reader.{gave, scalar_reply, colon_reply, key_reply}
+use Rattle.jiter_steps.proofs.Grammar.Blanks.{past_blanks-after}
+use Rattle.jiter_steps.proofs.Grammar.StringLaws.{string_at-within}
+use Rattle.jiter.specs.Jiter.{BeginsAt, IsErrorAt, MovesOn, key_bytes, reply_seen, text_bytes}
+use Rattle.jiter.specs.Reader.{ReaderState, Refusal, gave, refused, scalar_reply, colon_reply, key_reply, with_position}
+use Rattle.jiter.specs.Reader.{value_place, next, if_byte, member_reply, number_bytes_read, str_read}
+use Rattle.jiter.specs.Reads.{Reads, never, string_memory}
+use Rattle.jiter.specs.declared.errors.JiterError.{JiterError}
+use Rattle.jiter.proofs.Refusals.{refusal-failed, scalar-within}
 
 -- a number's bytes, by its end
 pub number-bytes : (names : Bool) (t : List ℕ) (i e : ℕ) → number_extent names t i ≡ taken tt e
@@ -34,6 +44,15 @@ key-colon t i e j key read place byte =
     let here : slice_get t (past_blanks t e) ≡ Some 58 = ap (slice_get t) (sym place) ∙ byte in
     ap (key_reply t i) read ∙ ap (λ o. colon_reply key (colon (past_blanks t e) o)) here
     ∙ ap (λ k. gave (Some key) (k + 1)) (sym place)
+
+-- of the step that leads to the key
+pub key-read : (t : List ℕ) (s : ReaderState) (i e j : ℕ) (key : Text) (led : Step) → t ≡ s.text → led ≡ more i
+    → string_at whole t i ≡ taken key e → j ≡ past_blanks t e → slice_get t j ≡ Some 58
+    → reply_seen key_bytes (member_reply whole s.text led) ≡ gave (Some key.bytes) (j + 1)
+key-read t s i e j key led is to read place byte =
+    ap (λ x. reply_seen key_bytes (member_reply whole s.text x)) to
+    ∙ ap (λ u. reply_seen key_bytes (key_reply u i (string_at whole u i))) (sym is)
+    ∙ ap (reply_seen key_bytes) (key-colon t i e j key read place byte)
 
 slice-first : (t : List ℕ) (b e : ℕ) → b < e → e ≤ length t
     → slice_range t b e ≡ slice_index t b ∷ slice_range t (b + 1) e
@@ -52,14 +71,113 @@ number-starts names t i e some within h =
     let text = subst (IsNumberText names) (slice-first t i e some within) (number_extent-sound t names i e h) in
     number-start (slice_index t i) (number-begins names (slice_index t i) (slice_range t (i + 1) e) text)
 
-at-comma : (b : ContainerKind) (t : List ℕ) (i : ℕ) → container_step b t i (Some 44) ≡ step t (container_comma b) (i + 1)
-at-comma shape.Array t i = refl
-at-comma shape.Object t i = refl
+-- The next value is the number from i to e.
+pub number-read : (v s : ReaderState) (i e b : ℕ) (bytes : Bor (List ℕ)) → v ≡ s → i ≡ value_place v
+    → slice_get v.text i ≡ Some b → i < e → e ≤ length v.text → number_extent v.names v.text i ≡ taken tt e
+    → bytes.now ≡ slice_range v.text i e
+    → Reads never (λ (x : Bor (List ℕ)). x.now) (next s (number_bytes_read s)) (Ok bytes) s (with_position v e)
+number-read v s i e b bytes is = subst P (sym is) here where
+  P : ReaderState → Type 0
+  P v = i ≡ value_place v → slice_get v.text i ≡ Some b → i < e → e ≤ length v.text
+      → number_extent v.names v.text i ≡ taken tt e → bytes.now ≡ slice_range v.text i e
+      → Reads never (λ (x : Bor (List ℕ)). x.now) (next s (number_bytes_read s)) (Ok bytes) s (with_position v e)
 
--- where a comma stands the step goes on after it
-pub comma-step : (b : ContainerKind) (t : List ℕ) (i : ℕ) → i < length t → slice_index t i ≡ 44
-    → step t (container_step b t) i ≡ step t (container_comma b) (i + 1)
-comma-step b t i lt byte =
-    let place : past_blanks t i ≡ i = past_blanks-above t i lt (omega (arith, byte)) in
-    let here : slice_get t i ≡ Some 44 = slice_get-get_or t i 0 lt ∙ ap Some byte in
-    ap (λ j. container_step b t j (slice_get t j)) place ∙ ap (container_step b t i) here ∙ at-comma b t i
+  here : P s
+  here place byte ahead within h same =
+      let there : slice_get s.text (value_place s) ≡ Some b = ap (slice_get s.text) (sym place) ∙ byte in
+      let begins : start_of b ≡ start.Number =
+      ap start_of (sym (get_or_from_slice_get s.text i b 0 byte)) ∙ number-starts s.names s.text i e ahead within h in
+      let first = past_blanks-after s.text s.position in
+      record {
+        moves = record { same = refl; forward = omega (arith, first, place, ahead); within = within };
+        value = ap (λ o. if_byte (value_place s) o (λ c. number_bytes_read s (value_place s) (start_of c))) there
+            ∙ ap (number_bytes_read s (value_place s)) begins
+            ∙ ap (λ j. number_bytes_read s j start.Number) (sym place)
+            ∙ number-bytes s.names s.text i e h ∙ ap (λ x. gave x e) (sym same);
+        index = tt;
+        memory = tt;
+      }
+
+-- The next value is the string at i.
+pub next-string : (s : ReaderState) (i : ℕ) → i ≡ value_place s → slice_get s.text i ≡ Some 34
+    → next s (str_read s) ≡ scalar_reply i (string_at (text_form s.partial_strings) s.text i)
+next-string s i place quote =
+    let here : slice_get s.text (value_place s) ≡ Some 34 = ap (slice_get s.text) (sym place) ∙ quote in
+    ap (λ o. if_byte (value_place s) o (λ c. str_read s (value_place s) (start_of c))) here
+    ∙ ap (λ j. scalar_reply j (string_at (text_form s.partial_strings) s.text j)) (sym place)
+
+-- It is returned, borrowed from somewhere.
+pub decoded : (v s : ReaderState) (i e : ℕ) (x : Text) (text : Bor (List ℕ)) → v ≡ s → i ≡ value_place s
+    → slice_get s.text i ≡ Some 34 → string_at (text_form v.partial_strings) v.text i ≡ taken x e → text.now ≡ x.bytes
+    → Reads (string_memory s.text (value_place s)) (λ (b : Bor (List ℕ)). b.now)
+    (reply_seen text_bytes (next s (str_read s))) (Ok text) s (with_position v e)
+decoded v s i e x text is place quote = subst P (sym is) here where
+  P : ReaderState → Type 0
+  P v = string_at (text_form v.partial_strings) v.text i ≡ taken x e → text.now ≡ x.bytes
+      → Reads (string_memory s.text (value_place s)) (λ (b : Bor (List ℕ)). b.now)
+      (reply_seen text_bytes (next s (str_read s))) (Ok text) s (with_position v e)
+
+  here : P s
+  here h bytes =
+      let inside = slice_get_within s.text i 34 quote in
+      let at = subst (ScalarWithin s.text i) h (string_at-within (text_form s.partial_strings) s.text i inside) in
+      let ahead = past_blanks-after s.text s.position in
+      record {
+        moves = record { same = refl; forward = omega (arith, ahead, place, at.0); within = at.1 };
+        value = ap (reply_seen text_bytes) (next-string s i place quote ∙ ap (scalar_reply i) h)
+            ∙ ap (λ b. gave b e) (sym bytes);
+        index = tt;
+        memory = tt;
+      }
+
+-- It has a backslash and is not decoded: its error, or no memory.
+pub undecoded : {X A : Type 0} (view : X → List ℕ) (seen : A → Scanned Text) (v s : ReaderState) (i : ℕ) (x : ReadError)
+    (e : JiterError) → v ≡ s → i ≡ value_place s → slice_get s.text i ≡ Some 34 → WantsMemory s.text i → IsErrorAt x i e
+    → UnlessRefused (Err x) (λ r. Scans seen r (string_at (text_form v.partial_strings) v.text i))
+    → Reads (string_memory s.text (value_place s)) view (reply_seen text_bytes (next s (str_read s))) (Err e) s
+    (with_position v i)
+undecoded view seen v s i x e is place quote needs wrong = subst P (sym is) (by x wrong) where
+  P : ReaderState → Type 0
+  P v = UnlessRefused (Err x) (λ r. Scans seen r (string_at (text_form v.partial_strings) v.text i))
+      → Reads (string_memory s.text (value_place s)) view (reply_seen text_bytes (next s (str_read s))) (Err e) s
+      (with_position v i)
+
+  inside : i < length s.text
+  inside = slice_get_within s.text i 34 quote
+
+  moves : MovesOn s (with_position s i)
+  moves =
+      let ahead = past_blanks-after s.text s.position in
+      record { same = refl; forward = omega (arith, ahead, place); within = omega (arith, inside) }
+
+  by : (x : ReadError) → IsErrorAt x i e
+      → UnlessRefused (Err x) (λ r. Scans seen r (string_at (text_form s.partial_strings) s.text i))
+      → Reads (string_memory s.text (value_place s)) view (reply_seen text_bytes (next s (str_read s))) (Err e) s
+      (with_position s i)
+  by (error.Fault f) is h =
+      let at = string_at-within (text_form s.partial_strings) s.text i inside in
+      let fails = refusal-failed s.text (fault_kind f.kind) f.index e is _ (scalar-within s.text i _ at) h in
+      record {
+        moves = moves;
+        value = λ m. ap (reply_seen text_bytes) (next-string s i place quote ∙ ap (scalar_reply i) h)
+            ∙ ap (λ (r : Refusal). refused r.cause r.index i) (sym is);
+        index = fails.within;
+        memory = λ m. absurd (fails.bytes m);
+      }
+  by (error.Memory m) is h =
+      let cause = ap (λ (r : Refusal). r.cause) is in
+      let index : e.index ≡ i = ap (λ (r : Refusal). r.index) is in
+      record {
+        moves = moves;
+        value = λ bytes. absurd (bytes cause);
+        index = omega (arith, inside, index);
+        memory = λ m. (
+          sym index,
+          (
+            index ∙ place,
+            subst (λ j. BeginsAt s.text j start.String) place
+                (ap start_of (get_or_from_slice_get s.text i 34 0 quote)),
+            subst (WantsMemory s.text) place needs,
+          ),
+        );
+      }

@@ -1,12 +1,12 @@
 -- A second peek replies as the first, a known_ call as the next_ call, and a refused read of a scalar leaves the reader
 -- where the value begins.
 use Rattle.std.proofs.Common.{◌≡◌, ◌∙◌, ℕ, true, false, refl, ap, sym, subst, Option, Some, None, List, slice_get}
-use Rattle.std.proofs.Common.{slice_index, slice_range, ◌<◌, arith}
+use Rattle.std.proofs.Common.{slice_index, slice_range, ◌<◌, ◌≤◌, Result, length, arith}
 use Rattle.std.proofs.lemmas.Bool.Decides.{nat_tests}
 use Rattle.std.proofs.lemmas.Option.{get_or_from_slice_get}
 use Rattle.jiter_scan.proofs.Runs.{run_end-here}
 use Rattle.jiter_steps.proofs.Grammar.Blanks.{no_blank-after}
-use Rattle.jiter.specs.Jiter.{MovesOn, StandsAt}
+use Rattle.jiter.specs.Jiter.{IndexWithin, MovesOn, Replies, StandsAt}
 use Rattle.jiter_scan.specs.Scanned.{Scanned, taken, failed}
 use Rattle.jiter_scan.specs.NumberReading.{Integer, int_seen, float_seen, number_at, int_at}
 use Rattle.jiter_steps.specs.Blank.{is_blank, past_blanks}
@@ -17,6 +17,8 @@ use Rattle.jiter_steps.specs.declared.parse.Literal.TheVariants as literal
 use Rattle.jiter_steps.specs.declared.parse.Start.{Start}
 use Rattle.jiter_steps.specs.declared.parse.Start.TheVariants as start
 use Rattle.jiter.specs.Reader.{ReaderState, Reply, gave, StaysAt, with_position, position_after, value_place, if_byte}
+use Rattle.jiter.specs.Reads.{Reads, never}
+use Rattle.jiter.specs.declared.errors.JiterError.{JiterError}
 use Rattle.jiter.specs.Reader.{peek, next, known, scalar_reply, integer_reply, null_read, bool_read, number_read}
 use Rattle.jiter.specs.Reader.{int_read, number_bytes_read, string_read, str_read, bytes_read}
 
@@ -137,3 +139,31 @@ known-next s read c e other =
 pub known-above : {A : Type 0} (s : ReaderState) (read : ℕ → Start → Reply A) (c : ℕ)
     → StandsAt s c → 32 < c → known s read ≡ next s read
 known-above s read c here above = known-next s read c here (grind (arith, nat_tests, above))
+
+-- A read after such a peek that takes no memory, as one from before it.
+pub read-peeked : {X A : Type 0} {view : X → A} {x : Result X JiterError} {s2 : ReaderState}
+    (read : ReaderState → ℕ → Start → Reply A) (s0 s1 : ReaderState) (c : ℕ) → ((i : ℕ) → read (with_position s0 i) ≡ read s0)
+    → MovesOn s0 s1 → s1.position ≡ value_place s0 → StandsAt s1 c → Reads never view (known s1 (read s1)) x s1 s2
+    → Reads never view (next s0 (read s0)) x s0 s2
+read-peeked {view = view} {x = x} {s2 = s2} read s0 s1 c same m place here h =
+    let is : s1 ≡ with_position s0 s1.position = m.same in
+    let text : s1.text ≡ s0.text = ap (λ (v : ReaderState). v.text) is in
+    record {
+      moves = record {
+        same = h.moves.same ∙ ap (λ (v : ReaderState). with_position v s2.position) is;
+        forward = omega (arith, h.moves.forward, m.forward);
+        within = omega (arith, h.moves.within, ap length text);
+      };
+      value = subst (λ r. Replies view x s2 r) (known-after_peek read s0 s1 c same m place here) h.value;
+      index = subst (λ t. IndexWithin t x) text h.index;
+      memory = h.memory;
+    }
+
+low-begins : (c : ℕ) → c ≤ 32 → start_of c ≡ start.Nothing
+low-begins c low = grind (arith, nat_tests, low)
+
+-- Where a byte stands that is no higher, no value begins.
+pub known-low : {A : Type 0} (s : ReaderState) (read : ℕ → Start → Reply A) (c : ℕ)
+    → StandsAt s c → c ≤ 32 → known s read ≡ read s.position start.Nothing
+known-low s read c here low =
+    ap (read s.position) (ap start_of (get_or_from_slice_get s.text s.position c 0 here) ∙ low-begins c low)

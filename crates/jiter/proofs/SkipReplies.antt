@@ -1,5 +1,5 @@
 -- The skip law of the pull reader: a skip replies what reading the value replies, but for the value and UTF-8.
-use Rattle.std.proofs.Common.{ℕ, ap, subst}
+use Rattle.std.proofs.Common.{ℕ, ap, subst, Result}
 use Rattle.std.specs.Prelude.{Option, Some, None, slice_get, slice_index}
 use Rattle.jiter_steps.specs.Answer.{read_at, skip_at}
 use Rattle.jiter_steps.specs.Literal.{start_of}
@@ -10,7 +10,10 @@ use Rattle.jiter_steps.proofs.Calls.SkipLaw.{EndsAlike, skip_at-law}
 use Rattle.jiter.specs.Cause.{json_error}
 use Rattle.jiter.specs.Reader.{ReaderState, Reply, value_place, if_byte, next, known, value_reply, value_read}
 use Rattle.jiter.specs.Reader.{skip_read}
+use Rattle.jiter.specs.Jiter.{Replies}
+use Rattle.jiter.specs.Reads.{Reads, never}
 use Rattle.jiter.specs.Skipping.{SkipsAsRead}
+use Rattle.jiter.specs.declared.errors.JiterError.{JiterError}
 
 module _ (P : Reply (Unit {0}) → Type 0) where
   reply-skipped : (x : Reading Tree) (y : Reading (Unit {0})) → EndsAlike x y → P (value_reply y)
@@ -35,3 +38,12 @@ module _ (P : Reply (Unit {0}) → Type 0) where
     -- The same of the calls known_skip and known_value.
     pub known-skipped : P (known s (skip_read s)) → SkipsAsRead P (known s (value_read s))
     known-skipped p = read-skipped s.position (start_of (slice_index s.text s.position)) p
+
+-- by what the calls promise
+pub next-read-skipped : {x : Result (Unit {0}) JiterError} {s0 s : ReaderState}
+    → Reads never (λ u. u) (next s0 (skip_read s0)) x s0 s → SkipsAsRead (Replies (λ u. u) x s) (next s0 (value_read s0))
+next-read-skipped {x = x} {s0 = s0} {s = s} h = next-skipped (Replies (λ u. u) x s) s0 h.value
+
+pub known-read-skipped : {x : Result (Unit {0}) JiterError} {s0 s : ReaderState}
+    → Reads never (λ u. u) (known s0 (skip_read s0)) x s0 s → SkipsAsRead (Replies (λ u. u) x s) (known s0 (value_read s0))
+known-read-skipped {x = x} {s0 = s0} {s = s} h = known-skipped (Replies (λ u. u) x s) s0 h.value

@@ -12,11 +12,11 @@ ghost use Rattle.jiter.specs.Jiter.{StandsAt, BeginsAs, byte_of};
 ghost use Rattle.jiter.specs.Reads.{Reads, never};
 
 use crate::errors::{JiterError, JiterErrorType, JiterResult, JsonType};
-use crate::jiter::fast::look;
 use crate::peek::Peek;
 use jiter_scan::errors::{Fault, FaultKind, fault_at};
 use jiter_scan::number_decoder::number_at;
 use jiter_scan::{JsonError, JsonErrorType, NumberAny};
+use jiter_steps::fast::peek;
 use jiter_steps::parse::{Literal, Parser, Start, start_of};
 use jiter_steps::read_error::ReadError;
 use jiter_value::reading::error_at;
@@ -25,7 +25,6 @@ use std::borrow::CowStr;
 use std::marker::Model;
 
 mod arrays;
-mod fast;
 mod objects;
 mod owned_values;
 mod places;
@@ -152,13 +151,7 @@ impl<'j> Jiter<'j> {
     pub fn new(bytes: &'j [u8]) -> Jiter<'j>
         ensures { result ≡ at_start bytes.now }
     {
-        Jiter {
-            parser: Parser::new(bytes),
-            allow_inf_nan: false,
-            allow_partial_strings: false,
-            tape: None,
-            text: CowStr::Borrowed(""),
-        }
+        Jiter::new_at(bytes, 0)
     }
 
     /// Returns a reader at the first byte, with both settings off, that decodes strings in the buffer `tape`.
@@ -237,7 +230,7 @@ impl<'j> Jiter<'j> {
         ensures place { self.new.position ≡ value_place self.old }
         ensures value { result ≡ slice_get self.old.text self.new.position }
     {
-        let (at, byte) = look(self.parser.bytes, self.parser.index);
+        let (at, byte) = peek(self.parser.bytes, self.parser.index);
         self.parser.index = at;
         byte
     }

@@ -1,17 +1,18 @@
 //! The pull reader's steps through arrays.
-ghost use Rattle.std.specs.Prelude.{◌≡◌, ◌<◌, ◌≤◌, IfErr, IfOk, length, option_map, true};
+ghost use Rattle.std.specs.Prelude.{◌≡◌, ◌<◌, ◌≤◌, IfErr, IfOk, IfSome, None, length, option_map, true};
 ghost use Rattle.jiter_scan.specs.Ascii as ascii;
 ghost use Rattle.jiter_steps.specs.Parse.{Steps};
+ghost use Rattle.jiter_steps.specs.Fast.{IsNext};
 ghost use Rattle.jiter_steps.specs.Step.{Step};
-ghost use Rattle.jiter.specs.Reader.{next, known, array_read, item_reply, item_step};
-ghost use Rattle.jiter.specs.Jiter.{Replies, RefusesBytes, BeginsAs, StandsAt, TellsHere, byte_of};
+ghost use Rattle.jiter.specs.Reader.{next, known, gave, array_read, item_reply, item_step};
+ghost use Rattle.jiter.specs.Jiter.{MovesOn, Replies, RefusesBytes, StandsAt, TellsHere, byte_of};
 ghost use Rattle.jiter.specs.Reads.{Reads, never};
 
 use crate::errors::{JiterResult, JsonType};
-use crate::jiter::fast::next_item;
 use crate::jiter::{Jiter, refusal};
 use crate::peek::Peek;
 use jiter_scan::errors::Fault;
+use jiter_steps::fast::{Next, fast_first, fast_step, peek};
 use jiter_steps::parse::{ContainerKind, Start};
 
 impl<'j> Jiter<'j> {
@@ -31,12 +32,39 @@ impl<'j> Jiter<'j> {
         }
     }
 
-    fn read_array(&mut self, start: Start) -> JiterResult<Option<Peek>>
-        requires { BeginsAs self.old start }
-        ensures reads { Reads never (option_map byte_of) (array_read self.old self.old.position start)
+    // Goes to the item, or past the end of the array (`Some(None)`). After an error returns `None` and stays.
+    #[inline(always)]
+    fn fast_item(&mut self, at: usize, next: Next) -> Option<Option<Peek>>
+        requires within { (self.old.position ≤ at) × (at ≤ length self.old.text) }
+        requires part { next ≡ Next.Part → at < length self.old.text }
+        ensures moves { MovesOn self.old self.new }
+        ensures value { (s : Step) → IsNext at next s → IfSome result
+            (λ told. item_reply self.old.text s ≡ gave (option_map byte_of told) self.new.position) }
+        ensures here { IfSome result (λ told. IfSome told (λ p. StandsAt self.new (byte_of p))) }
+        ensures same { result ≡ None → self.new ≡ self.old }
+    {
+        match next {
+            Next::Part => {
+                self.parser.index = at;
+                Some(Some(Peek::new(self.parser.bytes[at])))
+            }
+            Next::End => {
+                self.parser.index = at;
+                Some(None)
+            }
+            Next::Stuck => None,
+        }
+    }
+
+    // Reads what the fast path can't, and finds the error.
+    #[cold]
+    #[inline(never)]
+    fn slow_array(&mut self) -> JiterResult<Option<Peek>>
+        ensures reads { Reads never (option_map byte_of) (next self.old (array_read self.old))
             result self.old self.new }
         ensures here { TellsHere result self.new }
     {
+        let start = self.next_start()?;
         match start {
             Start::Array => {
                 let led = self.parser.first(ContainerKind::Array);
@@ -44,28 +72,6 @@ impl<'j> Jiter<'j> {
             }
             _ => Err(self.refused_as(JsonType::Array, start)),
         }
-    }
-
-    // The slow path, out of line.
-    #[cold]
-    #[inline(never)]
-    fn cold_array(&mut self) -> JiterResult<Option<Peek>>
-        ensures reads { Reads never (option_map byte_of) (next self.old (array_read self.old))
-            result self.old self.new }
-        ensures here { TellsHere result self.new }
-    {
-        let start = self.next_start()?;
-        self.read_array(start)
-    }
-
-    // A function of its own: otherwise the fast path would reserve stack space for the result of this call.
-    #[inline(always)]
-    fn slow_array(&mut self) -> JiterResult<Option<Peek>>
-        ensures reads { Reads never (option_map byte_of) (next self.old (array_read self.old))
-            result self.old self.new }
-        ensures here { TellsHere result self.new }
-    {
-        self.cold_array()
     }
 
     /// Steps into the next array and returns the first byte of its first item, or `None` if it is empty (RFC 8259, 5).
@@ -98,10 +104,13 @@ impl<'j> Jiter<'j> {
             result self.old self.new }
         ensures here { TellsHere result self.new }
     {
-        match self.fast_array() {
-            Some(told) => Ok(told),
-            None => self.slow_array(),
+        if let (at, Some(b'[')) = peek(self.parser.bytes, self.parser.index) {
+            let (at, next) = fast_first(self.parser.bytes, at + 1, ContainerKind::Array);
+            if let Some(told) = self.fast_item(at, next) {
+                return Ok(told);
+            }
         }
+        self.slow_array()
     }
 
     /// Steps into the array that you peeked, as [`Jiter::next_array`] does.
@@ -122,24 +131,15 @@ impl<'j> Jiter<'j> {
         self.next_array()
     }
 
-    // The slow path, out of line.
+    // The same of a step.
     #[cold]
     #[inline(never)]
-    fn cold_step(&mut self) -> JiterResult<Option<Peek>>
+    fn slow_step(&mut self) -> JiterResult<Option<Peek>>
         ensures reads { Reads never (option_map byte_of) (item_step self.old) result self.old self.new }
         ensures here { TellsHere result self.new }
     {
         let led = self.parser.step(ContainerKind::Array);
         self.item(led)
-    }
-
-    // A function of its own: otherwise the fast path would reserve stack space for the result of this call.
-    #[inline(always)]
-    fn slow_step(&mut self) -> JiterResult<Option<Peek>>
-        ensures reads { Reads never (option_map byte_of) (item_step self.old) result self.old self.new }
-        ensures here { TellsHere result self.new }
-    {
-        self.cold_step()
     }
 
     /// Moves past the comma after an item and returns the first byte of the next item, or `None` at the array's end
@@ -161,8 +161,8 @@ impl<'j> Jiter<'j> {
         ensures reads { Reads never (option_map byte_of) (item_step self.old) result self.old self.new }
         ensures here { TellsHere result self.new }
     {
-        let (at, what) = next_item(self.parser.bytes, self.parser.index);
-        match self.fast_item(at, what) {
+        let (at, next) = fast_step(self.parser.bytes, self.parser.index, ContainerKind::Array);
+        match self.fast_item(at, next) {
             Some(told) => Ok(told),
             None => self.slow_step(),
         }

@@ -1,14 +1,15 @@
 //! The pull reader's steps through objects.
 ghost use Rattle.std.specs.Borrow.{sem};
-ghost use Rattle.std.specs.Prelude.{◌≡◌, ◌+◌, ◌<◌, ◌≤◌, ℕ, IfErr, IfOk, OnOk, Some, length, option_map, true};
+ghost use Rattle.std.specs.Prelude.{◌≡◌, ◌<◌, ◌≤◌, IfErr, IfOk, IfSome, None, OnOk, Some, length, option_map, true};
 ghost use Rattle.jiter_scan.specs.Ascii as ascii;
 ghost use Rattle.jiter_steps.specs.Parse.{Steps};
+ghost use Rattle.jiter_steps.specs.Fast.{IsNext};
 ghost use Rattle.jiter_steps.specs.RawString.{raw_view};
-ghost use Rattle.jiter_steps.specs.Step.{Step, step, colon, object_first, object_step, more};
-ghost use Rattle.jiter_steps.specs.StringDecoder.{text_view, WantsMemory};
-ghost use Rattle.jiter_steps.specs.StringReading.{string_at, whole, raw};
+ghost use Rattle.jiter_steps.specs.Step.{Step, step, colon};
+ghost use Rattle.jiter_steps.specs.StringDecoder.{text_view};
+ghost use Rattle.jiter_steps.specs.StringReading.{whole, raw};
 ghost use Rattle.jiter_steps.specs.Tree.{Text};
-ghost use Rattle.jiter.specs.Reader.{value_place, next, known, gave, key_reply, colon_reply, member_reply, object_read};
+ghost use Rattle.jiter.specs.Reader.{value_place, next, known, gave, colon_reply, member_reply, object_read};
 ghost use Rattle.jiter.specs.Reader.{key_step, position_after};
 ghost use Rattle.jiter.specs.Jiter.{MovesOn, Replies, RefusesBytes, reply_seen, key_bytes, BeginsAs, StandsAt};
 ghost use Rattle.jiter.specs.Jiter.{StandsBefore, EndsWithColon};
@@ -16,8 +17,10 @@ ghost use Rattle.jiter.specs.Reads.{Lends, Reads, never, key_memory, first_key_m
 ghost use Rattle.jiter.specs.Lending.{LeavesReader};
 
 use crate::errors::{JiterResult, JsonType};
+use crate::jiter::texts::fast_text;
 use crate::jiter::{Jiter, refusal};
 use jiter_scan::errors::Fault;
+use jiter_steps::fast::{Next, fast_first, fast_step, peek};
 use jiter_steps::parse::{ContainerKind, Start};
 use std::alloc::Global;
 use std::borrow::CowStr;
@@ -33,18 +36,6 @@ impl<'j> Jiter<'j> {
         self.parser.colon().map_err(refusal)
     }
 
-    fn key(&mut self, alloc: Global) -> JiterResult<Option<CowStr<'j>>>
-        requires { self.old.position < length self.old.text }
-        ensures reads { Reads (key_memory self.old.text (more self.old.position)) (option_map text_view)
-            (key_reply self.old.text self.old.position (string_at whole self.old.text self.old.position))
-            result self.old self.new }
-        ensures colon { EndsWithColon result self.old.text self.new.position }
-    {
-        let text = self.string(alloc, false)?;
-        self.colon()?;
-        Ok(Some(text))
-    }
-
     fn key_there(
         &mut self,
         alloc: Global,
@@ -58,9 +49,67 @@ impl<'j> Jiter<'j> {
         ensures colon { EndsWithColon result self.old.text self.new.position }
     {
         match led {
-            Ok(true) => self.key(alloc),
+            Ok(true) => {
+                let text = self.string(alloc, false)?;
+                self.colon()?;
+                Ok(Some(text))
+            }
             Ok(false) => Ok(None),
             Err(fault) => Err(refusal(fault)),
+        }
+    }
+
+    // Reads the key at `at` and its colon, or goes past the end of the object (`Some(None)`). If the key has an escape or
+    // an error, or no colon follows, returns `None` and stays.
+    #[inline(always)]
+    fn fast_key(&mut self, at: usize, next: Next) -> Option<Option<&'j str>>
+        requires within { (self.old.position ≤ at) × (at ≤ length self.old.text) }
+        requires part { next ≡ Next.Part → at < length self.old.text }
+        ensures moves { MovesOn self.old self.new }
+        ensures value { (s : Step) → IsNext at next s → IfSome result
+            (λ key. reply_seen key_bytes (member_reply whole self.old.text s)
+            ≡ gave (option_map (λ x. x.now) key) self.new.position) }
+        ensures colon { IfSome result
+            (λ key. IfSome key (λ _. StandsBefore self.old.text self.new.position ascii.colon)) }
+        ensures same { result ≡ None → self.new ≡ self.old }
+    {
+        match next {
+            Next::Part => {
+                let Ok(key) = fast_text(self.parser.bytes, at) else {
+                    return None;
+                };
+                match peek(self.parser.bytes, at + key.len() + 2) {
+                    (colon, Some(b':')) => {
+                        self.parser.index = colon + 1;
+                        Some(Some(key))
+                    }
+                    _ => None,
+                }
+            }
+            Next::End => {
+                self.parser.index = at;
+                Some(None)
+            }
+            Next::Stuck => None,
+        }
+    }
+
+    #[inline(always)]
+    fn fast_object(&mut self) -> Option<Option<&'j str>>
+        ensures moves { MovesOn self.old self.new }
+        ensures value { IfSome result
+            (λ key. reply_seen key_bytes (next self.old (object_read whole self.old))
+            ≡ gave (option_map (λ x. x.now) key) self.new.position) }
+        ensures colon { IfSome result
+            (λ key. IfSome key (λ _. StandsBefore self.old.text self.new.position ascii.colon)) }
+        ensures same { result ≡ None → self.new ≡ self.old }
+    {
+        match peek(self.parser.bytes, self.parser.index) {
+            (at, Some(b'{')) => {
+                let (at, next) = fast_first(self.parser.bytes, at + 1, ContainerKind::Object);
+                self.fast_key(at, next)
+            }
+            _ => None,
         }
     }
 
@@ -72,15 +121,16 @@ impl<'j> Jiter<'j> {
     {
         match start {
             Start::Object => {
-                let led = self.parser.first(ContainerKind::Object);
-                self.key_there(alloc, led)
+                let first = self.parser.first(ContainerKind::Object);
+                self.key_there(alloc, first)
             }
             _ => Err(self.refused_as(JsonType::Object, start)),
         }
     }
 
+    // Reads what the fast path can't, and finds the error.
     #[inline(never)]
-    fn take_first_key(&mut self, alloc: Global) -> JiterResult<Option<CowStr<'j>>>
+    fn slow_first_key(&mut self, alloc: Global) -> JiterResult<Option<CowStr<'j>>>
         ensures reads { Reads (first_key_memory self.old.text (value_place self.old)) (option_map text_view)
             (next self.old (object_read whole self.old)) result self.old self.new }
         ensures colon { EndsWithColon result self.old.text self.new.position }
@@ -89,26 +139,15 @@ impl<'j> Jiter<'j> {
         self.first_key(alloc, start)
     }
 
+    // The same of the next key.
     #[inline(never)]
-    fn take_key(&mut self, alloc: Global) -> JiterResult<Option<CowStr<'j>>>
+    fn slow_key(&mut self, alloc: Global) -> JiterResult<Option<CowStr<'j>>>
         ensures reads { Reads (next_key_memory self.old) (option_map text_view)
             (key_step whole self.old) result self.old self.new }
         ensures colon { EndsWithColon result self.old.text self.new.position }
     {
-        let led = self.parser.step(ContainerKind::Object);
-        self.key_there(alloc, led)
-    }
-
-    fn key_bytes(&mut self) -> JiterResult<Option<&'j [u8]>>
-        requires { self.old.position < length self.old.text }
-        ensures reads { Reads never (option_map raw_view)
-            (key_reply self.old.text self.old.position (string_at raw self.old.text self.old.position))
-            result self.old self.new }
-        ensures colon { EndsWithColon result self.old.text self.new.position }
-    {
-        let content = self.raw_string(false)?;
-        self.colon()?;
-        Ok(Some(content))
+        let next = self.parser.step(ContainerKind::Object);
+        self.key_there(alloc, next)
     }
 
     fn key_bytes_there(&mut self, led: Result<bool, Fault>) -> JiterResult<Option<&'j [u8]>>
@@ -120,24 +159,13 @@ impl<'j> Jiter<'j> {
         ensures colon { EndsWithColon result self.old.text self.new.position }
     {
         match led {
-            Ok(true) => self.key_bytes(),
+            Ok(true) => {
+                let content = self.raw_string(false)?;
+                self.colon()?;
+                Ok(Some(content))
+            }
             Ok(false) => Ok(None),
             Err(fault) => Err(refusal(fault)),
-        }
-    }
-
-    fn first_key_bytes(&mut self, start: Start) -> JiterResult<Option<&'j [u8]>>
-        requires { BeginsAs self.old start }
-        ensures reads { Reads never (option_map raw_view) (object_read raw self.old self.old.position start)
-            result self.old self.new }
-        ensures colon { EndsWithColon result self.old.text self.new.position }
-    {
-        match start {
-            Start::Object => {
-                let led = self.parser.first(ContainerKind::Object);
-                self.key_bytes_there(led)
-            }
-            _ => Err(self.refused_as(JsonType::Object, start)),
         }
     }
 
@@ -157,7 +185,13 @@ impl<'j> Jiter<'j> {
         ensures colon { EndsWithColon result self.old.text self.new.position }
     {
         let start = self.next_start()?;
-        self.first_key_bytes(start)
+        match start {
+            Start::Object => {
+                let first = self.parser.first(ContainerKind::Object);
+                self.key_bytes_there(first)
+            }
+            _ => Err(self.refused_as(JsonType::Object, start)),
+        }
     }
 
     /// Moves past the comma after a member and returns the bytes of the next key, or `None` at the object's end
@@ -175,27 +209,8 @@ impl<'j> Jiter<'j> {
         ensures reads { Reads never (option_map raw_view) (key_step raw self.old) result self.old self.new }
         ensures colon { EndsWithColon result self.old.text self.new.position }
     {
-        let led = self.parser.step(ContainerKind::Object);
-        self.key_bytes_there(led)
-    }
-
-    #[inline(always)]
-    fn slow_object(&mut self, alloc: Global) -> JiterResult<Option<&str>>
-        ensures reads { Lends (first_key_memory self.old.text (value_place self.old)) (option_map (λ x. x.now))
-            (reply_seen key_bytes (next self.old (object_read whole self.old))) result self.old }
-        ensures colon { EndsWithColon result self.old.text
-            (position_after (next self.old (object_read whole self.old))) }
-        ensures* after { sem 𝓛 (LeavesReader (first_key_memory self.old.text (value_place self.old)) (option_map (λ x. x.now))
-            (reply_seen key_bytes (next self.old (object_read whole self.old))) result self.entry) }
-    {
-        let key = self.take_first_key(alloc)?;
-        match key {
-            Some(text) => {
-                self.text = text;
-                Ok(Some(self.text.as_str()))
-            }
-            None => Ok(None),
-        }
+        let next = self.parser.step(ContainerKind::Object);
+        self.key_bytes_there(next)
     }
 
     /// Steps into the next object and returns its first key, decoded, or `None` if it is empty (RFC 8259, 4).
@@ -229,7 +244,14 @@ impl<'j> Jiter<'j> {
         if let Some(key) = self.fast_object() {
             return Ok(key);
         }
-        self.slow_object(alloc)
+        let key = self.slow_first_key(alloc)?;
+        match key {
+            Some(text) => {
+                self.text = text;
+                Ok(Some(self.text.as_str()))
+            }
+            None => Ok(None),
+        }
     }
 
     /// Steps into the object that you peeked, as [`Jiter::next_object`] does.
@@ -253,25 +275,6 @@ impl<'j> Jiter<'j> {
             (reply_seen key_bytes (known self.old (object_read whole self.old))) result self.entry) }
     {
         let key = self.first_key(alloc, Start::Object)?;
-        match key {
-            Some(text) => {
-                self.text = text;
-                Ok(Some(self.text.as_str()))
-            }
-            None => Ok(None),
-        }
-    }
-
-    #[inline(always)]
-    fn slow_key(&mut self, alloc: Global) -> JiterResult<Option<&str>>
-        ensures reads { Lends (next_key_memory self.old) (option_map (λ x. x.now))
-            (reply_seen key_bytes (key_step whole self.old)) result self.old }
-        ensures colon { EndsWithColon result self.old.text
-            (position_after (key_step whole self.old)) }
-        ensures* after { sem 𝓛 (LeavesReader (next_key_memory self.old) (option_map (λ x. x.now))
-            (reply_seen key_bytes (key_step whole self.old)) result self.entry) }
-    {
-        let key = self.take_key(alloc)?;
         match key {
             Some(text) => {
                 self.text = text;
@@ -310,9 +313,17 @@ impl<'j> Jiter<'j> {
         ensures* after { sem 𝓛 (LeavesReader (next_key_memory self.old) (option_map (λ x. x.now))
             (reply_seen key_bytes (key_step whole self.old)) result self.entry) }
     {
-        if let Some(key) = self.fast_next_key() {
+        let (at, next) = fast_step(self.parser.bytes, self.parser.index, ContainerKind::Object);
+        if let Some(key) = self.fast_key(at, next) {
             return Ok(key);
         }
-        self.slow_key(alloc)
+        let key = self.slow_key(alloc)?;
+        match key {
+            Some(text) => {
+                self.text = text;
+                Ok(Some(self.text.as_str()))
+            }
+            None => Ok(None),
+        }
     }
 }

@@ -1,12 +1,9 @@
 //! The pull reader's calls for complete values that own their strings.
-ghost use Rattle.std.specs.Prelude.{◌≡◌, ◌<◌, ◌≤◌, ◌⊎◌, length};
-ghost use Rattle.jiter_steps.specs.Answer.{read_at};
-ghost use Rattle.jiter_value.specs.Owned.{owned_tree, ReadHolds};
-ghost use Rattle.jiter_value.specs.Value.{view, MayGrowAt};
-ghost use Rattle.jiter.specs.Reader.{value_place, next, known, value_reply, value_read};
-ghost use Rattle.jiter.specs.Jiter.{StandsAt, byte_of};
+ghost use Rattle.jiter_value.specs.Owned.{owned_tree};
+ghost use Rattle.jiter_value.specs.Value.{view};
+ghost use Rattle.jiter.specs.Reader.{value_place, next, known, value_read};
+ghost use Rattle.jiter.specs.Jiter.{StandsAt, byte_of, reply_seen};
 ghost use Rattle.jiter.specs.Reads.{Reads, owned_value_memory};
-ghost use Rattle.jiter.specs.Jiter.{reply_seen};
 
 use crate::errors::JiterResult;
 use crate::jiter::{Jiter, refusal_at};
@@ -18,22 +15,6 @@ use jiter_value::settings::Settings;
 use std::alloc::Global;
 
 impl<'j> Jiter<'j> {
-    fn owned_value(&mut self, alloc: Global) -> JiterResult<JsonValue<'static>>
-        requires { self.old.position < length self.old.text }
-        ensures reads { Reads (owned_value_memory self.old self.old.position) view
-            (reply_seen owned_tree (value_reply (read_at self.old.names self.old.text self.old.position)))
-            result self.old self.new }
-    {
-        let settings = Settings {
-            allow_inf_nan: self.allow_inf_nan,
-            mode: PartialMode::Off,
-        };
-        read_owned(alloc, &mut self.parser, settings).map_err(|error| refusal_at(
-            error,
-            self.parser.index,
-        ))
-    }
-
     /// Parses the next value as [`Jiter::next_value`] does, with strings and number texts of its own.
     ///
     /// The value borrows nothing, so you can keep it after the bytes are gone.
@@ -49,8 +30,8 @@ impl<'j> Jiter<'j> {
             (reply_seen owned_tree (next self.old (value_read self.old)))
             result self.old self.new }
     {
-        self.peek()?;
-        self.owned_value(alloc)
+        let peek = self.peek()?;
+        self.known_value_owned(alloc, peek)
     }
 
     /// Parses the value that you peeked, as [`Jiter::next_value_owned`] does.
@@ -73,6 +54,13 @@ impl<'j> Jiter<'j> {
             result self.old self.new }
     {
         let _ = peek;
-        self.owned_value(alloc)
+        let settings = Settings {
+            allow_inf_nan: self.allow_inf_nan,
+            mode: PartialMode::Off,
+        };
+        read_owned(alloc, &mut self.parser, settings).map_err(|error| refusal_at(
+            error,
+            self.parser.index,
+        ))
     }
 }

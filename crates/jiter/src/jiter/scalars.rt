@@ -1,19 +1,22 @@
 //! The pull reader's calls for literals and numbers.
-ghost use Rattle.std.specs.Prelude.{◌≡◌, ◌<◌, ◌≤◌, length, slice_index, true, false};
+ghost use Rattle.std.specs.Prelude.{◌≡◌, ◌<◌, ◌≤◌, length, true, false};
 ghost use Rattle.jiter_scan.specs.Ascii as ascii;
 ghost use Rattle.jiter_scan.specs.NumberDecoder.{number_view, int_view};
 ghost use Rattle.jiter_scan.specs.NumberReading.{number_at, int_at};
+ghost use Rattle.jiter_scan.specs.Scanned.{taken};
 ghost use Rattle.jiter_steps.specs.Literal.{literal_at};
 ghost use Rattle.jiter.specs.Reader.{next, known, scalar_reply, integer_reply, null_read, bool_read, number_read};
 ghost use Rattle.jiter.specs.Reader.{int_read, number_bytes_read};
-ghost use Rattle.jiter.specs.Jiter.{BeginsAs, StandsAt, byte_of};
+ghost use Rattle.jiter.specs.Jiter.{MovesOn, StandsAt, byte_of};
 ghost use Rattle.jiter.specs.Reads.{Reads, never};
 
 use crate::errors::{JiterResult, JsonType};
 use crate::jiter::{Jiter, refusal, wrong_type};
 use crate::peek::Peek;
 use jiter_scan::number_decoder::{Integer, int_at};
+use jiter_scan::number_extent::fast_number_end;
 use jiter_scan::{NumberAny, NumberInt};
+use jiter_steps::fast::{fast_literal_end, peek};
 use jiter_steps::parse::{Literal, Start, start_of};
 
 impl<'j> Jiter<'j> {
@@ -34,33 +37,34 @@ impl<'j> Jiter<'j> {
         self.parser.number(self.allow_inf_nan).map_err(refusal)
     }
 
-    fn read_null(&mut self, start: Start) -> JiterResult<()>
-        requires { BeginsAs self.old start }
-        ensures reads { Reads never (λ u. u) (null_read self.old self.old.position start)
-            result self.old self.new }
+    // Reads the literal at `at` if it is there and more bytes follow. Otherwise the reader stays where it is.
+    #[inline(always)]
+    fn fast_literal(&mut self, at: usize, literal: Literal) -> bool
+        requires within { (self.old.position ≤ at) × (at < length self.old.text) }
+        ensures moves { MovesOn self.old self.new }
+        ensures value { result ≡ true → literal_at self.old.text literal at ≡ taken tt self.new.position }
+        ensures same { result ≡ false → self.new ≡ self.old }
     {
+        match fast_literal_end(self.parser.bytes, at, literal) {
+            Some(end) => {
+                self.parser.index = end;
+                true
+            }
+            None => false,
+        }
+    }
+
+    // Reads what the fast path can't, and finds the error.
+    #[cold]
+    #[inline(never)]
+    fn slow_null(&mut self) -> JiterResult<()>
+        ensures reads { Reads never (λ u. u) (next self.old (null_read self.old)) result self.old self.new }
+    {
+        let start = self.next_start()?;
         match start {
             Start::Literal(Literal::Null) => self.literal(Literal::Null),
             _ => Err(self.refused_as(JsonType::Null, start)),
         }
-    }
-
-    // The slow path, out of line.
-    #[cold]
-    #[inline(never)]
-    fn cold_null(&mut self) -> JiterResult<()>
-        ensures reads { Reads never (λ u. u) (next self.old (null_read self.old)) result self.old self.new }
-    {
-        let start = self.next_start()?;
-        self.read_null(start)
-    }
-
-    // A function of its own: otherwise the fast path would reserve stack space for the result of this call.
-    #[inline(always)]
-    fn slow_null(&mut self) -> JiterResult<()>
-        ensures reads { Reads never (λ u. u) (next self.old (null_read self.old)) result self.old self.new }
-    {
-        self.cold_null()
     }
 
     /// Reads `null` (RFC 8259, 3).
@@ -77,10 +81,9 @@ impl<'j> Jiter<'j> {
     pub fn next_null(&mut self) -> JiterResult<()>
         ensures reads { Reads never (λ u. u) (next self.old (null_read self.old)) result self.old self.new }
     {
-        if self.fast_null() {
-            Ok(())
-        } else {
-            self.slow_null()
+        match peek(self.parser.bytes, self.parser.index) {
+            (at, Some(b'n')) if self.fast_literal(at, Literal::Null) => Ok(()),
+            _ => self.slow_null(),
         }
     }
 
@@ -103,34 +106,18 @@ impl<'j> Jiter<'j> {
         self.next_null()
     }
 
-    fn read_bool(&mut self, start: Start) -> JiterResult<bool>
-        requires { BeginsAs self.old start }
-        ensures reads { Reads never (λ b. b) (bool_read self.old self.old.position start)
-            result self.old self.new }
+    // Reads what the fast path can't, and finds the error.
+    #[cold]
+    #[inline(never)]
+    fn slow_bool(&mut self) -> JiterResult<bool>
+        ensures reads { Reads never (λ b. b) (next self.old (bool_read self.old)) result self.old self.new }
     {
+        let start = self.next_start()?;
         match start {
             Start::Literal(Literal::True) => self.literal(Literal::True).and(Ok(true)),
             Start::Literal(Literal::False) => self.literal(Literal::False).and(Ok(false)),
             _ => Err(self.refused_as(JsonType::Bool, start)),
         }
-    }
-
-    // The slow path, out of line.
-    #[cold]
-    #[inline(never)]
-    fn cold_bool(&mut self) -> JiterResult<bool>
-        ensures reads { Reads never (λ b. b) (next self.old (bool_read self.old)) result self.old self.new }
-    {
-        let start = self.next_start()?;
-        self.read_bool(start)
-    }
-
-    // A function of its own: otherwise the fast path would reserve stack space for the result of this call.
-    #[inline(always)]
-    fn slow_bool(&mut self) -> JiterResult<bool>
-        ensures reads { Reads never (λ b. b) (next self.old (bool_read self.old)) result self.old self.new }
-    {
-        self.cold_bool()
     }
 
     /// Reads `true` or `false` (RFC 8259, 3).
@@ -147,9 +134,10 @@ impl<'j> Jiter<'j> {
     pub fn next_bool(&mut self) -> JiterResult<bool>
         ensures reads { Reads never (λ b. b) (next self.old (bool_read self.old)) result self.old self.new }
     {
-        match self.fast_bool() {
-            Some(truth) => Ok(truth),
-            None => self.slow_bool(),
+        match peek(self.parser.bytes, self.parser.index) {
+            (at, Some(b't')) if self.fast_literal(at, Literal::True) => Ok(true),
+            (at, Some(b'f')) if self.fast_literal(at, Literal::False) => Ok(false),
+            _ => self.slow_bool(),
         }
     }
 
@@ -166,22 +154,10 @@ impl<'j> Jiter<'j> {
         requires { StandsAt self.old (byte_of peek) }
         ensures reads { Reads never (λ b. b) (known self.old (bool_read self.old)) result self.old self.new }
     {
-        let byte = peek.into_inner();
-        if byte > b' ' {
+        if peek.into_inner() > b' ' {
             self.next_bool()
         } else {
-            self.read_bool(start_of(byte))
-        }
-    }
-
-    fn read_number(&mut self, start: Start) -> JiterResult<NumberAny<'j>>
-        requires { BeginsAs self.old start }
-        ensures reads { Reads never number_view (number_read self.old self.old.position start)
-            result self.old self.new }
-    {
-        match start {
-            Start::Number => self.number(),
-            _ => Err(self.refused_as(JsonType::Int, start)),
+            Err(self.refused_as(JsonType::Bool, Start::Nothing))
         }
     }
 
@@ -203,8 +179,8 @@ impl<'j> Jiter<'j> {
         ensures reads { Reads never number_view (next self.old (number_read self.old))
             result self.old self.new }
     {
-        let start = self.next_start()?;
-        self.read_number(start)
+        let peek = self.peek()?;
+        self.known_number(peek)
     }
 
     /// Reads the number that you peeked, as [`Jiter::next_number`] does.
@@ -221,7 +197,11 @@ impl<'j> Jiter<'j> {
         ensures reads { Reads never number_view (known self.old (number_read self.old))
             result self.old self.new }
     {
-        self.read_number(start_of(peek.into_inner()))
+        let start = start_of(peek.into_inner());
+        match start {
+            Start::Number => self.number(),
+            _ => Err(self.refused_as(JsonType::Int, start)),
+        }
     }
 
     fn integer(&mut self) -> JiterResult<NumberInt<'j>>
@@ -240,17 +220,6 @@ impl<'j> Jiter<'j> {
                 Err(wrong_type(JsonType::Int, JsonType::Float, index))
             }
             Err(fault) => Err(refusal(fault)),
-        }
-    }
-
-    fn read_int(&mut self, start: Start) -> JiterResult<NumberInt<'j>>
-        requires { BeginsAs self.old start }
-        ensures reads { Reads never int_view (int_read self.old self.old.position start)
-            result self.old self.new }
-    {
-        match start {
-            Start::Number => self.integer(),
-            _ => Err(self.refused_as(JsonType::Int, start)),
         }
     }
 
@@ -273,8 +242,8 @@ impl<'j> Jiter<'j> {
     pub fn next_int(&mut self) -> JiterResult<NumberInt<'j>>
         ensures reads { Reads never int_view (next self.old (int_read self.old)) result self.old self.new }
     {
-        let start = self.next_start()?;
-        self.read_int(start)
+        let peek = self.peek()?;
+        self.known_int(peek)
     }
 
     /// Reads the integer that you peeked, as [`Jiter::next_int`] does.
@@ -290,14 +259,21 @@ impl<'j> Jiter<'j> {
         requires { StandsAt self.old (byte_of peek) }
         ensures reads { Reads never int_view (known self.old (int_read self.old)) result self.old self.new }
     {
-        self.read_int(start_of(peek.into_inner()))
+        let start = start_of(peek.into_inner());
+        match start {
+            Start::Number => self.integer(),
+            _ => Err(self.refused_as(JsonType::Int, start)),
+        }
     }
 
-    fn read_number_bytes(&mut self, start: Start) -> JiterResult<&'j [u8]>
-        requires { BeginsAs self.old start }
-        ensures reads { Reads never (λ b. b.now) (number_bytes_read self.old self.old.position start)
+    // Reads what the fast path can't, and finds the error.
+    #[cold]
+    #[inline(never)]
+    fn slow_number_bytes(&mut self) -> JiterResult<&'j [u8]>
+        ensures reads { Reads never (λ b. b.now) (next self.old (number_bytes_read self.old))
             result self.old self.new }
     {
+        let start = self.next_start()?;
         let index = self.parser.index;
         match start {
             Start::Number => {
@@ -306,26 +282,6 @@ impl<'j> Jiter<'j> {
             }
             _ => Err(self.refused_as(JsonType::Float, start)),
         }
-    }
-
-    // The slow path, out of line.
-    #[cold]
-    #[inline(never)]
-    fn cold_number_bytes(&mut self) -> JiterResult<&'j [u8]>
-        ensures reads { Reads never (λ b. b.now) (next self.old (number_bytes_read self.old))
-            result self.old self.new }
-    {
-        let start = self.next_start()?;
-        self.read_number_bytes(start)
-    }
-
-    // A function of its own: otherwise the fast path would reserve stack space for the result of this call.
-    #[inline(always)]
-    fn slow_number_bytes(&mut self) -> JiterResult<&'j [u8]>
-        ensures reads { Reads never (λ b. b.now) (next self.old (number_bytes_read self.old))
-            result self.old self.new }
-    {
-        self.cold_number_bytes()
     }
 
     /// Reads a number and returns its source bytes, borrowed from the document (RFC 8259, 6).
@@ -340,10 +296,13 @@ impl<'j> Jiter<'j> {
         ensures reads { Reads never (λ b. b.now) (next self.old (number_bytes_read self.old))
             result self.old self.new }
     {
-        match self.fast_number_bytes() {
-            Some(bytes) => Ok(bytes),
-            None => self.slow_number_bytes(),
+        if let (at, Some(_)) = peek(self.parser.bytes, self.parser.index) {
+            if let Some(end) = fast_number_end(self.parser.bytes, at) {
+                self.parser.index = end;
+                return Ok(&self.parser.bytes[at..end]);
+            }
         }
+        self.slow_number_bytes()
     }
 
     /// Reads the number that you peeked and returns its source bytes, as [`Jiter::next_number_bytes`] does.
@@ -360,11 +319,10 @@ impl<'j> Jiter<'j> {
         ensures reads { Reads never (λ b. b.now) (known self.old (number_bytes_read self.old))
             result self.old self.new }
     {
-        let byte = peek.into_inner();
-        if byte > b' ' {
+        if peek.into_inner() > b' ' {
             self.next_number_bytes()
         } else {
-            self.read_number_bytes(start_of(byte))
+            Err(self.refused_as(JsonType::Float, Start::Nothing))
         }
     }
 }

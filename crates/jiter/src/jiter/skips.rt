@@ -1,8 +1,6 @@
 //! The pull reader's skips, which move past a value and build nothing.
-ghost use Rattle.std.specs.Prelude.{◌<◌, length};
-ghost use Rattle.jiter_steps.specs.Answer.{skip_at};
-ghost use Rattle.jiter.specs.Reader.{next, known, value_reply, value_read, skip_read};
-ghost use Rattle.jiter.specs.Jiter.{MovesOn, Replies, RefusesBytes, StandsAt, byte_of};
+ghost use Rattle.jiter.specs.Reader.{next, known, value_read, skip_read};
+ghost use Rattle.jiter.specs.Jiter.{Replies, StandsAt, byte_of};
 ghost use Rattle.jiter.specs.Reads.{Reads, never};
 ghost use Rattle.jiter.specs.Skipping.{SkipsAsRead};
 
@@ -12,21 +10,6 @@ use crate::peek::Peek;
 use jiter_steps::skip::skip;
 
 impl<'j> Jiter<'j> {
-    fn pass(&mut self) -> JiterResult<()>
-        requires { self.old.position < length self.old.text }
-        ensures reads { Reads never (λ u. u)
-            (value_reply (skip_at self.old.names self.old.text self.old.position)) result self.old self.new }
-    {
-        skip(&mut self.parser, self.allow_inf_nan).map_err(refusal)
-    }
-
-    fn pass_next(&mut self) -> JiterResult<()>
-        ensures reads { Reads never (λ u. u) (next self.old (skip_read self.old)) result self.old self.new }
-    {
-        self.peek()?;
-        self.pass()
-    }
-
     /// Skips the next value, whatever its type (RFC 8259, 3).
     ///
     /// Builds nothing, decodes no escape, does not check UTF-8 and does not allocate.
@@ -40,7 +23,8 @@ impl<'j> Jiter<'j> {
         ensures as_read { SkipsAsRead (Replies (λ u. u) result self.new)
             (next self.old (value_read self.old)) }
     {
-        self.pass_next()
+        let peek = self.peek()?;
+        self.known_skip(peek)
     }
 
     /// Skips the value that you peeked, as [`Jiter::next_skip`] does.
@@ -59,6 +43,6 @@ impl<'j> Jiter<'j> {
             (known self.old (value_read self.old)) }
     {
         let _ = peek;
-        self.pass()
+        skip(&mut self.parser, self.allow_inf_nan).map_err(refusal)
     }
 }

@@ -1,53 +1,51 @@
 //! The pull reader's calls for strings.
 ghost use Rattle.std.specs.Borrow.{sem};
-ghost use Rattle.std.specs.Prelude.{◌≡◌, ◌<◌, ◌≤◌, ℕ, IfOk, IfSome, Some, if◌then◌else◌, length, slice_get, true};
-ghost use Rattle.std.specs.Prelude.{take, vec_len};
+ghost use Rattle.std.specs.Prelude.{◌≡◌, ◌+◌, ◌<◌, ◌≤◌, Bool, IfErr, IfOk, IfSome, Some, if◌then◌else◌, length, slice_get};
+ghost use Rattle.std.specs.Prelude.{false, true, vec_len};
 ghost use Rattle.std.specs.Str.{IsUtf8};
 ghost use Rattle.jiter_scan.specs.Ascii as ascii;
 ghost use Rattle.jiter_scan.specs.Scanned.{taken};
-ghost use Rattle.jiter_steps.specs.Blank.{past_blanks};
 ghost use Rattle.jiter_steps.specs.RawString.{raw_view};
 ghost use Rattle.jiter_steps.specs.StringDecoder.{text_view, WantsMemory};
 ghost use Rattle.jiter_steps.specs.StringReading.{string_at, text_form, whole, kept, raw, raw_kept};
-ghost use Rattle.jiter.specs.Reader.{value_place, next, known, gave, scalar_reply, str_read, bytes_read};
-ghost use Rattle.jiter.specs.Jiter.{MovesOn, prefix, reply_seen, text_bytes, BeginsAs, IsMemory, StandsAt};
+ghost use Rattle.jiter.specs.Reader.{value_place, next, known, scalar_reply, str_read, bytes_read};
+ghost use Rattle.jiter.specs.Jiter.{prefix, reply_seen, text_bytes, StandsAt};
 ghost use Rattle.jiter.specs.Reads.{Lends, Reads, never, escape_memory, string_memory};
 ghost use Rattle.jiter.specs.Lending.{LeavesReader};
 
-use crate::errors::{JiterError, JiterResult, JsonType};
+use crate::errors::{JiterResult, JsonType};
 use crate::jiter::{Jiter, refusal, refusal_at};
-use jiter_scan::memory::AllocFailed;
+use jiter_scan::simd::scan_string;
 use jiter_scan::text::utf8_text;
+use jiter_steps::fast::{ascii_between, peek, text_between};
 use jiter_steps::parse::Start;
-use jiter_steps::read_error::ReadError;
 use jiter_steps::string_decoder::decode_to;
 use std::alloc::Global;
 use std::borrow::CowStr;
 
-// Returns how many bytes were decoded to the start of the tape, and the index after the string. Only the contract uses
-// `from`: it speaks of the reader's position before the whitespace.
+// Returns the string at `at`, if it is in the document as it is. `Err(true)`: a backslash is the first byte of the
+// string that is not plain.
 #[inline(always)]
-fn decode_next(
-    tape: &mut Vec<u8>,
-    bytes: &[u8],
-    from: usize,
-    at: usize,
-    keep: bool,
-) -> Result<(usize, usize), ReadError>
-    requires place { at ≡ past_blanks bytes.now from }
-    requires quote { slice_get bytes.now at ≡ Some ascii.quote }
-    requires backslash { WantsMemory bytes.now at }
-    ensures quote { IfOk result (λ _. slice_get bytes.now (past_blanks bytes.now from) ≡ Some ascii.quote) }
-    ensures value { IfOk result (λ r. string_at (text_form keep) bytes.now (past_blanks bytes.now from)
-        ≡ taken (record { owned = true; bytes = take r.0 tape.new.items }) r.1) }
-    ensures text { IfOk result (λ r. IsUtf8 (take r.0 tape.new.items)) }
-    ensures room { IfOk result (λ r. r.0 ≤ vec_len tape.new) }
-    ensures within { IfOk result (λ r. (from ≤ r.1) × (r.1 ≤ length bytes.now)) }
+pub(super) fn fast_text<'j>(bytes: &'j [u8], at: usize) -> Result<&'j str, bool>
+    requires { at < length bytes.now }
+    ensures value { IfOk result (λ text. (keep : Bool) → string_at (text_form keep) bytes.now at
+        ≡ taken (record { owned = false; bytes = text.now }) (at + length text.now + 2)) }
+    ensures within { IfOk result (λ text. at + length text.now + 2 ≤ length bytes.now) }
+    ensures escaped { IfErr result (λ e. e ≡ true → WantsMemory bytes.now at) }
 {
-    let _ = from;
-    match decode_to(tape, bytes, at, keep) {
-        Ok((count, end)) => Ok((count, end)),
-        Err(error) => Err(error),
+    let (to, low) = scan_string(bytes, at + 1);
+    if to >= bytes.len() {
+        return Err(false);
+    }
+    if bytes[to] != b'"' {
+        return Err(bytes[to] == b'\\');
+    }
+    if low {
+        return Ok(ascii_between(bytes, at, to));
+    }
+    match text_between(bytes, at, to) {
+        Some(text) => Ok(text),
+        None => Err(false),
     }
 }
 
@@ -74,20 +72,6 @@ impl<'j> Jiter<'j> {
         }
     }
 
-    fn put_tape(&mut self, tape: Vec<u8>)
-        ensures { self.new ≡ self.old }
-    {
-        self.tape = Some(tape);
-    }
-
-    #[inline(always)]
-    fn source(&self) -> (&'j [u8], bool)
-        ensures bytes { result.0.now ≡ self.now.text }
-        ensures keep { result.1 ≡ self.now.partial_strings }
-    {
-        (self.parser.bytes, self.allow_partial_strings)
-    }
-
     // `partial` allows an unterminated string.
     pub(super) fn string(&mut self, alloc: Global, partial: bool) -> JiterResult<CowStr<'j>>
         requires { self.old.position < length self.old.text }
@@ -102,84 +86,20 @@ impl<'j> Jiter<'j> {
         read.map_err(|error| refusal_at(error, self.parser.index))
     }
 
-    fn read_str(&mut self, alloc: Global, start: Start) -> JiterResult<CowStr<'j>>
-        requires { BeginsAs self.old start }
-        ensures reads { Reads (string_memory self.old.text self.old.position) text_view
-            (str_read self.old self.old.position start) result self.old self.new }
+    // Reads what the fast path can't, and finds the error.
+    #[inline(never)]
+    fn slow_str(&mut self, alloc: Global) -> JiterResult<CowStr<'j>>
+        ensures reads { Reads (string_memory self.old.text (value_place self.old)) text_view
+            (next self.old (str_read self.old)) result self.old self.new }
     {
+        let start = self.next_start()?;
         match start {
             Start::String => self.string(alloc, self.allow_partial_strings),
             _ => Err(self.refused_as(JsonType::String, start)),
         }
     }
 
-    #[inline(never)]
-    fn take_str(&mut self, alloc: Global) -> JiterResult<CowStr<'j>>
-        ensures reads { Reads (string_memory self.old.text (value_place self.old)) text_view
-            (next self.old (str_read self.old)) result self.old self.new }
-    {
-        let start = self.next_start()?;
-        self.read_str(alloc, start)
-    }
-
-    #[inline(always)]
-    fn slow_str(&mut self, alloc: Global) -> JiterResult<&str>
-        ensures reads { Lends (string_memory self.old.text (value_place self.old)) (λ x. x.now)
-            (reply_seen text_bytes (next self.old (str_read self.old))) result self.old }
-        ensures* after { sem 𝓛 (LeavesReader (string_memory self.old.text (value_place self.old)) (λ x. x.now)
-            (reply_seen text_bytes (next self.old (str_read self.old))) result self.entry) }
-    {
-        self.text = self.take_str(alloc)?;
-        Ok(self.text.as_str())
-    }
-
-    // Nothing has moved the reader yet: it passes the whitespace here.
-    #[cold]
-    fn refused_str(&mut self, refused: AllocFailed) -> JiterError
-        ensures moves { MovesOn self.old self.new }
-        ensures memory { IsMemory result }
-        ensures place { (self.new.position ≡ result.index) × (result.index ≡ value_place self.old) }
-    {
-        let _ = self.next_byte();
-        refusal_at(ReadError::Memory(refused), self.parser.index)
-    }
-
-    // If decoding failed for another reason than memory, the slow path reads the string again and finds the error.
-    #[cold]
-    #[inline(never)]
-    fn take_undecoded(
-        &mut self,
-        alloc: Global,
-        error: ReadError,
-        at: usize,
-    ) -> JiterResult<CowStr<'j>>
-        requires place { at ≡ value_place self.old }
-        requires quote { slice_get self.old.text at ≡ Some ascii.quote }
-        requires backslash { WantsMemory self.old.text at }
-        ensures reads { Reads (string_memory self.old.text (value_place self.old)) text_view
-            (next self.old (str_read self.old)) result self.old self.new }
-    {
-        let _ = at;
-        match error {
-            ReadError::Memory(refused) => Err(self.refused_str(refused)),
-            ReadError::Fault(_) => self.take_str(alloc),
-        }
-    }
-
-    #[inline(always)]
-    fn undecoded_str(&mut self, alloc: Global, error: ReadError, at: usize) -> JiterResult<&str>
-        requires place { at ≡ value_place self.old }
-        requires quote { slice_get self.old.text at ≡ Some ascii.quote }
-        requires backslash { WantsMemory self.old.text at }
-        ensures reads { Lends (string_memory self.old.text (value_place self.old)) (λ x. x.now)
-            (reply_seen text_bytes (next self.old (str_read self.old))) result self.old }
-        ensures* after { sem 𝓛 (LeavesReader (string_memory self.old.text (value_place self.old)) (λ x. x.now)
-            (reply_seen text_bytes (next self.old (str_read self.old))) result self.entry) }
-    {
-        self.text = self.take_undecoded(alloc, error, at)?;
-        Ok(self.text.as_str())
-    }
-
+    // Decodes the string at `at`, which has a backslash, to the tape, and borrows it from there.
     #[inline(always)]
     fn escaped_str(&mut self, alloc: Global, at: usize) -> JiterResult<&str>
         requires place { at ≡ value_place self.old }
@@ -191,16 +111,16 @@ impl<'j> Jiter<'j> {
             (reply_seen text_bytes (next self.old (str_read self.old))) result self.entry) }
     {
         let mut tape = self.take_tape(alloc);
-        let (bytes, keep) = self.source();
-        match decode_next(&mut tape, bytes, self.current_index(), at, keep) {
+        let read = decode_to(&mut tape, self.parser.bytes, at, self.allow_partial_strings);
+        self.tape = Some(tape);
+        match read {
             Ok((count, end)) => {
-                self.tape = Some(tape);
                 self.parser.index = end;
                 Ok(text_on(&self.tape, count))
             }
             Err(error) => {
-                self.put_tape(tape);
-                self.undecoded_str(alloc, error, at)
+                self.parser.index = at;
+                Err(refusal_at(error, at))
             }
         }
     }
@@ -230,11 +150,18 @@ impl<'j> Jiter<'j> {
         ensures* after { sem 𝓛 (LeavesReader (string_memory self.old.text (value_place self.old)) (λ x. x.now)
             (reply_seen text_bytes (next self.old (str_read self.old))) result self.entry) }
     {
-        match self.fast_str() {
-            Ok(text) => Ok(text),
-            Err(Some(at)) => self.escaped_str(alloc, at),
-            Err(None) => self.slow_str(alloc),
+        if let (at, Some(b'"')) = peek(self.parser.bytes, self.parser.index) {
+            match fast_text(self.parser.bytes, at) {
+                Ok(text) => {
+                    self.parser.index = at + text.len() + 2;
+                    return Ok(text);
+                }
+                Err(true) => return self.escaped_str(alloc, at),
+                Err(false) => {}
+            }
         }
+        self.text = self.slow_str(alloc)?;
+        Ok(self.text.as_str())
     }
 
     /// Reads the string that you peeked and returns it decoded, as [`Jiter::next_str`] does.
@@ -255,7 +182,7 @@ impl<'j> Jiter<'j> {
         ensures* after { sem 𝓛 (LeavesReader (string_memory self.old.text self.old.position) (λ x. x.now)
             (reply_seen text_bytes (known self.old (str_read self.old))) result self.entry) }
     {
-        self.text = self.read_str(alloc, Start::String)?;
+        self.text = self.string(alloc, self.allow_partial_strings)?;
         Ok(self.text.as_str())
     }
 
@@ -267,17 +194,6 @@ impl<'j> Jiter<'j> {
             result self.old self.new }
     {
         self.parser.raw_string(partial).map_err(refusal)
-    }
-
-    fn read_bytes(&mut self, start: Start) -> JiterResult<&'j [u8]>
-        requires { BeginsAs self.old start }
-        ensures reads { Reads never raw_view (bytes_read self.old self.old.position start)
-            result self.old self.new }
-    {
-        match start {
-            Start::String => self.raw_string(self.allow_partial_strings),
-            _ => Err(self.refused_as(JsonType::String, start)),
-        }
     }
 
     /// Reads a string and returns the bytes between its quotes (RFC 8259, 7).
@@ -295,7 +211,10 @@ impl<'j> Jiter<'j> {
         ensures reads { Reads never raw_view (next self.old (bytes_read self.old)) result self.old self.new }
     {
         let start = self.next_start()?;
-        self.read_bytes(start)
+        match start {
+            Start::String => self.raw_string(self.allow_partial_strings),
+            _ => Err(self.refused_as(JsonType::String, start)),
+        }
     }
 
     /// Reads the string that you peeked and returns the bytes between its quotes, as [`Jiter::next_bytes`] does.
@@ -311,6 +230,6 @@ impl<'j> Jiter<'j> {
         requires { StandsAt self.old ascii.quote }
         ensures reads { Reads never raw_view (known self.old (bytes_read self.old)) result self.old self.new }
     {
-        self.read_bytes(Start::String)
+        self.raw_string(self.allow_partial_strings)
     }
 }

@@ -1,8 +1,6 @@
 //! The pull reader's calls for complete values.
-ghost use Rattle.std.specs.Prelude.{◌≡◌, ◌<◌, ◌≤◌, length};
-ghost use Rattle.jiter_steps.specs.Answer.{read_at};
-ghost use Rattle.jiter_value.specs.Value.{view, MayGrowAt};
-ghost use Rattle.jiter.specs.Reader.{value_place, next, known, value_reply, value_read};
+ghost use Rattle.jiter_value.specs.Value.{view};
+ghost use Rattle.jiter.specs.Reader.{value_place, next, known, value_read};
 ghost use Rattle.jiter.specs.Jiter.{StandsAt, byte_of};
 ghost use Rattle.jiter.specs.Reads.{Reads, value_memory};
 
@@ -16,22 +14,6 @@ use jiter_value::settings::Settings;
 use std::alloc::Global;
 
 impl<'j> Jiter<'j> {
-    fn value(&mut self, alloc: Global) -> JiterResult<JsonValue<'j>>
-        requires { self.old.position < length self.old.text }
-        ensures reads { Reads (value_memory self.old self.old.position) view
-            (value_reply (read_at self.old.names self.old.text self.old.position))
-            result self.old self.new }
-    {
-        let settings = Settings {
-            allow_inf_nan: self.allow_inf_nan,
-            mode: PartialMode::Off,
-        };
-        read_value(alloc, &mut self.parser, settings).map_err(|error| refusal_at(
-            error,
-            self.parser.index,
-        ))
-    }
-
     /// Parses the next value, whatever its type, with partial reading off (RFC 8259, 3).
     ///
     /// A string without a backslash and the text of a number are borrowed from the document. Bytes after the value are
@@ -50,8 +32,8 @@ impl<'j> Jiter<'j> {
             (next self.old (value_read self.old))
             result self.old self.new }
     {
-        self.peek()?;
-        self.value(alloc)
+        let peek = self.peek()?;
+        self.known_value(alloc, peek)
     }
 
     /// Parses the value that you peeked, as [`Jiter::next_value`] does.
@@ -70,6 +52,13 @@ impl<'j> Jiter<'j> {
             result self.old self.new }
     {
         let _ = peek;
-        self.value(alloc)
+        let settings = Settings {
+            allow_inf_nan: self.allow_inf_nan,
+            mode: PartialMode::Off,
+        };
+        read_value(alloc, &mut self.parser, settings).map_err(|error| refusal_at(
+            error,
+            self.parser.index,
+        ))
     }
 }

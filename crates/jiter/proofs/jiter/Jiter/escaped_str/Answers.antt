@@ -1,15 +1,35 @@
-use Rattle.std.proofs.Common.{refl, rules}
-use Rattle.jiter.specs.Reader.{with_position}
+use Rattle.std.proofs.Common.{◌∙◌, ◌<◌, refl, sym, subst, length, arith}
+use Rattle.std.proofs.lemmas.Option.{slice_get_within}
+use Rattle.jiter_scan.proofs.Scanning.{ScalarWithin}
+use Rattle.jiter_steps.specs.StringReading.{text_form}
+use Rattle.jiter_steps.proofs.Grammar.StringLaws.{string_at-within}
+use Rattle.jiter.proofs.FastReplies.{decoded, undecoded}
 use Rattle.jiter.proofs.jiter.Jiter.escaped_str.Goals as goal
 
+pub invariant_of-self-inside : goal.invariant_of-self-inside
+invariant_of-self-inside c =
+    let p = c.self.inside.parser in
+    let is = c.self.view_is ∙ c.take_tape-tape.ensures in
+    let inside = subst (λ s. c.args.at < length s.text) (sym is) (slice_get_within _ c.args.at 34 c.requires.quote) in
+    let at = subst (ScalarWithin p.bytes.now c.args.at) c.in-Ok.ensures.value
+    (string_at-within (text_form c.self.inside.allow_partial_strings) p.bytes.now c.args.at inside) in
+    record { within = at.1 }
+
+pub invariant_of-self-inside-in-Err : goal.invariant_of-self-inside-in-Err
+invariant_of-self-inside-in-Err c =
+    let is = c.self.view_is ∙ c.take_tape-tape.ensures in
+    let inside = subst (λ s. c.args.at < length s.text) (sym is) (slice_get_within _ c.args.at 34 c.requires.quote) in
+    record { within = omega (arith, inside) }
+
 pub returns-in-Ok : goal.returns-in-Ok
-returns-in-Ok c = (
-  (refl, (λ _. tt), record { moves = search rules; value = search rules; index = tt; memory = tt }),
-  record {
-    reads = (
-      with_position c.args.self.now c.in-Ok.end,
-      record { moves = search rules; value = search rules; index = tt; memory = tt },
-    );
-    after = tt;
-  },
-)
+returns-in-Ok c =
+    let reads = decoded _ c.args.self.now c.args.at c.in-Ok.end _ c.text_on.result
+    (c.self.view_is ∙ c.take_tape-tape.ensures) c.requires.place c.requires.quote c.in-Ok.ensures.value c.text_on.ensures in
+    ((refl, (λ _. tt), reads), record { reads = (_, reads); after = tt })
+
+pub returns-in-Err : goal.returns-in-Err
+returns-in-Err c =
+    let reads = undecoded _ _ _ c.args.self.now c.args.at c.in-Err.error c.refusal_at.result
+    (c.self.view_is ∙ c.take_tape-tape.ensures) c.requires.place c.requires.quote c.requires.backslash c.refusal_at.ensures
+    c.in-Err.ensures.value in
+    ((refl, (λ _. tt), reads), record { reads = (_, reads); after = tt })

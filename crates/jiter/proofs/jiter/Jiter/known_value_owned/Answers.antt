@@ -1,15 +1,19 @@
 use Rattle.std.proofs.Common.{sym, subst, rules, arith}
 use Rattle.std.proofs.lemmas.Grind.{common_steps}
+use Rattle.std.proofs.lemmas.Option.{slice_get_within}
 use Rattle.jiter_steps.proofs.Reading.Instances.{read_at-within}
 use Rattle.jiter_value.specs.Value.{view}
+use Rattle.jiter.specs.Jiter.{byte_of}
 use Rattle.jiter.proofs.Refusals.{IsInside, index-parser, index-refused, owned-within}
-use Rattle.jiter.proofs.jiter.Jiter.owned_value.Goals as goal
+use Rattle.jiter.proofs.jiter.Jiter.known_value_owned.Goals as goal
 
 pub returns : goal.returns
 returns c =
+    let s = c.args.self.now in
     let p = c.self.inside.parser in
+    let inside = slice_get_within s.text s.position (byte_of c.args.peek) c.requires in
     let at = owned-within p.bytes.now p.index _ (read_at-within p.bytes.now c.self.inside.allow_inf_nan p.index
-    (subst IsInside (sym c.self.view_is) c.requires)) in
+    (subst IsInside (sym c.self.view_is) inside)) in
     let stop = index-parser p c.read_owned.new.parser c.read_owned.ensures.moves in
     record {
       reads = record {

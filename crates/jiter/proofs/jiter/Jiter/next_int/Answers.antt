@@ -1,0 +1,14 @@
+use Rattle.std.proofs.Common.{refl}
+use Rattle.jiter.specs.Jiter.{byte_of}
+use Rattle.jiter.specs.Reader.{int_read}
+use Rattle.jiter.proofs.Peeking.{read-peeked}
+use Rattle.jiter.proofs.jiter.Jiter.next_int.Goals as goal
+
+pub returns : goal.returns
+returns c =
+    let s = c.args.self.now in
+    let p = c.in_ok-peek.ensures in
+    record {
+      reads = read-peeked int_read s c.peek.new.self (byte_of c.in_ok-peek.peek) (λ i. refl) p.reads.moves c.peek.ensures.place p.here
+          c.known_int.ensures.reads;
+    }
