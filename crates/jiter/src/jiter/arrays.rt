@@ -59,7 +59,7 @@ impl<'j> Jiter<'j> {
     // Reads what the fast path can't, and finds the error.
     #[cold]
     #[inline(never)]
-    fn slow_array(&mut self) -> JiterResult<Option<Peek>>
+    fn cold_array(&mut self) -> JiterResult<Option<Peek>>
         ensures reads { Reads never (option_map byte_of) (next self.old (array_read self.old))
             result self.old self.new }
         ensures here { TellsHere result self.new }
@@ -72,6 +72,16 @@ impl<'j> Jiter<'j> {
             }
             _ => Err(self.refused_as(JsonType::Array, start)),
         }
+    }
+
+    // A function of its own: otherwise the fast path would reserve stack space for the result of this call.
+    #[inline(always)]
+    fn slow_array(&mut self) -> JiterResult<Option<Peek>>
+        ensures reads { Reads never (option_map byte_of) (next self.old (array_read self.old))
+            result self.old self.new }
+        ensures here { TellsHere result self.new }
+    {
+        self.cold_array()
     }
 
     /// Steps into the next array and returns the first byte of its first item, or `None` if it is empty (RFC 8259, 5).
@@ -134,12 +144,21 @@ impl<'j> Jiter<'j> {
     // The same of a step.
     #[cold]
     #[inline(never)]
-    fn slow_step(&mut self) -> JiterResult<Option<Peek>>
+    fn cold_step(&mut self) -> JiterResult<Option<Peek>>
         ensures reads { Reads never (option_map byte_of) (item_step self.old) result self.old self.new }
         ensures here { TellsHere result self.new }
     {
         let led = self.parser.step(ContainerKind::Array);
         self.item(led)
+    }
+
+    // A function of its own: otherwise the fast path would reserve stack space for the result of this call.
+    #[inline(always)]
+    fn slow_step(&mut self) -> JiterResult<Option<Peek>>
+        ensures reads { Reads never (option_map byte_of) (item_step self.old) result self.old self.new }
+        ensures here { TellsHere result self.new }
+    {
+        self.cold_step()
     }
 
     /// Moves past the comma after an item and returns the first byte of the next item, or `None` at the array's end

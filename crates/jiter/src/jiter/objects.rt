@@ -130,7 +130,7 @@ impl<'j> Jiter<'j> {
 
     // Reads what the fast path can't, and finds the error.
     #[inline(never)]
-    fn slow_first_key(&mut self, alloc: Global) -> JiterResult<Option<CowStr<'j>>>
+    fn take_first_key(&mut self, alloc: Global) -> JiterResult<Option<CowStr<'j>>>
         ensures reads { Reads (first_key_memory self.old.text (value_place self.old)) (option_map text_view)
             (next self.old (object_read whole self.old)) result self.old self.new }
         ensures colon { EndsWithColon result self.old.text self.new.position }
@@ -141,7 +141,7 @@ impl<'j> Jiter<'j> {
 
     // The same of the next key.
     #[inline(never)]
-    fn slow_key(&mut self, alloc: Global) -> JiterResult<Option<CowStr<'j>>>
+    fn take_key(&mut self, alloc: Global) -> JiterResult<Option<CowStr<'j>>>
         ensures reads { Reads (next_key_memory self.old) (option_map text_view)
             (key_step whole self.old) result self.old self.new }
         ensures colon { EndsWithColon result self.old.text self.new.position }
@@ -213,6 +213,25 @@ impl<'j> Jiter<'j> {
         self.key_bytes_there(next)
     }
 
+    #[inline(always)]
+    fn slow_object(&mut self, alloc: Global) -> JiterResult<Option<&str>>
+        ensures reads { Lends (first_key_memory self.old.text (value_place self.old)) (option_map (λ x. x.now))
+            (reply_seen key_bytes (next self.old (object_read whole self.old))) result self.old }
+        ensures colon { EndsWithColon result self.old.text
+            (position_after (next self.old (object_read whole self.old))) }
+        ensures* after { sem 𝓛 (LeavesReader (first_key_memory self.old.text (value_place self.old)) (option_map (λ x. x.now))
+            (reply_seen key_bytes (next self.old (object_read whole self.old))) result self.entry) }
+    {
+        let key = self.take_first_key(alloc)?;
+        match key {
+            Some(text) => {
+                self.text = text;
+                Ok(Some(self.text.as_str()))
+            }
+            None => Ok(None),
+        }
+    }
+
     /// Steps into the next object and returns its first key, decoded, or `None` if it is empty (RFC 8259, 4).
     ///
     /// The key is borrowed from the reader: use it before the reader's next call, or call [`Jiter::next_object_bytes`].
@@ -244,14 +263,7 @@ impl<'j> Jiter<'j> {
         if let Some(key) = self.fast_object() {
             return Ok(key);
         }
-        let key = self.slow_first_key(alloc)?;
-        match key {
-            Some(text) => {
-                self.text = text;
-                Ok(Some(self.text.as_str()))
-            }
-            None => Ok(None),
-        }
+        self.slow_object(alloc)
     }
 
     /// Steps into the object that you peeked, as [`Jiter::next_object`] does.
@@ -275,6 +287,25 @@ impl<'j> Jiter<'j> {
             (reply_seen key_bytes (known self.old (object_read whole self.old))) result self.entry) }
     {
         let key = self.first_key(alloc, Start::Object)?;
+        match key {
+            Some(text) => {
+                self.text = text;
+                Ok(Some(self.text.as_str()))
+            }
+            None => Ok(None),
+        }
+    }
+
+    #[inline(always)]
+    fn slow_key(&mut self, alloc: Global) -> JiterResult<Option<&str>>
+        ensures reads { Lends (next_key_memory self.old) (option_map (λ x. x.now))
+            (reply_seen key_bytes (key_step whole self.old)) result self.old }
+        ensures colon { EndsWithColon result self.old.text
+            (position_after (key_step whole self.old)) }
+        ensures* after { sem 𝓛 (LeavesReader (next_key_memory self.old) (option_map (λ x. x.now))
+            (reply_seen key_bytes (key_step whole self.old)) result self.entry) }
+    {
+        let key = self.take_key(alloc)?;
         match key {
             Some(text) => {
                 self.text = text;
@@ -317,13 +348,6 @@ impl<'j> Jiter<'j> {
         if let Some(key) = self.fast_key(at, next) {
             return Ok(key);
         }
-        let key = self.slow_key(alloc)?;
-        match key {
-            Some(text) => {
-                self.text = text;
-                Ok(Some(self.text.as_str()))
-            }
-            None => Ok(None),
-        }
+        self.slow_key(alloc)
     }
 }

@@ -57,7 +57,7 @@ impl<'j> Jiter<'j> {
     // Reads what the fast path can't, and finds the error.
     #[cold]
     #[inline(never)]
-    fn slow_null(&mut self) -> JiterResult<()>
+    fn cold_null(&mut self) -> JiterResult<()>
         ensures reads { Reads never (λ u. u) (next self.old (null_read self.old)) result self.old self.new }
     {
         let start = self.next_start()?;
@@ -65,6 +65,14 @@ impl<'j> Jiter<'j> {
             Start::Literal(Literal::Null) => self.literal(Literal::Null),
             _ => Err(self.refused_as(JsonType::Null, start)),
         }
+    }
+
+    // A function of its own: otherwise the fast path would reserve stack space for the result of this call.
+    #[inline(always)]
+    fn slow_null(&mut self) -> JiterResult<()>
+        ensures reads { Reads never (λ u. u) (next self.old (null_read self.old)) result self.old self.new }
+    {
+        self.cold_null()
     }
 
     /// Reads `null` (RFC 8259, 3).
@@ -109,7 +117,7 @@ impl<'j> Jiter<'j> {
     // Reads what the fast path can't, and finds the error.
     #[cold]
     #[inline(never)]
-    fn slow_bool(&mut self) -> JiterResult<bool>
+    fn cold_bool(&mut self) -> JiterResult<bool>
         ensures reads { Reads never (λ b. b) (next self.old (bool_read self.old)) result self.old self.new }
     {
         let start = self.next_start()?;
@@ -118,6 +126,14 @@ impl<'j> Jiter<'j> {
             Start::Literal(Literal::False) => self.literal(Literal::False).and(Ok(false)),
             _ => Err(self.refused_as(JsonType::Bool, start)),
         }
+    }
+
+    // A function of its own: otherwise the fast path would reserve stack space for the result of this call.
+    #[inline(always)]
+    fn slow_bool(&mut self) -> JiterResult<bool>
+        ensures reads { Reads never (λ b. b) (next self.old (bool_read self.old)) result self.old self.new }
+    {
+        self.cold_bool()
     }
 
     /// Reads `true` or `false` (RFC 8259, 3).
@@ -269,7 +285,7 @@ impl<'j> Jiter<'j> {
     // Reads what the fast path can't, and finds the error.
     #[cold]
     #[inline(never)]
-    fn slow_number_bytes(&mut self) -> JiterResult<&'j [u8]>
+    fn cold_number_bytes(&mut self) -> JiterResult<&'j [u8]>
         ensures reads { Reads never (λ b. b.now) (next self.old (number_bytes_read self.old))
             result self.old self.new }
     {
@@ -282,6 +298,15 @@ impl<'j> Jiter<'j> {
             }
             _ => Err(self.refused_as(JsonType::Float, start)),
         }
+    }
+
+    // A function of its own: otherwise the fast path would reserve stack space for the result of this call.
+    #[inline(always)]
+    fn slow_number_bytes(&mut self) -> JiterResult<&'j [u8]>
+        ensures reads { Reads never (λ b. b.now) (next self.old (number_bytes_read self.old))
+            result self.old self.new }
+    {
+        self.cold_number_bytes()
     }
 
     /// Reads a number and returns its source bytes, borrowed from the document (RFC 8259, 6).

@@ -88,7 +88,7 @@ impl<'j> Jiter<'j> {
 
     // Reads what the fast path can't, and finds the error.
     #[inline(never)]
-    fn slow_str(&mut self, alloc: Global) -> JiterResult<CowStr<'j>>
+    fn take_str(&mut self, alloc: Global) -> JiterResult<CowStr<'j>>
         ensures reads { Reads (string_memory self.old.text (value_place self.old)) text_view
             (next self.old (str_read self.old)) result self.old self.new }
     {
@@ -97,6 +97,17 @@ impl<'j> Jiter<'j> {
             Start::String => self.string(alloc, self.allow_partial_strings),
             _ => Err(self.refused_as(JsonType::String, start)),
         }
+    }
+
+    #[inline(always)]
+    fn slow_str(&mut self, alloc: Global) -> JiterResult<&str>
+        ensures reads { Lends (string_memory self.old.text (value_place self.old)) (λ x. x.now)
+            (reply_seen text_bytes (next self.old (str_read self.old))) result self.old }
+        ensures* after { sem 𝓛 (LeavesReader (string_memory self.old.text (value_place self.old)) (λ x. x.now)
+            (reply_seen text_bytes (next self.old (str_read self.old))) result self.entry) }
+    {
+        self.text = self.take_str(alloc)?;
+        Ok(self.text.as_str())
     }
 
     // Decodes the string at `at`, which has a backslash, to the tape, and borrows it from there.
@@ -160,8 +171,7 @@ impl<'j> Jiter<'j> {
                 Err(false) => {}
             }
         }
-        self.text = self.slow_str(alloc)?;
-        Ok(self.text.as_str())
+        self.slow_str(alloc)
     }
 
     /// Reads the string that you peeked and returns it decoded, as [`Jiter::next_str`] does.
