@@ -1,0 +1,231 @@
+"""The rows of the script memory: calls, documents, and what they may allocate."""
+
+from collections import namedtuple
+
+MODES = ("off", "on", "trailing-strings")
+# The bytes of a value, and of a key and its value.
+VALUE, MEMBER = 40, 72
+
+# Requests, the bytes that they ask for, and how many more blocks are held at the end than at the beginning. None is any
+# number.
+Section = namedtuple("Section", "requests asked kept")
+# A run, what is wanted of it, and why. If the answer or the sections are None, they are not looked at.
+Row = namedtuple("Row", "claim call mode document answer sections")
+
+NOTHING = Section(0, 0, 0)
+ANY = Section(None, None, None)
+
+
+class Most(int):
+    """In a section that is wanted, so much or less."""
+
+
+def blocks(*sizes):
+    """Returns the section of a call that allocates blocks of these sizes, one by one, and keeps each."""
+    return Section(len(sizes), sum(sizes), len(sizes))
+
+
+def items(count):
+    return count * VALUE
+
+
+def members(count):
+    return count * MEMBER
+
+
+# Documents and their values. Only the second ones have a string or a number that is kept as its text.
+PLAIN = {" null": "null", "true": "true", "false": "false", "12": "12", "-12": "-12", "[ ]": "[]", "{ }": "{}"}
+BORROWED = {
+    "2.5": "float '2.5'",
+    "2.50": "float '2.50'",
+    "NaN": "float 'NaN'",
+    "9223372036854775808": "big '9223372036854775808'",
+    '"abc"': "'abc'",
+    '""': "''",
+}
+# Documents that are truncated or have an error. Only the second ones may have a string in some mode.
+BROKEN = ("", "x", "nul", "[", "[x", "{", "{1", "[ ] x")
+BROKEN_BORROWED = ("1.", '"ab')
+
+# A document of each kind of value, and that value: as it is read, and with all its strings owned.
+MANY = r"""[1,2.50,"abc","a\nb","",[],{},["",[null]],{"k":1,"l\n":[true]},9223372036854775808,
+    -1.2345678901234567e-308,1000000000000000000000000]"""
+MANY_READ = """[1,float '2.50','abc',owned 'a
+b','',[],{},['',[null]],{'k':1,owned 'l
+':[true]},big '9223372036854775808',float '-1.2345678901234567e-308',big '1000000000000000000000000']"""
+MANY_OWNED = """[1,float owned '2.50',owned 'abc',owned 'a
+b',owned '',[],{},[owned '',[null]],{owned 'k':1,owned 'l
+':[true]},big owned '9223372036854775808',float owned '-1.2345678901234567e-308',\
+big owned '1000000000000000000000000']"""
+# The sizes of its containers, of its strings with an escape, and of the others, without what is empty.
+MANY_CONTAINERS = (items(12), items(2), items(1), members(2), items(1))
+MANY_DECODED = (3, 2)
+MANY_BORROWED = (4, 3, 1, 19, 24, 25)
+
+# A string of 20,001 bytes.
+LONG = r'"\n' + "a" * 20_000 + '"'
+
+
+def without_allocation(claim, calls, modes, document, answer):
+    """Yields rows of calls that do not allocate. A scratch has four sections: `new` and three readings."""
+    for call in calls.split():
+        sections = [NOTHING] * (4 if call.startswith("scratch") else 1)
+        for mode in modes:
+            yield Row(claim, call, mode, document, answer, sections)
+
+
+def calls_that_do_not_allocate():
+    claim = "does not allocate"
+    for document in (*PLAIN, *BORROWED, *BROKEN, *BROKEN_BORROWED):
+        answer = (PLAIN | BORROWED).get(document)
+        yield from without_allocation(claim, "parse next-value known-value", ["off"], document, answer)
+        yield from without_allocation(claim, "config unique turns scratch", MODES, document, answer)
+        yield from without_allocation(claim, "skip", ["off"], document, answer and "null")
+    claim = "does not allocate to own nothing"
+    for document in (*PLAIN, *BROKEN):
+        answer = PLAIN.get(document)
+        readers = "next-value-owned known-value-owned value-by-steps"
+        yield from without_allocation(claim, readers, ["off"], document, answer)
+        yield from without_allocation(claim, "owned scratch-owned", MODES, document, answer)
+    plain_walk = r'{"a": "text", "bc": 1.5, "d": [null, [1, {"k\n": ["\u0061"]}], [], {}]} '
+    yield Row("a plain walk does not allocate", "plain-walk", "off", plain_walk, "7", [NOTHING])
+    yield Row("a skip does not allocate", "skip", "off", MANY, "null", [NOTHING])
+
+
+def copies():
+    claim = "a copy of nothing that has to be copied does not allocate"
+    for document, answer in (PLAIN | BORROWED).items():
+        yield Row(claim, "clone", "off", document, answer, [NOTHING])
+    for document, answer in (PLAIN | {'""': "owned ''"}).items():
+        yield Row(claim, "to-static", "off", document, answer, [NOTHING])
+    for document, answer in (PLAIN | {r'"a\nb"': "owned 'a\nb'"}).items():
+        yield Row(claim, "into-static", "off", document, answer, [NOTHING])
+    claim = "a copy allocates one block for each container and each string that has to be copied"
+    cloned = blocks(*MANY_CONTAINERS, *MANY_DECODED)
+    yield Row(claim, "clone", "off", MANY, MANY_READ, [cloned])
+    owned = blocks(*MANY_CONTAINERS, *MANY_DECODED, *MANY_BORROWED)
+    yield Row(claim, "to-static", "off", MANY, MANY_OWNED, [owned])
+    # It frees the containers that it takes apart.
+    moved = blocks(*MANY_CONTAINERS, *MANY_BORROWED)._replace(kept=len(MANY_BORROWED))
+    yield Row(claim, "into-static", "off", MANY, MANY_OWNED, [moved])
+
+
+def scratches():
+    """Yields rows of one document that a scratch reads three times. The first reading may make its buffers grow."""
+    claim = "a scratch that has grown allocates its value alone"
+    small = r'[1,["a\nb",[]],{},{"k":3,"l\n":"m"},"n"]'
+    small_sizes = (3, items(2), 2, members(2), items(5))
+    for call, document, sizes in (
+        ("scratch", small, small_sizes),
+        ("scratch-owned", small, (*small_sizes, 1, 1, 1)),
+        *borrowed_and_owned(LONG, (20_001,)),
+        *borrowed_and_owned(f"[{LONG}]", (20_001, items(1))),
+        *borrowed_and_owned(f"[{'7,' * 999}7]", (items(1000),)),
+        *borrowed_and_owned("{" + '"":7,' * 600 + '"":7}', (members(601),)),
+        *borrowed_and_owned("[" * 150 + "7" + "]" * 150, (items(1),) * 150),
+    ):
+        yield Row(claim, call, "off", document, None, [NOTHING, ANY, *[blocks(*sizes)] * 2])
+    # There are three buffers: one for items, one for members, one for strings with an escape.
+    claim = "a scratch keeps its buffers and nothing else after a document"
+    cut = r'{"a": "escaped\nvalue", "b": [1, 2, {"c": [3, '
+    complete = r'["ok\n", {"d": 4}]'
+    for call, document, buffers, sizes, kept in (
+        ("scratch", cut, 3, (13,), 0),
+        ("scratch-owned", cut, 3, (1, 13, 1, 1), 0),
+        ("scratch", "[1] x", 1, (items(1),), 0),
+        ("scratch-owned", "[1] x", 1, (items(1),), 0),
+        ("scratch", complete, 3, (3, members(1), items(2)), 3),
+        ("scratch-owned", complete, 3, (3, 1, members(1), items(2)), 4),
+    ):
+        again = blocks(*sizes)._replace(kept=kept)
+        yield Row(claim, call, "off", document, None, [NOTHING, Section(None, None, buffers + kept), again, again])
+
+
+def borrowed_and_owned(document, sizes):
+    return ("scratch", document, sizes), ("scratch-owned", document, sizes)
+
+
+def tapes():
+    grown = Section(None, None, 1)
+    claim = "a reader keeps its tape"
+    yield Row(claim, "next-str", "off", f"[{LONG},{LONG}]", None, [grown, NOTHING])
+    others = rf'[{LONG},7,"\n{chr(0xDCFF)}","b",{{"\n":["\n"],"\u0061":7}},{LONG}]'
+    yield Row(claim, "kept-tape", "off", others, "20001", [NOTHING])
+    claim = "a reader uses the tape that it is given, and allocates only if that is empty"
+    yield Row(claim, "tapes", "off", LONG, "20001", [grown, *[NOTHING] * 5])
+
+
+def calls_in_a_row():
+    """Yields rows of one scratch over a thousand lines, and of documents in a thousand chunks of five bytes."""
+    claim = "a scratch allocates for each line of a log its value alone, and keeps nothing of it"
+    line = r'{"a":[1,"b\n",2.5],"c":{}}'
+    for call, sizes in (("lines", (2, items(3), members(2))), ("lines-owned", (2, items(3), members(2), 1, 3, 1))):
+        one = blocks(*sizes)
+        others = Section(999 * one.requests, 999 * one.asked, 0)
+        for mode in MODES:
+            yield Row(claim, call, mode, "\n".join([line] * 1000), None, [ANY, others])
+        most = Section(Most(others.requests), Most(others.asked), None)
+        yield Row(claim, call, "off", "\n".join([line, *[line[:-1]] * 999]), None, [ANY, most])
+    claim = "a document in chunks allocates its value, once, and no copy of its bytes"
+    for document, most in (
+        ("[" + " " * 4998 + "7", 10 * VALUE),
+        ("[7" + " " * 4998, 10 * VALUE),
+        (" " * 5000, 0),
+        ('["' + "a" * 4997 + '"', 4 * 5000),
+        (r'["\n' + "a" * 4995 + '"', 4 * 5000),
+        ("[0." + "7" * 4997, 4 * 5000),
+        ("[" * 150 + "]" * 150, 150 * 8 * VALUE),
+    ):
+        document += "]" if document[0] == "[" and document[-1] != "]" else ""
+        for mode in MODES:
+            sections = [NOTHING, Section(None, Most(most), None), NOTHING, Section(0, 0, None)]
+            yield Row(claim, "chunks", mode, document, None, sections)
+    claim = "a line index allocates for line feeds alone"
+    yield Row(claim, "line-index", "off", "7" * 5000, "line 1 column 5000", [NOTHING] * 3)
+    fed = Section(Most(16), Most(4 * 8 * 5000), 1)
+    yield Row(claim, "line-index", "off", "\n" * 5000, "line 5001 column 0", [NOTHING, fed, NOTHING])
+    claim = "a clone of an error has one block, its key"
+    key = "k" * 300
+    yield Row(claim, "unique-clone", "off", f'{{"{key}":1,"{key}":2}}', None, [blocks(300)])
+
+
+def values_that_are_dropped():
+    parses = "parse unique turns owned scratch scratch-owned next-value next-value-owned value-by-steps two-prefixes"
+    parses += " pieces one-piece chunks parse-chunks lines lines-owned"
+    calls = [("config", "trailing-strings"), *((call, "off") for call in parses.split())]
+    copying = [(call, "off") for call in ("clone", "to-static", "into-static")]
+    for part, count in (
+        ("7", 1000),
+        (r'"\n"', 400),
+        ("2.5", 400),
+        ("9223372036854775808", 400),
+        ("1.000000000000000000000000001", 400),
+        ("-100000000000000000000000000000", 400),
+        ("[7]", 400),
+        (r'{"\n":[]}', 300),
+        (f"[{'7,' * 999}7]", 1),
+        ("{" + r'"\u006b":7,' * 999 + '"k":7}', 1),
+        (LONG, 2),
+    ):
+        for end in ("]", ""):
+            document = "[" + ",".join([part] * count) + end
+            for call, mode in (*calls, *copying):
+                yield Row("a dropped value is freed", call, mode, document, None, None)
+    for prefix, end in (
+        ("[{", ":"),
+        ("[{", ":nul"),
+        ("[{", ":x"),
+        ("[{", " 7}]"),
+        ("[{", ":[7 8"),
+        (r'[{"\n":7,', "}]"),
+        ("[", ",x]"),
+        ("{", ':7,"k":x}'),
+        ("[", "] x"),
+    ):
+        for call, mode in calls:
+            yield Row("what is read before an error is freed", call, mode, prefix + LONG + end, None, None)
+
+
+def rows():
+    for some in (calls_that_do_not_allocate, copies, scratches, tapes, calls_in_a_row, values_that_are_dropped):
+        yield from some()
