@@ -11,7 +11,7 @@ use Rattle.jiter_value.specs.UniqueErrors.{IsMemoryRefused}
 use Rattle.jiter_print.specs.Print.{print_of, with_line_feed}
 use Rattle.jiter_print.specs.Written.{AppendsPrefix}
 use Rattle.look.specs.declared.running.End.{End}
-use Rattle.look.specs.declared.running.End.TheVariants.{Shown, AllocFailed, Failed}
+use Rattle.look.specs.declared.running.End.TheVariants.{Shown, Refused, Failed}
 use Rattle.jiter_scan.specs.declared.errors.JsonErrorType.TheVariants.{OutOfMemory}
 use Rattle.look.specs.declared.running.NoMemory as refusal
 use Rattle.look.specs.declared.running.NoMemory.TheVariants as reason
@@ -51,10 +51,10 @@ WroteNothing end out out' err err' = (end ≡ Failed) × Keeps out out' × Keeps
 -- other
 abbrev pub Wrote : Line → End → Option (List ℕ) → Option (List ℕ) → Option (List ℕ) → Option (List ℕ) → Type 0
 Wrote (value_line bs) Shown out out' err err' = Appends out out' bs × Keeps err err'
-Wrote (value_line bs) AllocFailed out out' err err' = ⊥
+Wrote (value_line bs) Refused out out' err err' = ⊥
 Wrote (value_line bs) Failed out out' err err' = AppendsPrefix out out' bs × Keeps err err'
 Wrote (fault_line bs) Shown out out' err err' = ⊥
-Wrote (fault_line bs) AllocFailed out out' err err' = Keeps out out' × Appends err err' bs
+Wrote (fault_line bs) Refused out out' err err' = Keeps out out' × Appends err err' bs
 Wrote (fault_line bs) Failed out out' err err' = Keeps out out' × AppendsPrefix err err' bs
 
 -- the same, where there may be no line
@@ -82,5 +82,5 @@ IsOfReadOrMemory (cause.Make m) = IsOfMemory m
 -- the program's exit status
 abbrev pub status_of : End → ℕ
 status_of Shown = 0
-status_of AllocFailed = 1
+status_of Refused = 1
 status_of Failed = 3

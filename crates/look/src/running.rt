@@ -21,7 +21,7 @@ pub enum End {
     /// The value was written.
     Shown,
     /// The description of the error was written.
-    AllocFailed,
+    Refused,
     /// A read, a write or an allocation failed.
     Failed,
 }
@@ -33,7 +33,7 @@ impl End {
     {
         match self {
             End::Shown => 0,
-            End::AllocFailed => 1,
+            End::Refused => 1,
             End::Failed => 3,
         }
     }
@@ -216,7 +216,7 @@ pub fn show<O: Write, E: Write>(line: Option<Line>, out: &mut O, err: &mut E) ->
             Err(_) => End::Failed,
         },
         Some(Line::Fault(bytes)) => match write_line(err, bytes.as_slice()) {
-            Ok(()) => End::AllocFailed,
+            Ok(()) => End::Refused,
             Err(_) => End::Failed,
         },
         None => End::Failed,

@@ -93,7 +93,7 @@ fn other_words_get_the_usage_line(rt: HostRuntime) {
 fn each_end_has_a_status_and_a_name(rt: HostRuntime) -> Result<(), AllocError> {
     for (end, status, name) in [
         (End::Shown, 0, "Shown"),
-        (End::AllocFailed, 1, "AllocFailed"),
+        (End::Refused, 1, "Refused"),
         (End::Failed, 3, "Failed"),
     ] {
         assert_eq!(rt; end.status(), status);
