@@ -8,9 +8,8 @@ ghost use Rattle.jiter_value.specs.UniqueErrors.{unique_kind};
 ghost use Rattle.jiter_print.specs.Written.{AppendsPrefix};
 ghost use Rattle.importer.specs.Log.{Adds, Counted, cause_text, chomp, reading_of, refusal_text, WritesAll, WritesPart};
 
+use jiter::{JsonValue, PartialMode, UniqueError};
 use jiter_print::{print, write_line};
-use jiter_scan::PartialMode;
-use jiter_value::{JsonValue, UniqueError};
 use std::alloc::Global;
 use std::io;
 use std::io::{BufRead, BufReader, ErrorKind, Read, Write};
