@@ -12,12 +12,12 @@ use Rattle.config.specs.declared.settings.Name.TheVariants as name
 use Rattle.config.specs.Settings.{ReadsSetting, Settings, Verdict, Why, and_then, complete, fits, missing}
 use Rattle.config.specs.Settings.{or_false, place_of, port_in, unfit, why}
 use Rattle.config.proofs.Judged.{text-given, truth-given}
-use Rattle.config.proofs.Walk.{ReadsMember, seen}
+use Rattle.config.proofs.Walk.{Sets, seen}
 
 module _ (s s1 : ReaderState) (host : Option (List ℕ)) (port : Option ℕ) (debug : Option Bool) where
   pub host-read : {X : Type 0} (view : X → List ℕ) (x : X)
       → Reads anywhere view (reply_seen text_bytes (next s (str_read s))) (Ok x) s s1
-      → ReadsMember s s1 name.Host (seen host port debug) (seen (Some (view x)) port debug)
+      → Sets s s1 name.Host (seen host port debug) (seen (Some (view x)) port debug)
   host-read view x h = record {
     moves = h.moves;
     sets = λ v b e told.
@@ -26,7 +26,7 @@ module _ (s s1 : ReaderState) (host : Option (List ℕ)) (port : Option ℕ) (de
   }
 
   pub port-read : (p : ℕ) → ReadsSetting s s1 (Ok p) port_in
-      → ReadsMember s s1 name.Port (seen host port debug) (seen host (Some p) debug)
+      → Sets s s1 name.Port (seen host port debug) (seen host (Some p) debug)
   port-read p h = record {
     moves = h.moves;
     sets = λ v b e told. ap (λ y. and_then y (λ a. fits (seen host (Some a) debug))) (h.value v b e told);
@@ -34,7 +34,7 @@ module _ (s s1 : ReaderState) (host : Option (List ℕ)) (port : Option ℕ) (de
   }
 
   pub debug-read : (x : Bool) → MovesOn s s1 → next s (bool_read s) ≡ gave x s1.position
-      → ReadsMember s s1 name.Debug (seen host port debug) (seen host port (Some x))
+      → Sets s s1 name.Debug (seen host port debug) (seen host port (Some x))
   debug-read x m h = record {
     moves = m;
     sets = λ v b e told.
@@ -43,7 +43,7 @@ module _ (s s1 : ReaderState) (host : Option (List ℕ)) (port : Option ℕ) (de
   }
 
   pub other-read : (u : Unit {0}) → MovesOn s s1 → next s (skip_read s) ≡ gave u s1.position
-      → ReadsMember s s1 name.Other (seen host port debug) (seen host port debug)
+      → Sets s s1 name.Other (seen host port debug) (seen host port debug)
   other-read u m h = record {
     moves = m;
     sets = λ v b e told. refl;
@@ -53,13 +53,13 @@ module _ (s s1 : ReaderState) (host : Option (List ℕ)) (port : Option ℕ) (de
   -- the same under other names
   pub read-as : {m : Settings} {n : Name} {s2 : ReaderState} {k : Name} {host2 : Option (List ℕ)} {port2 : Option ℕ}
       {debug2 : Option Bool} → s2 ≡ s1 → k ≡ n → host2 ≡ host → port2 ≡ port → debug2 ≡ debug
-      → ReadsMember s s1 n m (seen host port debug) → ReadsMember s s2 k m (seen host2 port2 debug2)
+      → Sets s s1 n m (seen host port debug) → Sets s s2 k m (seen host2 port2 debug2)
   read-as {m = m} {n = n} {s2 = s2} {host2 = host2} {port2 = port2} {debug2 = debug2} same is h p d r =
-      subst (λ x. ReadsMember s s2 x m (seen host2 port2 debug2)) (sym is)
-      (subst (λ (t : ReaderState). ReadsMember s t n m (seen host2 port2 debug2)) (sym same)
-      (subst (λ x. ReadsMember s s1 n m (seen x port2 debug2)) (sym h)
-      (subst (λ x. ReadsMember s s1 n m (seen host x debug2)) (sym p)
-      (subst (λ x. ReadsMember s s1 n m (seen host port x)) (sym d) r))))
+      subst (λ x. Sets s s2 x m (seen host2 port2 debug2)) (sym is)
+      (subst (λ (t : ReaderState). Sets s t n m (seen host2 port2 debug2)) (sym same)
+      (subst (λ x. Sets s s1 n m (seen x port2 debug2)) (sym h)
+      (subst (λ x. Sets s s1 n m (seen host x debug2)) (sym p)
+      (subst (λ x. Sets s s1 n m (seen host port x)) (sym d) r))))
 
 -- A value that does not fit.
 module _ (m : Settings) (w : Why) (i : ℕ) where

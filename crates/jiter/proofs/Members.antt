@@ -18,7 +18,7 @@ use Rattle.jiter_steps.proofs.Grammar.SpelledParts.{begins-value, begin-within}
 
 module _ (names : Bool) (t : List ℕ) where
   -- A value that is spelled is read.
-  read-spelled : (n : Node) → Spells names t n → nesting n ≤ nesting_limit → EndsNumber t (end n)
+  pub read-spelled : (n : Node) → Spells names t n → nesting n ≤ nesting_limit → EndsNumber t (end n)
       → read_at names t (begin n) ≡ done (value_of t n) (end n)
   read-spelled n s limit quiet =
       sym (value_at-mapped (nodes names) (whole_trees names) (key_text t) (value_of t) t (nodes-lead names t)

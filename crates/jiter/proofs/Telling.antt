@@ -1,24 +1,30 @@
 -- Where a node of a document comes next, calls of the pull reader reply by its value.
-use Rattle.std.proofs.Common.{◌≡◌, ◌∙◌, ◌≤◌, ℕ, Bool, true, false, length, arith, refl, sym, ap, subst}
-use Rattle.std.specs.Prelude.{Option, slice_range, if◌then◌else◌}
+use Rattle.std.proofs.Common.{◌≡◌, ◌∙◌, ◌≤◌, ℕ, Bool, true, false, List, length, arith, refl, sym, ap, subst}
+use Rattle.std.specs.Prelude.{Option, slice_get, slice_index, slice_range, if◌then◌else◌}
+use Rattle.std.proofs.lemmas.Option.{get_or_from_slice_get}
 use Rattle.jiter_scan.specs.Number.{Number, integer, big, float, number_value}
 use Rattle.jiter_scan.specs.NumberReading.{Integer, int_seen, float_seen, int_at, number_at}
 use Rattle.jiter_scan.specs.Scanned.{Scanned, taken, failed}
 use Rattle.jiter_scan.proofs.Choices.{same_taken}
 use Rattle.jiter_steps.specs.Answer.{seen_as}
+use Rattle.jiter_steps.specs.Literal.{start_of}
 use Rattle.jiter_steps.specs.Node.{Node, begin, end, number_tree, value_of}
 use Rattle.jiter_steps.specs.Node as grammar
 use Rattle.jiter_steps.specs.StringReading.{Form, kept, string_at}
 use Rattle.jiter_steps.specs.StringReading as form
 use Rattle.jiter_steps.specs.Tree.{Text}
 use Rattle.jiter_steps.specs.declared.parse.Literal.TheVariants as literal
+use Rattle.jiter_steps.specs.declared.parse.Start.TheVariants as start
 use Rattle.jiter_steps.proofs.Grammar.ScalarLaws.{scalar-laws}
-use Rattle.jiter_steps.proofs.Grammar.SpelledParts.{start_is}
-use Rattle.jiter.specs.Cause.{ValueType, string, bool, object, wrong_type}
+use Rattle.jiter_steps.proofs.Grammar.SpelledParts.{begins-value, start_is}
+use Rattle.jiter.specs.Cause.{ValueType, null, string, bool, object, wrong_type}
 use Rattle.jiter.specs.Reader.{ReaderState, gave, refused, next, refused_as, number_type, number_refusal}
 use Rattle.jiter.specs.Reader.{integer_reply, scalar_reply, string_read, str_read, bool_read, int_read, object_read}
-use Rattle.jiter.specs.Telling.{tree_type, other_type, str_told, bool_told, int_told, Tells}
+use Rattle.jiter.specs.Reader.{if_byte, null_read, number_read, number_bytes_read, peek, value_read, value_reply}
+use Rattle.jiter.specs.Telling.{tree_start, tree_type, other_type, str_told, bool_told, int_told, null_told, number_told}
+use Rattle.jiter.specs.Telling.{number_bytes_told, Tells}
 use Rattle.jiter.proofs.Integers.{AgreeAsInteger, IsWhole, int_at-number}
+use Rattle.jiter.proofs.Members.{read-spelled}
 use Rattle.jiter.proofs.Walking.{ComesNext, IsNoObject, gave-refused, next-reads, skip-passes}
 
 type-is : (n : Number) → number_type n ≡ tree_type (number_tree n)
@@ -36,6 +42,37 @@ no_truth : (n : Number) (b e : ℕ) → bool_told (number_tree n) b e ≡ other_
 no_truth (integer z) b e = refl
 no_truth (big w) b e = refl
 no_truth (float w) b e = refl
+
+no_null : (n : Number) (b e : ℕ) → null_told (number_tree n) b e ≡ other_type null (number_tree n) b
+no_null (integer z) b e = refl
+no_null (big w) b e = refl
+no_null (float w) b e = refl
+
+-- what a number gives
+number-gives : (n : Number) (b e : ℕ) → number_told (number_tree n) b e ≡ gave n e
+number-gives (integer z) b e = refl
+number-gives (big w) b e = refl
+number-gives (float w) b e = refl
+
+number_bytes-gives : (t : List ℕ) (n : Number) (b e : ℕ)
+    → number_bytes_told t (number_tree n) b e ≡ gave (slice_range t b e) e
+number_bytes-gives t (integer z) b e = refl
+number_bytes-gives t (big w) b e = refl
+number_bytes-gives t (float w) b e = refl
+
+number-starts : (n : Number) → start.Number ≡ tree_start (number_tree n)
+number-starts (integer z) = refl
+number-starts (big w) = refl
+number-starts (float w) = refl
+
+node-starts : (t : List ℕ) (n : Node) → start_is n ≡ tree_start (value_of t n)
+node-starts t (grammar.literal literal.Null b e) = refl
+node-starts t (grammar.literal literal.True b e) = refl
+node-starts t (grammar.literal literal.False b e) = refl
+node-starts t (grammar.number b e) = number-starts (number_value (slice_range t b e))
+node-starts t (grammar.string ps b e) = refl
+node-starts t (grammar.array b e ns) = refl
+node-starts t (grammar.object b e ms) = refl
 
 integer-told : (x : Scanned Integer) (n : Number) (b e : ℕ) → AgreeAsInteger x (taken n e)
     → integer_reply b x ≡ int_told (number_tree n) b e
@@ -108,6 +145,55 @@ module _ (s : ReaderState) where
   whole-told (grammar.array b e ns) h = refl
   whole-told (grammar.object b e ms) h = refl
 
+  null-told : (n : Node) → ComesNext s n
+      → null_read s (begin n) (start_is n) ≡ null_told (value_of s.text n) (begin n) (end n)
+  null-told (grammar.literal literal.Null b e) h =
+      ap (scalar_reply b) ((scalar-laws s.names s.text).literal-complete literal.Null b e h.stands.spelled)
+  null-told (grammar.literal literal.True b e) h = refl
+  null-told (grammar.literal literal.False b e) h = refl
+  null-told (grammar.number b e) h =
+      refusal-told null (grammar.number b e) h ∙ sym (no_null (number_value (slice_range s.text b e)) b e)
+  null-told (grammar.string ps b e) h = refl
+  null-told (grammar.array b e ns) h = refl
+  null-told (grammar.object b e ms) h = refl
+
+  number-told : (n : Node) → ComesNext s n
+      → number_read s (begin n) (start_is n) ≡ number_told (value_of s.text n) (begin n) (end n)
+  number-told (grammar.number b e) h =
+      ap (scalar_reply b) (number-read b e h) ∙ sym (number-gives (number_value (slice_range s.text b e)) b e)
+  number-told (grammar.literal literal.Null b e) h = refl
+  number-told (grammar.literal literal.True b e) h = refl
+  number-told (grammar.literal literal.False b e) h = refl
+  number-told (grammar.string ps b e) h = refl
+  number-told (grammar.array b e ns) h = refl
+  number-told (grammar.object b e ms) h = refl
+
+  number_bytes-told : (n : Node) → ComesNext s n
+      → number_bytes_read s (begin n) (start_is n) ≡ number_bytes_told s.text (value_of s.text n) (begin n) (end n)
+  number_bytes-told (grammar.number b e) h =
+      ap (λ x. scalar_reply b (seen_as (λ n i. slice_range s.text b i) x)) (number-read b e h)
+      ∙ sym (number_bytes-gives s.text (number_value (slice_range s.text b e)) b e)
+  number_bytes-told (grammar.literal literal.Null b e) h = refl
+  number_bytes-told (grammar.literal literal.True b e) h = refl
+  number_bytes-told (grammar.literal literal.False b e) h = refl
+  number_bytes-told (grammar.string ps b e) h = refl
+  number_bytes-told (grammar.array b e ns) h = refl
+  number_bytes-told (grammar.object b e ms) h = refl
+
+  -- its first byte
+  first-byte : (n : Node) → ComesNext s n
+      → (peek s ≡ gave (slice_index s.text (begin n)) (begin n))
+      × (start_of (slice_index s.text (begin n)) ≡ tree_start (value_of s.text n))
+  first-byte n h =
+      let first = begins-value s.names s.text n h.stands.spelled in
+      let byte : slice_index s.text (begin n) ≡ first.byte =
+      get_or_from_slice_get s.text (begin n) first.byte 0 first.here in (
+        ap (λ i. if_byte i (slice_get s.text i) (λ c. gave c i)) h.stands.place
+            ∙ ap (λ o. if_byte (begin n) o (λ c. gave c (begin n))) first.here
+            ∙ ap (λ c. gave c (begin n)) (sym byte),
+        ap start_of byte ∙ first.starts ∙ node-starts s.text n,
+      )
+
   -- A value that comes next is told as what it is.
   pub tells : s.partial_strings ≡ false → (n : Node) → ComesNext s n
       → Tells s (value_of s.text n) (begin n) (end n)
@@ -119,7 +205,14 @@ module _ (s : ReaderState) where
         (ap (λ (b : Bool). if b then kept else form.whole) strict) n h;
     truth = next-reads s n h.stands (bool_read s) ∙ truth-told n h;
     integer = next-reads s n h.stands (int_read s) ∙ whole-told n h;
+    number = next-reads s n h.stands (number_read s) ∙ number-told n h;
+    number_bytes = next-reads s n h.stands (number_bytes_read s) ∙ number_bytes-told n h;
+    nothing = next-reads s n h.stands (null_read s) ∙ null-told n h;
+    value = next-reads s n h.stands (value_read s)
+        ∙ ap value_reply (read-spelled s.names s.text n h.stands.spelled h.stands.limit h.quiet);
     passed = skip-passes s n h;
+    peeked = (first-byte n h).0;
+    starts = (first-byte n h).1;
   }
 
   -- Another value than an object is refused as one.

@@ -1,6 +1,6 @@
 -- A walk through the items or members of a document's container by the pull reader: what its calls reply, in the
 -- grammar's words.
-use Rattle.std.proofs.Common.{◌≡◌, ◌∙◌, ℕ, ◌+◌, ◌-◌, ◌<◌, ◌≤◌, Bool, List, [], ◌∷◌, length, refl, sym, ap}
+use Rattle.std.proofs.Common.{◌≡◌, ◌∙◌, ℕ, ◌+◌, ◌-◌, ◌<◌, ◌≤◌, ◌==◌, Bool, List, [], ◌∷◌, length, refl, sym, ap}
 use Rattle.std.proofs.Common.{subst, arith}
 use Rattle.std.specs.Prelude.{slice_get, slice_index, Option, Some, None}
 use Rattle.std.proofs.lemmas.Option.{none-some, slice_get_past, slice_get_within}
@@ -13,7 +13,8 @@ use Rattle.jiter_steps.specs.Literal.{start_of}
 use Rattle.jiter_steps.specs.Node.{Key, Node, Nodes, NodeMembers, array, object, begin, end, Spells, SpellsKey}
 use Rattle.jiter_steps.specs.Node.{IsDocument, nesting, nesting_limit, text_at}
 use Rattle.jiter_steps.specs.Read.{Reading, done, fault}
-use Rattle.jiter_steps.specs.Step.{Step, more, closed, stuck, step, closer_of, container_first, container_step, colon}
+use Rattle.jiter_steps.specs.Step.{Step, more, closed, stuck, step, begins_part, closer_of, container_comma, container_first}
+use Rattle.jiter_steps.specs.Step.{container_step, colon}
 use Rattle.jiter_steps.specs.StringReading.{Form, whole, raw, string_at, between}
 use Rattle.jiter_steps.specs.Tree.{Text}
 use Rattle.jiter_steps.specs.declared.parse.ContainerKind.{ContainerKind}
@@ -24,7 +25,7 @@ use Rattle.jiter_steps.proofs.Grammar.ScalarLaws.{EndsNumber}
 use Rattle.jiter_steps.proofs.Grammar.SpelledParts.{IsItem, IsMember, begins-value, start_is, ends-end, items-parts}
 use Rattle.jiter_steps.proofs.Grammar.SpelledParts.{members-parts, nodes_list, members_list}
 use Rattle.jiter_steps.proofs.Grammar.StringLaws.{string_at-complete, string_at-within, raw-whole}
-use Rattle.jiter_steps.proofs.Reading.Bounds.{Ahead, ExtentAhead, Within, container_step-ahead, colon-ahead}
+use Rattle.jiter_steps.proofs.Reading.Bounds.{Ahead, ExtentAhead, Within, container_step-ahead, colon-ahead, either}
 use Rattle.jiter_steps.proofs.Reading.Instances.{skip_at-within}
 use Rattle.jiter_steps.proofs.Reading.Parts.{MoreParts, PartThen, Parts}
 use Rattle.jiter.specs.Cause.{Cause}
@@ -316,6 +317,37 @@ pub key-ahead : (f : Form) (s : ReaderState) (o : Option Text) (i : ℕ) → s.p
     → key_step f s ≡ gave o i → s.position < i
 key-ahead f s o i within is =
     step-after f s.text o i s.position _ (container_step-ahead s.text shape.Object s.position within) is
+
+-- After a call for the next item too: the comma was passed, or the closer.
+abbrev Past : ℕ → Step → Type 0
+Past i (more j) = i < j
+Past i (closed e) = i < e
+Past i (stuck k j) = Unit {0}
+
+comma-past : (b : ContainerKind) (t : List ℕ) (i j : ℕ) → i < j → Past i (step t (container_comma b) j)
+comma-past b t i j before = by (slice_get t (past_blanks t j)) where
+  by : (o : Option ℕ) → Past i (container_comma b (past_blanks t j) o)
+  by None = tt
+  by (Some c) =
+      either (Past i) (begins_part b c) _ _ (omega (arith, before, past_blanks-after t j))
+      (either (Past i) (c == closer_of b) _ _ tt tt)
+
+step-past : (b : ContainerKind) (t : List ℕ) (i : ℕ) → Past i (step t (container_step b t) i)
+step-past b t i = by (slice_get t (past_blanks t i)) where
+  by : (o : Option ℕ) → Past i (container_step b t (past_blanks t i) o)
+  by None = tt
+  by (Some c) =
+      let past : i < past_blanks t i + 1 = omega (arith, past_blanks-after t i) in
+      either (Past i) (c == closer_of b) _ _ past
+      (either (Past i) (c == 44) _ _ (comma-past b t i (past_blanks t i + 1) past) tt)
+
+pub item-ahead : (s : ReaderState) (o : Option ℕ) (i : ℕ) → item_step s ≡ gave o i → s.position < i
+item-ahead s o i is = by _ (step-past shape.Array s.text s.position) is where
+  by : (x : Step) → Past s.position x → part_reply (λ j. gave (Some (slice_index s.text j)) j) x ≡ gave o i
+      → s.position < i
+  by (more j) h same = omega (arith, h, (gave-is _ _ j i same).1)
+  by (closed e) h same = omega (arith, h, (gave-is _ _ e i same).1)
+  by (stuck k j) h same = absurd (gave-refused (sym same))
 
 -- After a skip too.
 pub skip-ahead : (s : ReaderState) (e : ℕ) → next s (skip_read s) ≡ gave tt e → s.position < e

@@ -67,7 +67,8 @@ pub use Rattle.jiter.specs.Reads.{key_memory, never, next_key_memory, only_at, o
 pub use Rattle.jiter.specs.Reads.{value_memory}
 pub use Rattle.jiter.specs.Skipping.{SkipsAsRead}
 -- What its calls reply where a value comes next.
-pub use Rattle.jiter.specs.Telling.{Tells, bool_told, int_told, other_type, str_told, tree_type}
+pub use Rattle.jiter.specs.Telling.{Tells, bool_told, int_told, null_told, number_bytes_told, number_told, other_type}
+pub use Rattle.jiter.specs.Telling.{str_told, tree_start, tree_type}
 -- Positions, texts, and the kernels of the module `simd`.
 pub use Rattle.jiter.specs.Cause.{cause_text, error_description, error_text, type_text}
 pub use Rattle.jiter_scan.specs.Digits.{decimal_of, digit_run_end}

@@ -1,12 +1,15 @@
 use Rattle.std.proofs.Common.{◌-◌, ◌≤◌, ◌∙◌, refl, sym, ap, subst}
 use Rattle.std.specs.Prelude.{IfSome, option_map, string_bytes}
-use Rattle.config.specs.Settings.{config_view, configured}
+use Rattle.jiter.specs.Caller.{at_start}
+use Rattle.jiter.proofs.MemberLoops.{finish-refused, key-kept, key-refused, less-left, loop-begins, loop-goes_on}
+use Rattle.jiter.proofs.MemberLoops.{seen-refused}
+use Rattle.jiter.proofs.Walking.{document-next}
+use Rattle.config.specs.Settings.{config_view, configured, named}
 use Rattle.config.proofs.PendingBytes.{held-by}
 use Rattle.config.proofs.Judged.{judged-refused, passed-on, text-refused, truth-refused}
 use Rattle.config.proofs.Members.{all_set, debug-read, debug-unfit, host-read, host-unfit, no_host, no_port_set}
 use Rattle.config.proofs.Members.{none-refused, other-read, passed-not_refused, port-read, port-unfit, read-as}
-use Rattle.config.proofs.Walk.{ReadsMember, end-refused, first-refused, key-refused, less-left, named-given, seen}
-use Rattle.config.proofs.Walk.{seen-refused, settled, value-refused, walk-begins, walk-goes_on}
+use Rattle.config.proofs.Walk.{Sets, member-read, members, object-refused, seen, settled, value-refused}
 use Rattle.config.proofs.config.read_config.Goals as goal
 use Rattle.config.proofs.config.read_config.Goals.{After-next_key, in-Host+in_ok-read_host-in-Host}
 use Rattle.config.proofs.config.read_config.Goals.{in-Port+in_ok-read_port-in-Port, in-Debug+in_ok-next_bool-in-Debug}
@@ -17,14 +20,14 @@ returns-in_err-next_object-clause-document c = λ n d.
     let t = c.args.bytes.now in
     let refusal = rw c.new-jiter.ensures at c.in_err-next_object.ensures.reads in
     judged-refused config_view c.from_residual.result c.in_err-next_object.field-0.0 (configured t n)
-    c.from_residual.ensures.1 (λ bytes. first-refused t _ _ _ (seen-refused _ _ _ _ (refusal.1.value bytes)) n d)
+    c.from_residual.ensures.1 (λ bytes. object-refused t _ _ _ (seen-refused _ _ _ _ _ (refusal.1.value bytes)) n d)
 
 pub loop-next-init : goal.loop-next-init
 loop-next-init c =
     let left = rw (c.new-jiter.ensures, c.in_ok-next_object.was) at c.next_object.follows.holds-at-none in
     record {
-      walk = walk-begins c.args.bytes.now _ _ left.moves
-          (named-given (λ x. x.now) c.in_ok-next_object.field-0 _ _ _ left.value c.named-next.ensures);
+      walk = loop-begins (members c.args.bytes.now) _ _ left.moves
+          (key-kept (λ x. x.now) named c.in_ok-next_object.field-0 _ _ _ left.value c.named-next.ensures);
       port = tt;
     }
 
@@ -71,7 +74,7 @@ returns-in_err-next_skip-in-Other-clause-document c = λ n d.
 
 -- what was read and set
 read-member : (c : After-next_key)
-    → ReadsMember c.loop-next.jiter c.match-name.jiter c.in-Some.name
+    → Sets c.loop-next.jiter c.match-name.jiter c.in-Some.name
     (seen (option_map string_bytes c.loop-next.host) c.loop-next.port c.loop-next.debug)
     (seen (option_map string_bytes c.match-name.host) c.match-name.port c.match-name.debug)
 read-member c =
@@ -115,16 +118,17 @@ returns-in_err-next_key-clause-document c = λ n d.
     let walk = rw c.in-Some.is at c.loop-next.invariant.walk in
     judged-refused config_view c.from_residual-in_err-next_key.result c.in_err-next_key.field-0.0 (configured t n)
     c.from_residual-in_err-next_key.ensures.1
-    (λ bytes. absurd (key-refused t _ _ _ walk _ _
-    (read-member (goal.at.returns-in_err-next_key-clause-document c).After-next_key) _ _ _
-    (seen-refused _ _ _ _ (c.in_err-next_key.ensures.reads.1.value bytes)) n d))
+    (λ bytes. absurd (key-refused (members t) refl _ _ _ walk _ _
+    (member-read t _ _ _ _ _ (read-member (goal.at.returns-in_err-next_key-clause-document c).After-next_key)) _ _ _
+    (seen-refused _ _ _ _ _ (c.in_err-next_key.ensures.reads.1.value bytes)) n (document-next (at_start t) n d refl)))
 
 pub loop-next-smaller : goal.loop-next-smaller
 loop-next-smaller c =
     let walk = rw c.in-Some.is at c.loop-next.invariant.walk in
     let left = rw c.in_ok-next_key.was at c.next_key.follows.holds-at-none in
-    less-left c.args.bytes.now _ _ _ walk _ _ (read-member (goal.at.loop-next-smaller c).After-next_key) _ _ left.moves
-    (named-given (λ x. x.now) c.in_ok-next_key.field-0 _ _ _ left.value c.named-next-in-Some.ensures)
+    less-left (members c.args.bytes.now) refl _ _ _ walk _ _
+    (member-read c.args.bytes.now _ _ _ _ _ (read-member (goal.at.loop-next-smaller c).After-next_key)) _ _ left.moves
+    (key-kept (λ x. x.now) named c.in_ok-next_key.field-0 _ _ _ left.value c.named-next-in-Some.ensures)
 
 pub loop-next-preserved : goal.loop-next-preserved
 loop-next-preserved c =
@@ -132,8 +136,9 @@ loop-next-preserved c =
     let left = rw c.in_ok-next_key.was at c.next_key.follows.holds-at-none in
     let at = (goal.at.loop-next-preserved c).After-next_key in
     record {
-      walk = walk-goes_on c.args.bytes.now _ _ _ walk _ _ (read-member at) _ _ left.moves
-          (named-given (λ x. x.now) c.in_ok-next_key.field-0 _ _ _ left.value c.named-next-in-Some.ensures);
+      walk = loop-goes_on (members c.args.bytes.now) refl _ _ _ walk _ _
+          (member-read c.args.bytes.now _ _ _ _ _ (read-member at)) _ _ left.moves
+          (key-kept (λ x. x.now) named c.in_ok-next_key.field-0 _ _ _ left.value c.named-next-in-Some.ensures);
       port = port-in_range at;
     }
 
@@ -143,7 +148,7 @@ returns-in_err-finish-clause-document c = λ n d.
     let walk = rw c.in_default.is at c.loop-next.invariant.walk in
     judged-refused config_view c.from_residual-in_err-finish.result c.in_err-finish.field-0.0 (configured t n)
     c.from_residual-in_err-finish.ensures.1
-    (λ bytes. absurd (end-refused t _ _ walk _ _ _ c.in_err-finish.ensures.reads.value n d))
+    (λ bytes. absurd (finish-refused (members t) _ _ walk _ _ _ c.in_err-finish.ensures.reads.value refl n d))
 
 pub returns-in_err-host-clause-document : goal.returns-in_err-host-clause-document
 returns-in_err-host-clause-document c = λ n d.

@@ -1,11 +1,12 @@
 use Rattle.std.proofs.Common.{◌-◌, ◌≤◌, length}
 use Rattle.std.specs.Prelude.{IfSome, option_map, string_bytes}
-use Rattle.config.proofs.Walk.{WalkAt, seen}
+use Rattle.jiter.proofs.MemberLoops.{LoopAt}
+use Rattle.config.proofs.Walk.{members, seen}
 use Rattle.config.proofs.config.read_config.Given as goal
 
 abbrev pub invariant-loop-next : goal.invariant-loop-next
 invariant-loop-next l = record {
-  walk : WalkAt l.bytes l.jiter l.next (seen (option_map string_bytes l.host) l.port l.debug);
+  walk : LoopAt (members l.bytes) l.jiter l.next (seen (option_map string_bytes l.host) l.port l.debug);
   port : IfSome l.port (λ p. (1 ≤ p) × (p ≤ 65535));
 }
 

@@ -1,7 +1,9 @@
-use Rattle.std.proofs.Common.{option_map, refl, sym, subst}
-use Rattle.jiter.specs.Caller.{IsDocument, raw_view}
-use Rattle.filter.proofs.Walk.{WalkAt, answered, end-not_refused, key-refused, less-left, object-not_refused}
-use Rattle.filter.proofs.Walk.{refused-answer, value-not_refused, walk-begins, walk-goes_on}
+use Rattle.std.proofs.Common.{refl, sym, subst, option_map}
+use Rattle.jiter.specs.Caller.{at_start, raw_view}
+use Rattle.jiter.proofs.MemberLoops.{LoopAt, finish-refused, first-refused, key-refused, key-same, less-left}
+use Rattle.jiter.proofs.MemberLoops.{loop-begins, loop-goes_on}
+use Rattle.jiter.proofs.Walking.{document-next}
+use Rattle.filter.proofs.Walk.{answered, members, refused-answer, source-read, value-refused}
 use Rattle.filter.proofs.fields.read_fields.Goals as goal
 
 pub returns-in_err-key : goal.returns-in_err-key
@@ -11,23 +13,20 @@ returns-in_err-key c =
     record {
       document = λ n d.
           refused-answer line c.from_residual.result _ c.from_residual.ensures.1 n
-          (λ b e ms same. object-not_refused line b e ms _ _ _ (subst (IsDocument _ line) same d) is);
+          (first-refused (members line) _ _ _ is n (document-next (at_start line) n d refl)).0;
     }
 
 pub loop-key-init : goal.loop-key-init
 loop-key-init c =
-    let moves = rw c.new-jiter.ensures at c.in_ok-key.ensures.reads.moves in
-    let is = rw c.new-jiter.ensures at c.in_ok-key.ensures.reads.value in
-    walk-begins c.args.line.now c.next_object_bytes.new.self _ moves is
+    let read = rw c.new-jiter.ensures at c.in_ok-key.ensures.reads in
+    loop-begins (members c.args.line.now) _ _ read.moves (key-same _ _ _ read.value)
 
 pub returns-in_err-source : goal.returns-in_err-source
 returns-in_err-source c =
-    let line = c.args.line.now in
     let inv = rw c.in-Some.is at c.loop-key.invariant in
     record {
       document = λ n d.
-          refused-answer line c.from_residual-in_err-source.result _ c.from_residual-in_err-source.ensures.1 n
-          (λ b e ms same. value-not_refused line _ _ _ inv n d _ _ _ c.in_err-source.ensures.reads.value);
+          absurd (value-refused c.args.line.now _ _ _ inv _ _ _ c.in_err-source.ensures.reads.value n d);
     }
 
 pub returns-in_err-key-2 : goal.returns-in_err-key-2
@@ -37,16 +36,18 @@ returns-in_err-key-2 c =
     let h = c.in_ok-source.ensures in
     record {
       document = λ n d.
-          refused-answer line c.from_residual-in_err-key-2.result _ c.from_residual-in_err-key-2.ensures.1 n
-          (λ b e ms same. key-refused line _ _ _ inv _ h.reads.moves h.reads.value n d _ _ _ c.in_err-key-2.ensures.reads.value);
+          absurd (key-refused (members line) refl _ _ _ inv _ _ (source-read line _ _ _ _ inv _ _ h.reads h.source) _ _ _
+          c.in_err-key-2.ensures.reads.value n (document-next (at_start line) n d refl));
     }
 
 pub loop-key-smaller : goal.loop-key-smaller
 loop-key-smaller c =
+    let line = c.args.line.now in
     let inv = rw c.in-Some.is at c.loop-key.invariant in
     let h = c.in_ok-source.ensures in
     let k = c.in_ok-key-2.ensures.reads in
-    less-left c.args.line.now _ _ _ inv _ h.reads.moves h.reads.value _ h.source _ k.moves _ k.value
+    less-left (members line) refl _ _ _ inv _ _ (source-read line _ _ _ _ inv _ _ h.reads h.source) _ _ k.moves
+    (key-same _ _ _ k.value)
 
 pub loop-key-preserved : goal.loop-key-preserved
 loop-key-preserved c =
@@ -54,21 +55,20 @@ loop-key-preserved c =
     let inv = rw c.in-Some.is at c.loop-key.invariant in
     let h = c.in_ok-source.ensures in
     let k = c.in_ok-key-2.ensures.reads in
-    subst (WalkAt line c.next_key_bytes.new.self (option_map raw_view c.in_ok-key-2.key))
+    subst (LoopAt (members line) c.next_key_bytes.new.self (option_map raw_view c.in_ok-key-2.key))
     (sym c.with_member-fields.ensures)
-    (walk-goes_on line _ _ _ inv _ h.reads.moves h.reads.value _ h.source _ k.moves _ k.value)
+    (loop-goes_on (members line) refl _ _ _ inv _ _ (source-read line _ _ _ _ inv _ _ h.reads h.source) _ _ k.moves
+    (key-same _ _ _ k.value))
 
 pub returns-in_err-finish : goal.returns-in_err-finish
 returns-in_err-finish c =
-    let line = c.args.line.now in
     let inv = rw c.in_default.is at c.loop-key.invariant in
     record {
       document = λ n d.
-          refused-answer line c.from_residual-in_err-finish.result _ c.from_residual-in_err-finish.ensures.1 n
-          (λ b e ms same. end-not_refused line _ _ inv n d _ _ _ c.in_err-finish.ensures.reads.value);
+          absurd (finish-refused (members c.args.line.now) _ _ inv _ _ _ c.in_err-finish.ensures.reads.value refl n d);
     }
 
 pub returns : goal.returns
 returns c =
     let inv = rw c.in_default.is at c.loop-key.invariant in
-    record { document = answered c.args.line.now _ _ inv c.loop-key.fields refl }
+    record { document = answered c.args.line.now _ c.loop-key.fields inv }
