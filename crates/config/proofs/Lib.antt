@@ -1,4 +1,4 @@
-pub mod PendingBytes
+pub mod Held
 pub mod Judged
 pub mod Members
 pub mod Walk

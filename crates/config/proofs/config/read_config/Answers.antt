@@ -5,7 +5,7 @@ use Rattle.jiter.proofs.MemberLoops.{finish-refused, key-kept, key-refused, less
 use Rattle.jiter.proofs.MemberLoops.{seen-refused}
 use Rattle.jiter.proofs.Walking.{document-next}
 use Rattle.config.specs.Settings.{config_view, configured, named}
-use Rattle.config.proofs.PendingBytes.{held-by}
+use Rattle.config.proofs.Held.{held-by}
 use Rattle.config.proofs.Judged.{judged-refused, passed-on, text-refused, truth-refused}
 use Rattle.config.proofs.Members.{all_set, debug-read, debug-unfit, host-read, host-unfit, no_host, no_port_set}
 use Rattle.config.proofs.Members.{none-refused, other-read, passed-not_refused, port-read, port-unfit, read-as}
