@@ -1,0 +1,14 @@
+pub mod Arms
+pub mod Arrivals
+pub mod Between
+pub mod Chunks
+pub mod Documents
+pub mod Leading
+pub mod LinePlaces
+pub mod Over
+pub mod Passing
+pub mod Placing
+pub mod Received
+pub mod Settling
+pub mod Slots
+pub mod WholeLiterals

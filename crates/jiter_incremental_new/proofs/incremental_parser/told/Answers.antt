@@ -1,0 +1,17 @@
+use Rattle.std.proofs.Common.{Option, Some, subst}
+use Rattle.jiter_scan.specs.declared.errors.Fault.{Fault}
+use Rattle.jiter_incremental_new.specs.Ends.{AnswersSo}
+use Rattle.jiter_value.specs.Value.{view}
+use Rattle.jiter_incremental_new.proofs.Received.{fault-promised, value-promised}
+use Rattle.jiter_incremental_new.proofs.incremental_parser.told.Goals as goal
+
+pub returns-in-Some : goal.returns-in-Some
+returns-in-Some c = λ p t h.
+    let root = Some (view c.args.value) in
+    fault-promised p t c.in-Some.fault root c.from.result
+    (subst (λ (x : Option Fault). AnswersSo p t x root) c.in-Some.is h) c.from.ensures
+
+pub returns : goal.returns
+returns c = λ p t h.
+    value-promised p t c.args.value
+    (subst (λ (x : Option Fault). AnswersSo p t x (Some (view c.args.value))) c.in-None.is h)

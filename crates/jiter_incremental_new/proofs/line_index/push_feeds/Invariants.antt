@@ -1,0 +1,6 @@
+use Rattle.std.proofs.Common.{◌≡◌, ◌++◌, take}
+use Rattle.jiter_incremental_new.specs.LineIndex.{feeds_from}
+use Rattle.jiter_incremental_new.proofs.line_index.push_feeds.Given as goal
+
+abbrev pub invariant-loop-offset : goal.invariant-loop-offset
+invariant-loop-offset l = l.feeds.items ≡ l.initial.feeds.items ++ feeds_from l.begin (take l.offset l.piece)

@@ -1,0 +1,11 @@
+pub mod Arrived
+pub mod Between
+pub mod Caller
+pub mod Document
+pub mod Ends
+pub mod IncrementalParser
+pub mod LineIndex
+pub mod Names
+pub mod Reader
+pub mod Slot
+pub mod Strings

@@ -1,0 +1,108 @@
+//! The result for the bytes so far, if the input ended after them.
+ghost use Rattle.std.specs.Prelude.{◌≡◌, ◌+◌, ◌^◌, ◌<◌, List, None, Some, is_some, option_map, true, ℕ};
+ghost use Rattle.jiter_incremental_new.specs.Arrived.{Arrived, IsLeft, at_value, end_of, shown};
+ghost use Rattle.jiter_incremental_new.specs.Between.{after_value};
+ghost use Rattle.jiter_incremental_new.specs.Document.{HasArrived, strictly};
+ghost use Rattle.jiter_incremental_new.specs.Ends.{AnswersSo};
+ghost use Rattle.jiter_incremental_new.specs.Reader.{document};
+ghost use Rattle.jiter_incremental_new.specs.declared.reader.Token.TheVariants as token_kind;
+ghost use Rattle.jiter_scan.specs.Kind.{fault_kind};
+ghost use Rattle.jiter_scan.specs.PartialMode.{is_active};
+ghost use Rattle.jiter_value.specs.Value.{view};
+
+use crate::reader::{Awaits, Reader, Token};
+use crate::slot::innermost_kind;
+use jiter_scan::errors::{Fault, FaultKind, fault_at};
+use jiter_value::value::JsonValue;
+
+impl Reader {
+    // After an item or member, or an opening bracket.
+    fn container_end(&self, root: &JsonValue<'static>) -> Option<FaultKind> {
+        if self.depth == 0 {
+            None
+        } else {
+            Some(innermost_kind(root, self.depth).end_kind())
+        }
+    }
+
+    // With partial reading off, and no token unfinished.
+    fn end_between(&self, root: &JsonValue<'static>) -> Option<FaultKind> {
+        match self.awaits {
+            Awaits::Value | Awaits::Next => Some(FaultKind::EofWhileParsingValue),
+            Awaits::Colon => Some(FaultKind::EofWhileParsingObject),
+            _ => self.container_end(root),
+        }
+    }
+
+    // With partial reading off. A number can be complete without a byte after it.
+    fn end_kind(&self, root: &JsonValue<'static>) -> Option<FaultKind> {
+        match self.token {
+            Token::Nothing => self.end_between(root),
+            Token::Word => Some(FaultKind::EofWhileParsingValue),
+            Token::Number => {
+                if self.number.is_whole() {
+                    self.container_end(root)
+                } else {
+                    Some(FaultKind::EofWhileParsingValue)
+                }
+            }
+            _ => Some(FaultKind::EofWhileParsingString),
+        }
+    }
+
+    fn end_fault(&self, root: &JsonValue<'static>) -> Option<Fault> {
+        match self.end_kind(root) {
+            Some(kind) => Some(fault_at(kind, self.position())),
+            None => None,
+        }
+    }
+
+    /// Returns the first error with partial reading off, or `None` if the bytes so far are a document.
+    pub fn strict_fault(&self, root: &JsonValue<'static>) -> Option<Fault>
+        requires arrived { (t : List ℕ) × HasArrived (document self.now (view root.now)) t }
+        requires room { self.now.base + self.now.at < 2 ^ 64 }
+        ensures { (t : List ℕ) → HasArrived (document self.now (view root.now)) t
+            → AnswersSo (strictly self.now.settings) t result (Some (view root.now)) }
+    {
+        if self.first.is_some() {
+            return self.first;
+        }
+        self.end_fault(root)
+    }
+
+    fn has_value(&self) -> bool {
+        0 < self.depth || self.shown || self.is_whole()
+    }
+
+    // A partial mode can fail at the end for two reasons: the string that it keeps is invalid, or there is no value
+    // yet.
+    #[inline(always)]
+    fn partial_fault(&self, root: &JsonValue<'static>) -> Option<Fault> {
+        if self.keeps() && !self.shown {
+            let index = self.begin + 1 + self.string.text().len();
+            return Some(fault_at(FaultKind::InvalidUnicodeCodePoint, index));
+        }
+        if self.has_value() {
+            return None;
+        }
+        self.end_fault(root)
+    }
+
+    /// Returns the error of the bytes so far in the document's mode, or `None` if they have a value.
+    #[inline(always)]
+    pub fn mode_fault(&self, root: &JsonValue<'static>) -> Option<Fault>
+        requires arrived { (t : List ℕ) × HasArrived (document self.now (view root.now)) t }
+        requires room { self.now.base + self.now.at < 2 ^ 64 }
+        ensures { (t : List ℕ) → HasArrived (document self.now (view root.now)) t
+            → AnswersSo self.now.settings t result (Some (view root.now)) }
+    {
+        if self.fault.is_some() {
+            return self.fault;
+        }
+        if self.settings.mode.is_active() {
+            self.partial_fault(root)
+        } else {
+            self.strict_fault(root)
+        }
+    }
+}

@@ -1,0 +1,73 @@
+//! The words that are values: the literals (RFC 8259, 3) and the non-finite numbers.
+ghost use Rattle.std.specs.Prelude.{◌≡◌, IfOk};
+ghost use Rattle.jiter_steps.specs.Tree.{float};
+ghost use Rattle.jiter_incremental_new.specs.Between.{text_of};
+ghost use Rattle.jiter_incremental_new.specs.Names.{name_tree, name_word};
+ghost use Rattle.jiter_value.specs.Value.{view};
+
+use jiter_scan::memory::{AllocFailed, copy_text};
+use jiter_scan::partial_word::PartialWord;
+use jiter_steps::parse::Literal;
+use jiter_value::value::JsonValue;
+use std::alloc::Global;
+use std::borrow::CowStr;
+
+/// A word that is a value.
+#[derive(Clone, Copy, Debug)]
+pub enum Name {
+    /// `null`, `true` or `false`.
+    Literal(Literal),
+    /// `NaN`
+    NaN,
+    /// `Infinity`
+    Infinity,
+    /// `-Infinity`; its word is what follows the minus.
+    MinusInfinity,
+}
+
+fn float(alloc: Global, name: &str) -> Result<JsonValue<'static>, AllocFailed>
+    ensures { IfOk result (λ v. view v ≡ float (text_of name.now)) }
+{
+    let text = copy_text(alloc, name)?;
+    Ok(JsonValue::Float(CowStr::Owned(text)))
+}
+
+/// Returns the value of a literal.
+pub(crate) fn literal_value(literal: Literal) -> JsonValue<'static>
+    ensures { view result ≡ name_tree (Name.Literal literal) }
+{
+    match literal {
+        Literal::Null => JsonValue::Null,
+        Literal::True => JsonValue::Bool(true),
+        Literal::False => JsonValue::Bool(false),
+    }
+}
+
+impl Name {
+    /// Returns the word with its first byte taken.
+    pub fn begun(self) -> PartialWord
+        ensures word { result.word.now ≡ name_word self }
+        ensures seen { result.seen ≡ 1 }
+    {
+        match self {
+            Name::Literal(Literal::Null) => PartialWord::begun(b"null"),
+            Name::Literal(Literal::True) => PartialWord::begun(b"true"),
+            Name::Literal(Literal::False) => PartialWord::begun(b"false"),
+            Name::NaN => PartialWord::begun(b"NaN"),
+            Name::Infinity => PartialWord::begun(b"Infinity"),
+            Name::MinusInfinity => PartialWord::begun(b"Infinity"),
+        }
+    }
+
+    /// Returns the value; a non-finite number owns its source text.
+    pub fn value(self, alloc: Global) -> Result<JsonValue<'static>, AllocFailed>
+        ensures { IfOk result (λ v. view v ≡ name_tree self) }
+    {
+        match self {
+            Name::Literal(literal) => Ok(literal_value(literal)),
+            Name::NaN => float(alloc, "NaN"),
+            Name::Infinity => float(alloc, "Infinity"),
+            Name::MinusInfinity => float(alloc, "-Infinity"),
+        }
+    }
+}
