@@ -5,9 +5,13 @@
 
 mod documents;
 mod faults;
+mod handles;
 mod keys;
+mod line_index;
+mod parser;
 mod parts;
 mod reader;
 mod scalars;
 mod steps;
 mod texts;
+mod values;
