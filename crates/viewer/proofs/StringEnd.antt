@@ -1,10 +1,8 @@
 -- What is shown of a document that is cut, and how a run ends.
 use Rattle.std.proofs.Common.{◌≡◌, refl, subst, ℕ, Bool, true, false, List, Option, Some, None, IfSome}
 use Rattle.std.proofs.Common.{inl, inr}
-use Rattle.std.specs.Prelude.{Result, Ok, Err, IsErr, OnErr, OnOk}
-use Rattle.std.specs.Result.{result_and, result_unwrap_or}
+use Rattle.std.specs.Prelude.{Result, Ok, Err, IsErr}
 use Rattle.std.specs.Io.KnownBytes.{Appends, Keeps}
-use Rattle.viewer.specs.Program.{WroteUsage, usage_line}
 use Rattle.std.proofs.KnownBytes.{Appends-nil, Keeps-refl}
 use Rattle.std.proofs.lemmas.Option.{IfSome_then}
 use Rattle.jiter_print.specs.Written.{AppendsPrefix}
@@ -77,10 +75,3 @@ pub broke-off : {E : Type 0} (words : Words) (from out out' err : Option (List �
     → IfSome from (λ t. Ran words t end out out' err err)
 broke-off words from out out' err (Ok whole) is prefix = absurd (cc)
 broke-off words from out out' err (Err e) is prefix = IfSome_then from prefix (λ t h. inr (h, Keeps-refl err))
-
--- the usage line was written, or a prefix of it
-pub usage-told : {E : Type 0} (r : Result (Unit {0}) E) (status : ℕ) (err err' : Option (List ℕ))
-    → status ≡ result_unwrap_or (result_and r (Ok 2)) 3 → OnOk r (Appends err err' usage_line)
-    → OnErr r (AppendsPrefix err err' usage_line) → WroteUsage status err err'
-usage-told (Ok x) status err err' is whole prefix = inl (is, whole)
-usage-told (Err e) status err err' is whole prefix = inr (is, prefix)

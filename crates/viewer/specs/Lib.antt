@@ -1,4 +1,2 @@
-pub mod Words
 pub mod Arrived
 pub mod Shown
-pub mod Program

@@ -1,0 +1,21 @@
+# Builds and installs the programs: `make` proves and builds each, `make install PREFIX=/usr/local` copies them.
+# `rt run` writes a proved program to crates/NAME/out/NAME; what it writes on its own input is not looked at here.
+PREFIX ?= /usr/local
+PROGRAMS = look config filter importer viewer
+BUILT = $(foreach name,$(PROGRAMS),crates/$(name)/out/$(name))
+
+all: $(BUILT)
+
+.SECONDEXPANSION:
+$(BUILT): $$(wildcard $$(dir $$(patsubst %/,%,$$(dir $$@)))src/*.rt)
+	rm -f $@
+	cd $(dir $(patsubst %/,%,$(dir $@))) && rt run </dev/null >/dev/null; test -x out/$(notdir $@)
+
+install: all
+	install -d $(DESTDIR)$(PREFIX)/bin
+	install $(BUILT) $(DESTDIR)$(PREFIX)/bin
+
+uninstall:
+	rm -f $(addprefix $(DESTDIR)$(PREFIX)/bin/,$(PROGRAMS))
+
+.PHONY: all install uninstall
