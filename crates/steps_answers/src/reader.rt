@@ -3,8 +3,8 @@ ghost use Rattle.std.specs.Prelude.{◌<◌, ◌≤◌, length};
 
 use jiter_scan::errors::Fault;
 use jiter_steps::blank::past_blanks;
-use jiter_steps::parse::{ContainerKind, Literal, Parser, Start, start_of};
 use jiter_steps::fast::{fast_colon, fast_literal_end};
+use jiter_steps::parse::{ContainerKind, Literal, Parser, Start, start_of};
 use jiter_steps::read_error::ReadError;
 use jiter_steps::skip::skip;
 use std::alloc::Global;
