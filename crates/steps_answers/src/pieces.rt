@@ -70,10 +70,14 @@ pub fn answer_text_pieces(rt: &HostRuntime, alloc: Global, input: &str) -> io::R
 
 // How many bytes of a piece a string takes, up to its quote or an error.
 fn take_piece(string: &mut PartialString, piece: &[u8]) -> Result<usize, AllocFailed> {
-    let mut at = 0;
-    while at < piece.len() {
+    let mut at = 0usize;
+    // Each turn takes a byte at least.
+    for _ in 0..piece.len() {
+        if piece.len() <= at {
+            break;
+        }
         match string.next(piece, at)? {
-            Went::Taken(count) => at += count,
+            Went::Taken(count) => at = at.saturating_add(count),
             _ => break,
         }
     }
