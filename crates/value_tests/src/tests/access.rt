@@ -36,9 +36,9 @@ fn a_value_is_compared_with_a_text_a_number_and_a_bool(rt: HostRuntime) -> Resul
     let mut equal = [0u16, 0, 0];
     for i in 0..9usize {
         let item = value.at(i).ok_or("fewer items")?;
-        equal[0] = equal[0] * 2 + u16::from(item.eq_str("ab"));
-        equal[1] = equal[1] * 2 + u16::from(item.eq_i64(5));
-        equal[2] = equal[2] * 2 + u16::from(item.eq_bool(true));
+        equal[0] = (equal[0] << 1) | u16::from(item.eq_str("ab"));
+        equal[1] = (equal[1] << 1) | u16::from(item.eq_i64(5));
+        equal[2] = (equal[2] << 1) | u16::from(item.eq_bool(true));
     }
     assert_eq!(rt; equal, [0b1_0000_0000, 0b0_1000_0000, 0b0_0010_0000]);
     let empty = JsonValue::parse(rt.alloc(), br#""""#, false)?;
