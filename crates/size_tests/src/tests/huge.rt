@@ -65,56 +65,6 @@ fn a_million_bytes_of_members_are_read(rt: HostRuntime) -> Result<(), Fail> {
     Ok(())
 }
 
-// The parts of the next test: null, literals, numbers, strings and containers.
-const PARTS: [&str; 17] = [
-    "null",
-    "true",
-    "false",
-    "-7",
-    "7.5e-7",
-    "-7E7",
-    "NaN",
-    "-Infinity",
-    "\"\"",
-    "\"seven\"",
-    "\"\\u0037\"",
-    "\"\u{e9}\\n\"",
-    "{}",
-    "[7,[7]]",
-    "{\"7\":7}",
-    "{\"\\u0037\":[]}",
-    "9223372036854775808",
-];
-
-#[test]
-fn ten_thousand_like_parts_are_read(rt: HostRuntime) -> Result<(), Fail> {
-    let alloc = rt.alloc();
-    for part in PARTS {
-        let one = JsonValue::parse(alloc, part.as_bytes(), true)?;
-        let items = format!(in alloc; "{part},")?.repeat(alloc, 9_999)?;
-        let array = format!(in alloc; "[{items}{part}]")?;
-        let value = JsonValue::parse(alloc, array.as_bytes(), true)?;
-        let JsonValue::Array(items) = &value else {
-            return Err("no array".into());
-        };
-        assert_eq!(rt; items.len(), 10_000, "{part}");
-        for item in items.iter() {
-            assert!(rt; *item == one, "{part}");
-        }
-        let members = format!(in alloc; "\"k\":{part},")?.repeat(alloc, 9_999)?;
-        let object = format!(in alloc; "{{{members}\"k\":{part}}}")?;
-        let value = JsonValue::parse(alloc, object.as_bytes(), true)?;
-        let JsonValue::Object(members) = &value else {
-            return Err("no object".into());
-        };
-        assert_eq!(rt; members.len(), 10_000, "{part}");
-        for (_, item) in members.iter() {
-            assert!(rt; *item == one, "{part}");
-        }
-    }
-    Ok(())
-}
-
 #[test]
 fn a_million_bytes_of_a_string_are_read(rt: HostRuntime) -> Result<(), Fail> {
     let alloc = rt.alloc();
