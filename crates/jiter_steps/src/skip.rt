@@ -11,7 +11,7 @@ ghost use Rattle.jiter_steps.specs.Skip.{key_end, value_inside, first_inside, ne
 ghost use Rattle.jiter_steps.specs.Skip.{open_frames, Continues};
 ghost use Rattle.jiter_steps.specs.Step.{opening};
 
-use crate::fast_skip::{fast_end, fast_first_inside, fast_value_end, plain_run};
+use crate::fast_skip::{fast_end, fast_first_inside, fast_run, fast_value_end};
 use crate::parse::{ContainerKind, NESTING_LIMIT, Parser, Start, start_of};
 use crate::raw_string::string_end;
 use jiter_scan::errors::{Fault, FaultKind};
@@ -255,7 +255,7 @@ fn fast_after(bytes: &[u8], from: usize, nest: &Nest, depth: usize) -> (usize, u
             return (end, open, false);
         }
         let shape = kind_of_container(nest.objects[open - 1]);
-        let (place, more) = plain_run(bytes, end, shape);
+        let (place, more) = fast_run(bytes, end, shape);
         if more {
             return (place, open, true);
         }

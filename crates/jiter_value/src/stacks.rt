@@ -1,5 +1,5 @@
 //! The stacks of items and of members that all open containers share.
-ghost use Rattle.std.specs.Prelude.{◌≡◌, ◌≢◌, ℕ, List, ◌+◌, ◌≤◌, ◌<◌, ◌∷◌, ◌++◌, [], IfOk, IsTrue, OnOk, OnErr, length};
+ghost use Rattle.std.specs.Prelude.{◌≡◌, ◌≢◌, ℕ, ℤ, List, ◌+◌, ◌≤◌, ◌<◌, ◌∷◌, ◌++◌, [], IfOk, IsTrue, OnOk, OnErr, length};
 ghost use Rattle.std.specs.Prelude.{take, drop, false, map, vec_len};
 ghost use Rattle.std.specs.declared.alloc.Global.{Global};
 ghost use Rattle.std.specs.declared.borrow.CowStr.{CowStr as CowStrView};
@@ -14,6 +14,7 @@ ghost use Rattle.jiter_value.specs.Stacks.{Member, member_view, resume_with, aft
 ghost use Rattle.jiter_value.specs.Stacks.{StandsInside, HasRoom, LeavesKeys, without_root};
 ghost use Rattle.jiter_value.specs.declared.settings.Settings.{Settings as SettingsView};
 ghost use Rattle.jiter_value.specs.declared.value.JsonValue.{JsonValue as JsonValueView};
+ghost use Rattle.jiter_value.specs.declared.value.JsonValue.TheVariants.{Int};
 
 use crate::value::{JsonObject, JsonValue};
 use jiter_scan::errors::{Fault, FaultKind};
@@ -84,7 +85,27 @@ pub struct Stacks<'j> {
     pub reused: bool,
 }
 
-// Replaces the placeholder of the last key. An `Int` needs no drop.
+// Replaces an integer without dropping it: an integer has nothing to free.
+#[inline(always)]
+fn replace_int<'j>(place: &mut JsonValue<'j>, value: JsonValue<'j>)
+    requires { (number : ℤ) × (place.old ≡ Int number) }
+    ensures { place.new ≡ value.entry }
+{
+    mem::forget(mem::replace(place, value));
+}
+
+// The placeholder of a key is an integer. Any other value would be dropped.
+#[inline(always)]
+fn replace_placeholder<'j>(place: &mut JsonValue<'j>, value: JsonValue<'j>)
+    ensures { place.new ≡ value.entry }
+{
+    if let JsonValue::Int(_) = place {
+        return replace_int(place, value);
+    }
+    *place = value;
+}
+
+// Replaces the placeholder of the last key.
 #[inline(always)]
 fn set_last<'j>(members: &mut Vec<(CowStr<'j>, JsonValue<'j>)>, value: JsonValue<'j>)
     requires { 0 < vec_len members.old }
@@ -94,7 +115,7 @@ fn set_last<'j>(members: &mut Vec<(CowStr<'j>, JsonValue<'j>)>, value: JsonValue
     ensures keys { LeavesKeys members.old.items members.new.items }
 {
     let last = members.len() - 1;
-    mem::forget(mem::replace(&mut members[last].1, value));
+    replace_placeholder(&mut members[last].1, value);
 }
 
 // Takes the parts of a container that ends. The root takes over the stack itself, unless the stack is reused.

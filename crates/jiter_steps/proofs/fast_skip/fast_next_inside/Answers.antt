@@ -7,5 +7,5 @@ returns-in-Some-clause-value c =
     let next = c.in-Some in
     some-as _
     (λ v is. plain-comma c.args.bytes.now c.args.shape c.args.from next.next v (omega arith) c.if-bytes-from-ne44.false
-    next.ensures.value next.ensures.place.1 (sym c.begins_part.ensures ∙ c.if-begins_part.true) is)
+    next.ensures.value (omega arith) (sym c.begins_part.ensures ∙ c.if-begins_part.true) is)
     c.fast_inside.ensures.value

@@ -1,6 +1,6 @@
 use Rattle.std.proofs.Common.{◌∷◌, ◌∙◌, refl, arith}
 use Rattle.jiter_steps.specs.Skip.{frame_of}
-use Rattle.jiter_steps.proofs.Calls.FastSkips.{plain-next, plain-passed, leads-from}
+use Rattle.jiter_steps.proofs.Calls.FastSkips.{plain-next, plain-passed}
 use Rattle.jiter_steps.proofs.fast_skip.known_fast_run.Goals as goal
 
 pub parts-init : goal.parts-init
@@ -35,8 +35,4 @@ returns-in-None-padded_value_end-clause-leads c = λ names fs few.
     )
 
 pub returns-clause-leads : goal.returns-clause-leads
-returns-clause-leads c = λ names fs few.
-    let l = c.parts in
-    let near = c.tail_run-2 in
-    leads-from names c.args.bytes.now (frame_of c.args.shape ∷ fs) near.result.1 near.result.0 _ _
-    (l.invariant.same names fs few) (near.ensures.leads names fs few)
+returns-clause-leads c = λ names fs few. c.parts.invariant.same names fs few

@@ -4,4 +4,4 @@ use Rattle.jiter_steps.proofs.fast_skip.non_blank.Goals as goal
 
 pub returns-then-bytes-from-gt32-clause-value : goal.returns-then-bytes-from-gt32-clause-value
 returns-then-bytes-from-gt32-clause-value c =
-    sym (past_blanks-above c.args.bytes.now c.args.from c.requires (omega (arith, c.if-bytes-from-gt32.true)))
+    sym (past_blanks-above c.args.bytes.now c.args.from (omega arith) (omega (arith, c.if-bytes-from-gt32.true)))

@@ -11,7 +11,7 @@ closing-preserved c =
     let o = c.args.nest.now.objects in
     let l = c.closing in
     let b = c.kind_of_container-shape.result in
-    let p = c.plain_run-place in
+    let p = c.fast_run-place in
     let some : 0 < l.open = omega arith in
     record {
       place = (
@@ -29,7 +29,7 @@ closing-preserved c =
 pub returns-then-more-clause-leads : goal.returns-then-more-clause-leads
 returns-then-more-clause-leads c = λ names.
     let l = c.closing in
-    let p = c.plain_run-place in
+    let p = c.fast_run-place in
     let run = run-leads names c.args.bytes.now c.kind_of_container-shape.result c.args.nest.now.objects l.open l.invariant.few
     (omega arith) c.kind_of_container-shape.ensures l.end p.result.0 p.result.1 true c.if-more.true p.ensures.leads in
     (l.invariant.same names ∙ run.0, run.1)
@@ -37,7 +37,7 @@ returns-then-more-clause-leads c = λ names.
 pub returns-in-None-clause-leads : goal.returns-in-None-clause-leads
 returns-in-None-clause-leads c = λ names.
     let l = c.closing in
-    let p = c.plain_run-place in
+    let p = c.fast_run-place in
     l.invariant.same names
     ∙ run-leads names c.args.bytes.now c.kind_of_container-shape.result c.args.nest.now.objects l.open l.invariant.few
     (omega arith) c.kind_of_container-shape.ensures l.end p.result.0 p.result.1 false c.if-more.false p.ensures.leads

@@ -11,7 +11,7 @@ returns-clause-value c = λ before key old h.
     let got = c.index_mut.result.now in
     let at : n ≡ length before = omega
     (arith, c.len-last.ensures, c.args.members.now.ok.0, ap length h, length-append before ((key, old) ∷ [])) in
-    ap (λ v. slice_set xs n (got.0, v)) c.replace.ensures.after
+    ap (λ v. slice_set xs n (got.0, v)) c.replace_placeholder.ensures
     ∙ set-last xs before n key old c.args.value got h at c.index_mut.ensures.value
 
 pub returns-clause-keys : goal.returns-clause-keys

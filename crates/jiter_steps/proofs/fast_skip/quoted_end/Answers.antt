@@ -4,7 +4,7 @@ use Rattle.jiter_scan.specs.Scan.{is_plain}
 use Rattle.jiter_scan.proofs.Chunks.{run_end-clear, run_end-stopped, run_end-near}
 use Rattle.jiter_steps.proofs.Calls.FastSkips.{near-closed, stop-stands}
 use Rattle.jiter_steps.proofs.Grammar.Places.{got}
-use Rattle.jiter_steps.proofs.fast_skip.padded_quoted_end.Goals as goal
+use Rattle.jiter_steps.proofs.fast_skip.quoted_end.Goals as goal
 
 pub bounds-bytes-to : goal.bounds-bytes-to
 bounds-bytes-to c =

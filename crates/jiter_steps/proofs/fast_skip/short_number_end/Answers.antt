@@ -1,5 +1,5 @@
 use Rattle.jiter_steps.proofs.Calls.FastSkips.{some-as, number-ends}
-use Rattle.jiter_steps.proofs.fast_skip.padded_short_end.Goals as goal
+use Rattle.jiter_steps.proofs.fast_skip.short_number_end.Goals as goal
 
 pub returns-clause-value : goal.returns-clause-value
 returns-clause-value c =

@@ -1,6 +1,6 @@
 use Rattle.std.proofs.Common.{arith}
 use Rattle.jiter_steps.proofs.Calls.FastSkips.{colon-stands, colon-spaced}
-use Rattle.jiter_steps.proofs.fast_skip.padded_colon.Goals as goal
+use Rattle.jiter_steps.proofs.fast_skip.after_colon.Goals as goal
 
 pub returns-then-bytes-from-gt32-clause-value : goal.returns-then-bytes-from-gt32-clause-value
 returns-then-bytes-from-gt32-clause-value c =

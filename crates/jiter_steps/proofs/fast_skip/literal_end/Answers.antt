@@ -1,5 +1,5 @@
 use Rattle.jiter_steps.proofs.Calls.FastSkips.{some-as, literal-ends}
-use Rattle.jiter_steps.proofs.fast_skip.whole_literal_end.Goals as goal
+use Rattle.jiter_steps.proofs.fast_skip.literal_end.Goals as goal
 
 pub returns-clause-value : goal.returns-clause-value
 returns-clause-value c =

@@ -1,5 +1,5 @@
 use Rattle.jiter_steps.proofs.Calls.FastSkips.{some-as, string-ends}
-use Rattle.jiter_steps.proofs.fast_skip.fast_skip_string.Goals as goal
+use Rattle.jiter_steps.proofs.fast_skip.string_end.Goals as goal
 
 pub returns-clause-value : goal.returns-clause-value
 returns-clause-value c =

@@ -1,7 +1,0 @@
-use Rattle.std.proofs.Common.{arith, sym}
-use Rattle.jiter_steps.proofs.Grammar.Blanks.{past_blanks-above}
-use Rattle.jiter_steps.proofs.fast_skip.padded_non_blank.Goals as goal
-
-pub returns-then-bytes-from-gt32-clause-value : goal.returns-then-bytes-from-gt32-clause-value
-returns-then-bytes-from-gt32-clause-value c =
-    sym (past_blanks-above c.args.bytes.now c.args.from (omega arith) (omega (arith, c.if-bytes-from-gt32.true)))

@@ -1,7 +1,0 @@
-use Rattle.std.proofs.Common.{arith}
-use Rattle.jiter_steps.proofs.Calls.FastSkips.{colon-stands}
-use Rattle.jiter_steps.proofs.fast_skip.tail_colon.Goals as goal
-
-pub returns-then-bytes-from-gt32-clause-value : goal.returns-then-bytes-from-gt32-clause-value
-returns-then-bytes-from-gt32-clause-value c =
-    colon-stands c.args.bytes.now c.args.from (omega arith) c.if-bytes-from-eq58.true c.if-bytes-from-gt32.true
