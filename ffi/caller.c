@@ -7,9 +7,9 @@
 #include <stdlib.h>
 #include <string.h>
 
-static uint8_t *document; /* the bytes of the document */
+static char *document; /* the bytes of the document */
 static size_t length;
-static uint8_t *room; /* where texts are written: a decoded text is never longer than its source */
+static char *room; /* where texts are written: a decoded text is never longer than its source */
 static JiterFault fault;
 
 /* Standard input as it comes, and as much room again. */
@@ -26,18 +26,18 @@ static void read_document(void) {
 
 /* What was refused, by its numbers and in words. */
 static bool refused(void) {
-  uint8_t text[200];
+  char text[200];
   size_t whole = 0;
   if (!jiter_describe(document, length, &fault, text, sizeof text, &whole))
     exit(3);
   printf("fault %" PRIu32 " %" PRIu32 " %" PRIu32 " at %zu: %.*s", fault.kind, fault.expected, fault.actual,
-         fault.index, (int)whole, (const char *)text);
+         fault.index, (int)whole, text);
   return false;
 }
 
 static bool given(bool answer) { return answer || refused(); }
 
-static void show(const uint8_t *bytes, size_t count) {
+static void show(const char *bytes, size_t count) {
   putchar('\'');
   fwrite(bytes, 1, count, stdout);
   putchar('\'');
@@ -103,7 +103,7 @@ static bool walk_number(JiterReader *reader) {
   *reader = before;
   if (!given(jiter_next_number(reader, &text, &fault)))
     return false;
-  printf("number %.*s", (int)text.length, (const char *)text.bytes);
+  printf("number %.*s", (int)text.length, text.bytes);
   return true;
 }
 
@@ -193,7 +193,7 @@ int main(int count, char **words) {
     if (given(jiter_item(&reader, strtoull(more, NULL, 10), &found, &fault)))
       walk_if(&reader, found, "no item");
   } else if (!strcmp(word, "member")) {
-    if (given(jiter_member(&reader, (const uint8_t *)more, strlen(more), &found, &fault)))
+    if (given(jiter_member(&reader, more, strlen(more), &found, &fault)))
       walk_if(&reader, found, "no member");
   }
   place(&reader);

@@ -1,24 +1,33 @@
-/* JSON for C, and for Rust that links it: the functions of libjiter_c.a.
+/* JSON for C: the functions of libjiter_c. docs/C.md has complete programs.
  *
- * Each function is proved to do what its contract in crates/jiter_c/src says; what is said here of the caller is not
- * checked by anything.
+ * Each function is proved to do what its contract in crates/jiter_c/src says. What this page asks of the caller is not
+ * checked by anything. C99 or later, x86-64 Linux with SSE4.2 (x86-64-v2).
  *
- * What crosses. No memory changes its owner: there is nothing to free. What the caller passes stays the caller's,
- * and is read or written until the call returns and no longer. A call that takes memory for itself gives it back
- * before it returns; it calls the C library's malloc, realloc and free.
+ * Pointers. A slice is a pointer and a length; NULL with length 0 is an empty slice. Each pointer to an outcome points
+ * to an initialized value (`= 0`, `= false`, `= {0}`, JITER_NO_TEXT). No two pointers of a call overlap, and none
+ * overlaps the bytes. A JiterReader, a JiterText and a JiterNumber point into the bytes that you passed: use them as
+ * long as those bytes stay where they are, unchanged.
  *
- * Pointers. A slice is a pointer and a length: the pointer is never null, and the length may be 0. Each pointer to
- * an outcome points to a value that is initialized (`= 0`, `= false`, `= {0}`, JITER_NO_TEXT); no two of a call
- * overlap, and none overlaps the bytes. A JiterReader and a JiterText point into the bytes that the caller gave:
- * they may be used as long as those stay where they are, and unchanged.
+ * Errors. A call that returns a bool returns false if it fails. It has then written the fault and, where it says so, the
+ * reader's index, and nothing else. If it returns true, the fault stays as it was. After JITER_OUT_OF_MEMORY nothing is
+ * known about the bytes.
  *
- * Threads. Nothing is shared between calls: any number of threads may call at the same time, each with outcomes, and
- * a reader, of its own; bytes may be read by many. No call is made from a signal handler or in the forked child of a
- * process with threads.
+ * Text. A call that writes text to `out` writes as much as fits into `room` bytes and the complete length to `whole`. It
+ * writes no NUL.
  *
- * Refusals. A call that answers a bool answers false where it refuses; then the fault is written, and no other
- * outcome. Where it answers true, the fault stays as it was. A call that was refused for want of memory
- * (JITER_OUT_OF_MEMORY) says nothing of the bytes. */
+ * UTF-8. jiter_parse, jiter_print, jiter_document_parse, the parser, jiter_next_str, jiter_next_text, jiter_next_object,
+ * jiter_next_key and their _text forms check that strings are UTF-8; jiter_member checks only keys. The calls whose names
+ * end in _bytes, jiter_next_skip, jiter_count and jiter_item don't.
+ *
+ * Documents. To accept exactly the documents of RFC 8259 (at most 201 nested containers, integers of at most 4300
+ * digits), call jiter_parse or jiter_document_parse with JITER_OFF, or the parser with jiter_parser_finish. A reader
+ * keeps no record of open containers: call its steps in the order that their results give, check strings by the calls that
+ * check UTF-8, and end with jiter_finish.
+ *
+ * Memory. Only a handle (JiterParser, JiterDocument, JiterLines) owns memory; free each. All memory is from malloc.
+ *
+ * Threads. Nothing is shared between calls. A handle or a reader is used by one call at a time; different ones by any
+ * number of threads. Don't call from a signal handler, nor in the forked child of a process with threads. */
 #ifndef JITER_C_H
 #define JITER_C_H
 
@@ -26,13 +35,18 @@
 #include <stddef.h>
 #include <stdint.h>
 
+/* The version: 10,000 times the major number, 100 times the minor one, and the patch. jiter_version returns that of the
+ * library that is linked. */
+#define JITER_VERSION 1800
+#define JITER_VERSION_TEXT "0.18.0"
+
 #ifdef __cplusplus
 extern "C" {
 #endif
 
-/* Why a call refuses: the kind of a JiterFault. */
-enum {
-  JITER_FLOAT_EXPECTING_INT = 1, /* no call answers it */
+/* The kind of a JiterFault. */
+typedef enum {
+  JITER_FLOAT_EXPECTING_INT = 1, /* never returned */
   JITER_EOF_WHILE_PARSING_LIST = 2,
   JITER_EOF_WHILE_PARSING_OBJECT = 3,
   JITER_EOF_WHILE_PARSING_STRING = 4,
@@ -54,122 +68,336 @@ enum {
   JITER_UNEXPECTED_END_OF_HEX_ESCAPE = 20,
   JITER_RECURSION_LIMIT_EXCEEDED = 21,
   JITER_OUT_OF_MEMORY = 22,
-  JITER_WRONG_TYPE = 100 /* another type of value stands there: `expected` and `actual` */
-};
+  JITER_DUPLICATE_KEY = 23, /* only of jiter_document_parse with `unique` */
+  JITER_WRONG_TYPE = 100,    /* the next value has another type: `expected` and `actual` */
+  JITER_MISUSE = 101,        /* no mode has this number, or the handle holds something else */
+  JITER_ABSENT = 102,        /* the place in the document has no such value */
+  JITER_ROOM_TOO_SMALL = 103 /* only of the _text calls */
+} JiterKind;
 
-/* Types of values, and what a value begins with: of a number jiter_peek says no more than that. */
-enum {
+/* Types of values. jiter_peek returns JITER_NUMBER for every number. */
+typedef enum {
   JITER_NOTHING = 0,
   JITER_NULL = 1,
   JITER_BOOL = 2,
-  JITER_INT = 3,
+  JITER_INT = 3, /* an integer that fits in 64 signed bits */
   JITER_FLOAT = 4,
   JITER_STRING = 5,
   JITER_ARRAY = 6,
   JITER_OBJECT = 7,
-  JITER_NUMBER = 8
-};
+  JITER_NUMBER = 8,
+  JITER_BIG_INT = 9 /* any other integer */
+} JiterType;
 
-/* How much of a document that ends too early is read. */
-enum { JITER_OFF = 0, JITER_ON = 1, JITER_TRAILING_STRINGS = 2 };
+/* Whether a truncated document is accepted. JITER_ON leaves out a truncated string, JITER_TRAILING_STRINGS keeps its
+ * complete characters. Another number is JITER_MISUSE. */
+typedef enum { JITER_OFF = 0, JITER_ON = 1, JITER_TRAILING_STRINGS = 2 } JiterMode;
 
-/* A refusal, and the byte index, from 0, that it stands at. */
+/* An error, and its byte index from 0. */
 typedef struct {
-  uint32_t kind;
-  uint32_t expected; /* types, where the kind is JITER_WRONG_TYPE; else 0 */
+  uint32_t kind;     /* a JiterKind */
+  uint32_t expected; /* types, if the kind is JITER_WRONG_TYPE; otherwise 0 */
   uint32_t actual;
   size_t index;
 } JiterFault;
 
-/* Bytes that lie in the caller's own bytes. */
+/* Bytes borrowed from yours. */
 typedef struct {
-  const uint8_t *bytes;
+  const char *bytes;
   size_t length;
 } JiterText;
 
-#define JITER_NO_TEXT {(const uint8_t *)"", 0}
+#define JITER_NO_TEXT {"", 0}
 
-/* A reader: bytes, and the index in them where it stands. A copy of the struct is another reader, so that a caller that
- * keeps one can read a value again, or walk the items of an array apart. */
+/* A reader: bytes and a position in them. A copy of the struct is another reader: keep one to read a value again. */
 typedef struct {
-  const uint8_t *bytes;
+  const char *bytes;
   size_t length;
   size_t index;
   bool allow_inf_nan;         /* whether NaN, Infinity and -Infinity are numbers */
-  bool allow_partial_strings; /* whether a string that the end of input cuts is a text as far as it goes */
+  bool allow_partial_strings; /* whether the input may end inside a string value */
 } JiterReader;
 
-/* A line, from 1, and a column. */
+/* A number, whichever it is. */
+typedef struct {
+  uint32_t kind;   /* JITER_INT, JITER_BIG_INT or JITER_FLOAT */
+  int64_t integer; /* of a JITER_INT; otherwise 0 */
+  JiterText text;  /* the source of the others; otherwise empty */
+} JiterNumber;
+
+/* A line, from 1, and a column in bytes, from 1; it is 0 for a line feed and in empty bytes. */
 typedef struct {
   size_t line;
   size_t column;
 } JiterPosition;
 
-/* A reader that stands before the first byte. */
+/* Handles. Each owns memory: free it once, and use no copy of it afterwards. */
+typedef struct {
+  void *at;
+} JiterParser;
+typedef struct {
+  void *at;
+} JiterDocument;
+typedef struct {
+  void *at;
+} JiterLines;
+
+/* What a document has at a place. */
+typedef struct {
+  uint32_t kind; /* a JiterType, never JITER_NUMBER */
+  bool truth;
+  int64_t integer; /* of a JITER_INT */
+  size_t length;   /* items, members, or bytes of the string or number text */
+} JiterValue;
+
+#if defined __STDC_VERSION__ && __STDC_VERSION__ >= 201112L
+_Static_assert(sizeof(size_t) == 8 && sizeof(bool) == 1, "x86-64 is needed");
+_Static_assert(sizeof(JiterFault) == 24 && offsetof(JiterFault, index) == 16, "JiterFault");
+_Static_assert(sizeof(JiterText) == 16, "JiterText");
+_Static_assert(sizeof(JiterReader) == 32 && offsetof(JiterReader, allow_inf_nan) == 24, "JiterReader");
+_Static_assert(sizeof(JiterNumber) == 32 && offsetof(JiterNumber, text) == 16, "JiterNumber");
+_Static_assert(sizeof(JiterPosition) == 16 && sizeof(JiterParser) == 8, "JiterPosition, JiterParser");
+_Static_assert(sizeof(JiterValue) == 24 && offsetof(JiterValue, integer) == 8, "JiterValue");
+#endif
+
+uint32_t jiter_version(void);
+
+/* A reader at the first byte. */
 static inline JiterReader jiter_reader(const void *bytes, size_t length) {
-  JiterReader reader = {(const uint8_t *)bytes, length, 0, false, false};
+  JiterReader reader = {(const char *)bytes, length, 0, false, false};
   return reader;
 }
 
-/* Whole documents. jiter_parse answers whether the bytes are a document. In a partial mode it answers whether they can
- * be read as one that is cut: an end of the input in a container, a missing comma and bytes after the value are then no
- * errors. jiter_print writes the compact text of the document's value, as far as it fits into `out`, and its
- * whole length: of `whole` bytes `room` are written at most. A reader walks that text as it walks any document. */
-bool jiter_parse(const uint8_t *bytes, size_t length, bool allow_inf_nan, uint32_t mode, JiterFault *fault);
-bool jiter_print(const uint8_t *bytes, size_t length, bool allow_inf_nan, uint32_t mode, uint8_t *out, size_t room,
+/* ---- Complete documents, without a handle. jiter_parse returns whether the bytes are a document, or in a partial mode
+ * whether they are the beginning of one. jiter_print writes the compact text of its value. */
+bool jiter_parse(const char *bytes, size_t length, bool allow_inf_nan, uint32_t mode, JiterFault *fault);
+bool jiter_print(const char *bytes, size_t length, bool allow_inf_nan, uint32_t mode, char *out, size_t room,
                  size_t *whole, JiterFault *fault);
 
-/* What comes next: JITER_NULL, JITER_BOOL, JITER_NUMBER, JITER_STRING, JITER_ARRAY, JITER_OBJECT, or JITER_NOTHING
- * where no value begins. Blanks before it are passed, and nothing else. */
+/* ---- The reader. */
+
+/* The type of the next value: JITER_NULL, JITER_BOOL, JITER_NUMBER, JITER_STRING, JITER_ARRAY, JITER_OBJECT, or
+ * JITER_NOTHING if no value begins there. It moves past whitespace only: then reader->index is the value's place. */
 bool jiter_peek(JiterReader *reader, uint32_t *start, JiterFault *fault);
 
-/* Scalars. Where another type stands, the refusal is JITER_WRONG_TYPE and the reader stays at the value. An integer
- * that 64 signed bits do not hold does not fit, and its value is 0: jiter_next_number, on a reader kept from
- * before, gives its bytes. jiter_next_str writes a string's text, decoded, as far as it fits; jiter_next_bytes
- * gives the bytes between its quotes, their escapes checked and not decoded. */
+/* Scalars. If the next value has another type, the fault is JITER_WRONG_TYPE. After a failure the reader is at the
+ * value, so you can try another type. */
 bool jiter_next_null(JiterReader *reader, JiterFault *fault);
 bool jiter_next_bool(JiterReader *reader, bool *value, JiterFault *fault);
+/* An integer. If it doesn't fit, `fits` is false and the value 0. */
 bool jiter_next_int(JiterReader *reader, bool *fits, int64_t *value, JiterFault *fault);
+bool jiter_next_u64(JiterReader *reader, bool *fits, uint64_t *value, JiterFault *fault);
+/* The double nearest to a number, whatever the locale. 1e400 is infinite: `finite` is false. */
+bool jiter_next_double(JiterReader *reader, double *value, bool *finite, JiterFault *fault);
+/* A number, whichever it is; jiter_double turns a number's text into a double. */
+bool jiter_next_any_number(JiterReader *reader, JiterNumber *number, JiterFault *fault);
+bool jiter_double(const char *text, size_t length, double *value, bool *finite);
+/* The source bytes of a number. */
 bool jiter_next_number(JiterReader *reader, JiterText *text, JiterFault *fault);
-bool jiter_next_str(JiterReader *reader, uint8_t *out, size_t room, size_t *whole, JiterFault *fault);
+/* A string, decoded to `out`; and the bytes between its quotes, with escapes checked and not decoded. */
+bool jiter_next_str(JiterReader *reader, char *out, size_t room, size_t *whole, JiterFault *fault);
 bool jiter_next_bytes(JiterReader *reader, JiterText *text, JiterFault *fault);
 
-/* Arrays: jiter_next_array steps into one, jiter_array_step goes on after an item. `more` is whether an item comes
- * next; else the reader stands after the array. */
+/* Arrays: jiter_next_array steps into one, jiter_array_step moves past an item. `more` is whether an item comes next;
+ * otherwise the reader is after the array.
+ *
+ *     bool more = false;
+ *     bool ok = jiter_next_array(&reader, &more, &fault);
+ *     while (ok && more)
+ *       ok = read_item(&reader) && jiter_array_step(&reader, &more, &fault); */
 bool jiter_next_array(JiterReader *reader, bool *more, JiterFault *fault);
 bool jiter_array_step(JiterReader *reader, bool *more, JiterFault *fault);
 
-/* Objects: jiter_next_object steps into one, jiter_next_key goes on after a member. `more` is whether a member
- * follows: its key is given, and its value comes next; else the key is empty, and the reader stands after the
- * object. The first two write the key, decoded, as far as it fits; the others give its bytes as they stand between
- * the quotes. */
-bool jiter_next_object(JiterReader *reader, bool *more, uint8_t *out, size_t room, size_t *whole, JiterFault *fault);
-bool jiter_next_key(JiterReader *reader, bool *more, uint8_t *out, size_t room, size_t *whole, JiterFault *fault);
+/* Objects: jiter_next_object steps into one, jiter_next_key moves past a member. `more` is whether a member comes next:
+ * you get its key, and its value comes next. Otherwise the key is empty and the reader after the object. The first two
+ * write the key, decoded, to `out`; the _bytes forms give the bytes between its quotes. */
+bool jiter_next_object(JiterReader *reader, bool *more, char *out, size_t room, size_t *whole, JiterFault *fault);
+bool jiter_next_key(JiterReader *reader, bool *more, char *out, size_t room, size_t *whole, JiterFault *fault);
 bool jiter_next_object_bytes(JiterReader *reader, bool *more, JiterText *key, JiterFault *fault);
 bool jiter_next_key_bytes(JiterReader *reader, bool *more, JiterText *key, JiterFault *fault);
 
-/* After the next value, whatever it is; UTF-8 is not tested. */
+/* The same without a copy: `text` and `key` point into your bytes if the source has no escape, otherwise into `room`. If
+ * that is too small, the fault is JITER_ROOM_TOO_SMALL and the reader stays where it was: ask again with more room, at
+ * most the bytes that are left. A string without an escape fits into any room. (These are inline: calls of the ones
+ * above.) */
+static inline bool jiter_placed(JiterReader *reader, const JiterReader *before, const char *begin, size_t whole, char *room,
+                                size_t capacity, JiterText *text, JiterFault *fault) {
+  text->bytes = begin ? begin : room;
+  text->length = whole;
+  if (begin || whole <= capacity)
+    return true;
+  fault->kind = JITER_ROOM_TOO_SMALL;
+  fault->expected = fault->actual = 0;
+  fault->index = before->index;
+  *reader = *before;
+  text->bytes = "";
+  text->length = 0;
+  return false;
+}
+static inline bool jiter_next_text(JiterReader *reader, char *room, size_t capacity, JiterText *text, JiterFault *fault) {
+  JiterReader before = *reader;
+  uint32_t start = 0;
+  size_t whole = 0, place, i;
+  bool escaped;
+  if (!jiter_peek(reader, &start, fault))
+    return false;
+  place = reader->index + 1;
+  if (!jiter_next_str(reader, room, capacity, &whole, fault))
+    return false;
+  escaped = place + whole + 1 != reader->index; /* an escape is longer than what it spells */
+  if (reader->allow_partial_strings)            /* there may be no closing quote */
+    for (i = place, escaped = false; i < reader->index && !escaped; i++)
+      escaped = reader->bytes[i] == '\\';
+  return jiter_placed(reader, &before, escaped ? NULL : reader->bytes + place, whole, room, capacity, text, fault);
+}
+typedef bool (*JiterKeyStep)(JiterReader *, bool *, char *, size_t, size_t *, JiterFault *);
+static inline bool jiter_text_of_key(JiterKeyStep step, JiterReader *reader, bool *more, char *room, size_t capacity,
+                                     JiterText *key, JiterFault *fault) {
+  JiterReader before = *reader;
+  size_t whole = 0, end;
+  bool there = false;
+  if (!step(reader, &there, room, capacity, &whole, fault))
+    return false;
+  for (end = reader->index - 1; there && end > 0 && reader->bytes[end] != '"'; end--) {
+    /* back over the colon and whitespace to the closing quote */
+  }
+  if (there) {
+    const char *begin = reader->bytes + end - whole;
+    bool opens = whole < end && begin[-1] == '"' && (whole + 1 == end || begin[-2] != '\\');
+    if (!jiter_placed(reader, &before, opens ? begin : NULL, whole, room, capacity, key, fault))
+      return false;
+  } else {
+    key->bytes = "";
+    key->length = 0;
+  }
+  *more = there;
+  return true;
+}
+static inline bool jiter_next_object_text(JiterReader *reader, bool *more, char *room, size_t capacity, JiterText *key,
+                                          JiterFault *fault) {
+  return jiter_text_of_key(jiter_next_object, reader, more, room, capacity, key, fault);
+}
+static inline bool jiter_next_key_text(JiterReader *reader, bool *more, char *room, size_t capacity, JiterText *key,
+                                       JiterFault *fault) {
+  return jiter_text_of_key(jiter_next_key, reader, more, room, capacity, key, fault);
+}
+
+/* Moves past the next value, whatever it is. */
 bool jiter_next_skip(JiterReader *reader, JiterFault *fault);
 
-/* Goes through the parts of the array or the object that comes next: of another type it is refused as by the step into
- * it. jiter_count tells how many items or members there are, and moves nothing. jiter_item moves to the item with this
- * number, from 0, and jiter_member to the value of the last member of this name, with which keys are compared decoded:
- * `found` is whether there is one; else the reader stands after the array or the object. Where a go is refused the
- * reader stands where one of its calls was. */
+/* Walks through the next array or object. jiter_count counts its items or members and doesn't move the reader.
+ * jiter_item moves to the item with this index, and jiter_member to the value of the last member with this key; `found`
+ * is whether there is one, otherwise the reader is after the array or object. Each call reads from the beginning:
+ * jiter_item in a loop takes quadratic time, so loop by jiter_array_step; to look up many keys, parse a document. */
 bool jiter_count(const JiterReader *reader, uint64_t *count, JiterFault *fault);
 bool jiter_item(JiterReader *reader, uint64_t number, bool *found, JiterFault *fault);
-bool jiter_member(JiterReader *reader, const uint8_t *name, size_t length, bool *found, JiterFault *fault);
+bool jiter_member(JiterReader *reader, const char *name, size_t length, bool *found, JiterFault *fault);
 
-/* To the end of the bytes, where nothing but blanks is left. */
+/* Checks that only whitespace is left. */
 bool jiter_finish(JiterReader *reader, JiterFault *fault);
 
-/* `CAUSE at line L column C` of a fault of these bytes, as far as it fits, and its whole length. It answers false where
- * the fault has no number of a kind, and where memory is refused. */
-bool jiter_describe(const uint8_t *bytes, size_t length, const JiterFault *fault, uint8_t *out, size_t room,
-                    size_t *whole);
+/* ---- Errors in words. jiter_cause writes the cause alone, so that `FILE:LINE:COLUMN: CAUSE` is one printf;
+ * jiter_describe writes `CAUSE at line L column C`. They return false if the fault's kind has no words (23 and more
+ * except 100), or memory runs out. jiter_describe, jiter_position and jiter_character_column read all bytes up to the
+ * index. */
+bool jiter_cause(const JiterFault *fault, char *out, size_t room, size_t *whole);
+bool jiter_describe(const char *bytes, size_t length, const JiterFault *fault, char *out, size_t room, size_t *whole);
+void jiter_position(const char *bytes, size_t length, size_t index, JiterPosition *position);
+/* The column in characters, as editors count it. */
+size_t jiter_character_column(const char *bytes, size_t length, size_t index);
 
-/* The line and the column of a byte index. */
-void jiter_position(const uint8_t *bytes, size_t length, size_t index, JiterPosition *position);
+/* ---- Handles: a new one holds nothing; the calls that fill one free what it held. */
+bool jiter_handle_new(void **at);
+void jiter_handle_free(void *at);
+
+/* ---- Documents in chunks. The chunks are not kept. */
+bool jiter_parser_begin(JiterParser *parser, bool allow_inf_nan, uint32_t mode);
+/* Takes a chunk. An error in the bytes is no failure of this call. If it fails, memory ran out: jiter_parser_position
+ * returns how many bytes were taken; push the rest again. */
+bool jiter_parser_push(JiterParser *parser, const char *chunk, size_t length);
+size_t jiter_parser_position(JiterParser *parser);
+/* Writes the compact text of the value of all bytes so far, read in the parser's mode. */
+bool jiter_parser_value(JiterParser *parser, char *out, size_t room, size_t *whole, JiterFault *fault);
+/* Returns whether the bytes so far are no complete document, and why. */
+bool jiter_parser_error(JiterParser *parser, JiterFault *fault);
+
+static inline bool jiter_parser_new(JiterParser *parser, bool allow_inf_nan, uint32_t mode) {
+  parser->at = NULL;
+  return jiter_handle_new(&parser->at) && jiter_parser_begin(parser, allow_inf_nan, mode);
+}
+static inline void jiter_parser_free(JiterParser *parser) {
+  if (parser->at)
+    jiter_handle_free(parser->at);
+  parser->at = NULL;
+}
+
+/* ---- Documents. */
+static inline void jiter_document_free(JiterDocument *document) {
+  if (document->at)
+    jiter_handle_free(document->at);
+  document->at = NULL;
+}
+
+/* The export behind jiter_parser_to_document: the handle then holds a document, or nothing. */
+bool jiter_parser_finish(JiterParser *parser, JiterFault *fault);
+/* Ends the document: if it is complete, `document` gets its value and the parser is used up; free both all the same.
+ * Otherwise the parser holds nothing: call jiter_parser_error first to go on with it. */
+static inline bool jiter_parser_to_document(JiterParser *parser, JiterDocument *document, JiterFault *fault) {
+  document->at = NULL;
+  if (!jiter_parser_finish(parser, fault))
+    return false;
+  document->at = parser->at;
+  parser->at = NULL;
+  return true;
+}
+
+/* The export behind jiter_document_parse, for a handle that you have. */
+bool jiter_document_read(JiterDocument *document, const char *bytes, size_t length, bool allow_inf_nan, uint32_t mode,
+                         bool unique, JiterFault *fault);
+/* Parses a document; the value borrows nothing of the bytes. With `unique`, a repeated key is JITER_DUPLICATE_KEY, and
+ * the document is then that key, a string. Free the document in every case. */
+static inline bool jiter_document_parse(JiterDocument *document, const char *bytes, size_t length, bool allow_inf_nan,
+                                        uint32_t mode, bool unique, JiterFault *fault) {
+  document->at = NULL;
+  if (jiter_handle_new(&document->at))
+    return jiter_document_read(document, bytes, length, allow_inf_nan, mode, unique, fault);
+  fault->kind = JITER_OUT_OF_MEMORY;
+  fault->expected = fault->actual = 0;
+  fault->index = 0;
+  return false;
+}
+
+/* Looking into a document. A place is what a JSON Pointer leads to (RFC 6901), and from there one item or member for
+ * each step, by its index. An empty pointer and no steps are the document's value. The pointer must be UTF-8. */
+bool jiter_document_at(JiterDocument *document, const char *pointer, size_t pointer_length, const size_t *steps,
+                       size_t depth, JiterValue *value);
+/* The string at a place, decoded, or the source text of a JITER_BIG_INT or a JITER_FLOAT. */
+bool jiter_document_text(JiterDocument *document, const char *pointer, size_t pointer_length, const size_t *steps,
+                         size_t depth, char *out, size_t room, size_t *whole, JiterFault *fault);
+/* The key of a member of the object at a place. */
+bool jiter_document_key(JiterDocument *document, const char *pointer, size_t pointer_length, const size_t *steps,
+                        size_t depth, size_t index, char *out, size_t room, size_t *whole, JiterFault *fault);
+/* The compact JSON text of the value at a place. */
+bool jiter_document_print(JiterDocument *document, const char *pointer, size_t pointer_length, const size_t *steps,
+                          size_t depth, char *out, size_t room, size_t *whole, JiterFault *fault);
+
+/* ---- Lines of a document in chunks: push the same chunks as to the parser. A push that fails took no byte. */
+void jiter_lines_begin(JiterLines *lines);
+bool jiter_lines_push(JiterLines *lines, const char *chunk, size_t length);
+bool jiter_lines_position(JiterLines *lines, size_t index, JiterPosition *position);
+
+static inline bool jiter_lines_new(JiterLines *lines) {
+  lines->at = NULL;
+  if (!jiter_handle_new(&lines->at))
+    return false;
+  jiter_lines_begin(lines);
+  return true;
+}
+static inline void jiter_lines_free(JiterLines *lines) {
+  if (lines->at)
+    jiter_handle_free(lines->at);
+  lines->at = NULL;
+}
 
 #ifdef __cplusplus
 }

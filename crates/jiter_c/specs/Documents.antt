@@ -1,15 +1,16 @@
 -- What C is told of a reading of a whole document.
-use Rattle.std.specs.Prelude.{ℕ, Bool, true, false, ◌==◌, if◌then◌else◌}
+use Rattle.std.specs.Prelude.{ℕ, Bool, true, false, ◌==◌, if◌then◌else◌, Option, Some, None}
 use Rattle.jiter.specs.Cause.{json_error}
 use Rattle.jiter_scan.specs.declared.partial_mode.PartialMode.{PartialMode}
 use Rattle.jiter_steps.specs.Read.{Reading, done, fault}
 use Rattle.jiter_c.specs.Faults.{fault_of}
 use Rattle.jiter_c.specs.declared.faults.JiterFault.{JiterFault}
 
--- the mode with a number
-abbrev pub mode_numbered : ℕ → PartialMode
+-- the mode with a number, if there is one
+abbrev pub mode_numbered : ℕ → Option PartialMode
 mode_numbered n =
-    if n == 0 then PartialMode.Off else (if n == 1 then PartialMode.On else PartialMode.TrailingStrings)
+    if n == 0 then Some PartialMode.Off
+    else (if n == 1 then Some PartialMode.On else (if n == 2 then Some PartialMode.TrailingStrings else None))
 
 -- a value was read
 abbrev pub is_read : {A : Type 0} → Reading A → Bool

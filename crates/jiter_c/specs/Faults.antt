@@ -1,5 +1,6 @@
 -- The numbers by which C knows kinds of fault and types, as jiter_c.h lists them.
-use Rattle.std.specs.Prelude.{◌≡◌, ℕ, List}
+use Rattle.std.specs.Prelude.{◌≡◌, ◌-◌, ◌||◌, ℕ, Bool, List, count_by, drop, length, nat_le, nat_lt}
+use Rattle.jiter_scan.specs.Position.{bytes_through, position_of}
 use Rattle.jiter_scan.specs.declared.errors.LinePosition.{LinePosition}
 use Rattle.jiter.specs.Cause.{Cause, ValueType, error_description}
 use Rattle.jiter_scan.specs.Kind.{Kind}
@@ -39,6 +40,13 @@ memory_number = kind_number Kind.out_of_memory
 abbrev pub wrong_type_number : ℕ
 wrong_type_number = 100
 
+-- of a call that is itself wrong
+abbrev pub misuse_number : ℕ
+misuse_number = 101
+
+abbrev pub misuse : JiterFault
+misuse = record { kind = misuse_number; expected = 0; actual = 0; index = 0 }
+
 -- the number of a type
 abbrev pub type_number : ValueType → ℕ
 type_number ValueType.null = 1
@@ -71,3 +79,13 @@ Describes t f text = (c : Cause) × TellsOf f c × (text ≡ error_description c
 
 abbrev pub position_view : LinePosition → JiterPosition
 position_view p = record { line = p.line; column = p.column }
+
+-- the byte begins a character of UTF-8, or is none
+abbrev pub begins_character : ℕ → Bool
+begins_character b = nat_lt b 128 || nat_le 192 b
+
+-- the characters of the line up to an index, itself included
+abbrev pub character_column : List ℕ → ℕ → ℕ
+character_column t index =
+    let through = bytes_through t index in
+    count_by begins_character (drop (length through - (position_of t index).column) through)

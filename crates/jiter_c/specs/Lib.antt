@@ -1,5 +1,12 @@
 pub mod Documents
 pub mod Faults
+pub mod Handles
+pub mod Holding
+pub mod Lines
+pub mod Numbers
+pub mod Printing
+pub mod Parsers
 pub mod Parts
 pub mod Replies
 pub mod Told
+pub mod Values

@@ -1,32 +1,37 @@
 //! Complete documents: whether the bytes are one, and the compact text of its value.
-ghost use Rattle.std.specs.Prelude.{◌≡◌, false, length, true};
+ghost use Rattle.std.specs.Prelude.{◌≡◌, false, IfErr, IfOk, length, None, Some, true};
 ghost use Rattle.jiter.specs.Cause.{json_error};
-ghost use Rattle.jiter_scan.specs.Kind.{kind_of};
+ghost use Rattle.jiter_scan.specs.Kind.{kind_of, out_of_memory};
+ghost use Rattle.jiter_scan.specs.declared.partial_mode.PartialMode.{PartialMode};
 ghost use Rattle.jiter_steps.specs.Answer.{answer_in};
 ghost use Rattle.jiter_steps.specs.Node.{IsDocument, Node, value_of};
-ghost use Rattle.jiter_value.specs.Value.{MayGrow};
+ghost use Rattle.jiter_value.specs.Value.{MayGrow, view};
 ghost use Rattle.jiter_print.specs.Print.{print_of};
 ghost use Rattle.jiter_c.specs.Documents.{is_read, mode_numbered, read_fault, read_or};
-ghost use Rattle.jiter_c.specs.Faults.{fault_of};
+ghost use Rattle.jiter_c.specs.Faults.{fault_of, misuse};
+ghost use Rattle.jiter_c.specs.Printing.{IsTold};
 ghost use Rattle.jiter_c.specs.Told.{UnlessMemory, WhereMemory, written};
 
-use crate::faults::{JiterFault, kind_number};
+use crate::faults::{JiterFault, kind_number, misuse};
 use crate::texts::write_prefix;
 use jiter::{JsonError, JsonErrorType, JsonValue, PartialMode};
 use jiter_print::print;
 use std::alloc::Global;
 
-fn mode_numbered(number: u32) -> PartialMode
+/// Returns the mode with a number of `jiter_c.h`.
+pub fn mode_numbered(number: u32) -> Option<PartialMode>
     ensures { result ≡ mode_numbered number }
 {
     match number {
-        0 => PartialMode::Off,
-        1 => PartialMode::On,
-        _ => PartialMode::TrailingStrings,
+        0 => Some(PartialMode::Off),
+        1 => Some(PartialMode::On),
+        2 => Some(PartialMode::TrailingStrings),
+        _ => None,
     }
 }
 
-fn document_fault(error: &JsonError) -> JiterFault
+/// Returns an error of the bytes of a document as C sees it.
+pub fn document_fault(error: &JsonError) -> JiterFault
     ensures { result ≡ fault_of (json_error (kind_of error.now.error_type)) error.now.index }
 {
     JiterFault {
@@ -39,7 +44,7 @@ fn document_fault(error: &JsonError) -> JiterFault
 
 /// Returns whether [`JsonValue::parse_with_config`] succeeds for the bytes: with mode 0, whether they are a document.
 ///
-/// The mode is 0 for `PartialMode::Off`, 1 for `PartialMode::On`, any other number for `PartialMode::TrailingStrings`.
+/// The mode is 0 for `PartialMode::Off`, 1 for `PartialMode::On`, 2 for `PartialMode::TrailingStrings`.
 /// The value itself is not returned.
 ///
 /// # Errors
@@ -48,6 +53,7 @@ fn document_fault(error: &JsonError) -> JiterFault
 ///
 /// - the error that [`JsonValue::parse_with_config`] returns
 /// - out of memory, only for a non-empty container or a string with a backslash
+/// - misuse, if no mode has this number
 #[unsafe(no_mangle)]
 pub extern "C" fn jiter_parse(
     alloc: Global,
@@ -57,18 +63,60 @@ pub extern "C" fn jiter_parse(
     fault: &mut JiterFault,
 ) -> bool
     ensures found { mode ≡ 0 → result ≡ true → (n : Node) × IsDocument allow_inf_nan bytes.now n }
-    ensures accepts { UnlessMemory result fault.new
+    ensures accepts { (m : PartialMode) → mode_numbered mode ≡ Some m → UnlessMemory result fault.new
         ((n : Node) → IsDocument allow_inf_nan bytes.now n → result ≡ true) }
-    ensures answer { UnlessMemory result fault.new
-        (result ≡ is_read (answer_in allow_inf_nan (mode_numbered mode) bytes.now)) }
-    ensures fault { UnlessMemory result fault.new (fault.new
-        ≡ read_fault fault.old (answer_in allow_inf_nan (mode_numbered mode) bytes.now)) }
+    ensures answer { (m : PartialMode) → mode_numbered mode ≡ Some m → UnlessMemory result fault.new
+        (result ≡ is_read (answer_in allow_inf_nan m bytes.now)) }
+    ensures fault { (m : PartialMode) → mode_numbered mode ≡ Some m → UnlessMemory result fault.new
+        (fault.new ≡ read_fault fault.old (answer_in allow_inf_nan m bytes.now)) }
     ensures memory { WhereMemory result fault.new (MayGrow bytes.now) }
+    ensures misuse { mode_numbered mode ≡ None → (result ≡ false) × (fault.new ≡ misuse) }
 {
-    match &JsonValue::parse_with_config(alloc, bytes, allow_inf_nan, mode_numbered(mode)) {
+    let Some(mode) = mode_numbered(mode) else {
+        *fault = misuse();
+        return false;
+    };
+    match &JsonValue::parse_with_config(alloc, bytes, allow_inf_nan, mode) {
         Ok(_) => true,
         Err(error) => {
             *fault = document_fault(error);
+            false
+        }
+    }
+}
+
+/// Returns the compact text of a value, or out of memory at this index.
+pub fn print_text(alloc: Global, value: &JsonValue<'_>, index: usize) -> Result<Vec<u8>, JiterFault>
+    ensures text { IfOk result (λ text. text.items ≡ print_of (view value.now)) }
+    ensures memory { IfErr result (λ f. f ≡ fault_of (json_error out_of_memory) index) }
+{
+    match print(alloc, value) {
+        Ok(text) => Ok(text),
+        Err(_) => Err(JiterFault {
+            kind: kind_number(&JsonErrorType::OutOfMemory),
+            expected: 0,
+            actual: 0,
+            index,
+        }),
+    }
+}
+
+/// Writes a text as far as it fits and its length, or the error.
+pub fn tell_text(
+    text: Result<Vec<u8>, JiterFault>,
+    out: &mut [u8],
+    whole: &mut usize,
+    fault: &mut JiterFault,
+) -> bool
+    ensures { IsTold text result out.old out.new whole.old whole.new fault.old fault.new }
+{
+    match text {
+        Ok(text) => {
+            *whole = write_prefix(out, text.as_slice());
+            true
+        }
+        Err(error) => {
+            *fault = error;
             false
         }
     }
@@ -84,6 +132,7 @@ pub extern "C" fn jiter_parse(
 ///
 /// - the error that [`JsonValue::parse_with_config`] returns
 /// - out of memory; the index is the length of the bytes if the text itself could not be made
+/// - misuse, if no mode has this number
 #[unsafe(no_mangle)]
 pub extern "C" fn jiter_print(
     alloc: Global,
@@ -94,21 +143,24 @@ pub extern "C" fn jiter_print(
     whole: &mut usize,
     fault: &mut JiterFault,
 ) -> bool
-    ensures accepts { UnlessMemory result fault.new
+    ensures accepts { (m : PartialMode) → mode_numbered mode ≡ Some m → UnlessMemory result fault.new
         ((n : Node) → IsDocument allow_inf_nan bytes.now n
         → out.new ≡ written (print_of (value_of bytes.now n)) out.old) }
-    ensures text { UnlessMemory result fault.new (out.new
-        ≡ read_or out.old (λ v. written (print_of v) out.old)
-        (answer_in allow_inf_nan (mode_numbered mode) bytes.now)) }
-    ensures whole { UnlessMemory result fault.new (whole.new
-        ≡ read_or whole.old (λ v. length (print_of v))
-        (answer_in allow_inf_nan (mode_numbered mode) bytes.now)) }
-    ensures answer { UnlessMemory result fault.new
-        (result ≡ is_read (answer_in allow_inf_nan (mode_numbered mode) bytes.now)) }
-    ensures fault { UnlessMemory result fault.new (fault.new
-        ≡ read_fault fault.old (answer_in allow_inf_nan (mode_numbered mode) bytes.now)) }
+    ensures text { (m : PartialMode) → mode_numbered mode ≡ Some m → UnlessMemory result fault.new (out.new
+        ≡ read_or out.old (λ v. written (print_of v) out.old) (answer_in allow_inf_nan m bytes.now)) }
+    ensures whole { (m : PartialMode) → mode_numbered mode ≡ Some m → UnlessMemory result fault.new (whole.new
+        ≡ read_or whole.old (λ v. length (print_of v)) (answer_in allow_inf_nan m bytes.now)) }
+    ensures answer { (m : PartialMode) → mode_numbered mode ≡ Some m → UnlessMemory result fault.new
+        (result ≡ is_read (answer_in allow_inf_nan m bytes.now)) }
+    ensures fault { (m : PartialMode) → mode_numbered mode ≡ Some m → UnlessMemory result fault.new (fault.new
+        ≡ read_fault fault.old (answer_in allow_inf_nan m bytes.now)) }
+    ensures misuse { mode_numbered mode ≡ None → (result ≡ false) × (fault.new ≡ misuse) }
 {
-    match &JsonValue::parse_with_config(alloc, bytes, allow_inf_nan, mode_numbered(mode)) {
+    let Some(mode) = mode_numbered(mode) else {
+        *fault = misuse();
+        return false;
+    };
+    match &JsonValue::parse_with_config(alloc, bytes, allow_inf_nan, mode) {
         Ok(value) => match print(alloc, value) {
             Ok(text) => {
                 *whole = write_prefix(out, text.as_slice());

@@ -1,9 +1,10 @@
 //! Errors as C sees them, their texts, and lines and columns.
-ghost use Rattle.std.specs.Prelude.{◌≡◌, false, true, IfSome, List, ℕ, length};
+ghost use Rattle.std.specs.Prelude.{◌≡◌, false, true, IfSome, List, ℕ, length, count_by};
+ghost use Rattle.jiter.specs.Cause.{Cause, cause_text};
 ghost use Rattle.jiter.specs.Errors.{cause_of, type_of};
 ghost use Rattle.jiter_scan.specs.Kind.{kind_of};
 ghost use Rattle.jiter_scan.specs.Position.{position_of};
-ghost use Rattle.jiter_c.specs.Faults.{Describes, TellsOf, fault_of, kind_number, position_view, type_number};
+ghost use Rattle.jiter_c.specs.Faults.{Describes, begins_character, character_column, TellsOf, fault_of, kind_number, misuse, position_view, type_number};
 ghost use Rattle.jiter_c.specs.Told.{written};
 
 use crate::texts::write_prefix;
@@ -12,6 +13,9 @@ use std::alloc::Global;
 
 /// The kind of an error if the next value has another type. Kinds 1 to 21 are errors of the bytes; 22 is out of memory.
 pub const WRONG_TYPE: u32 = 100;
+
+/// The kind of an error if the call itself is wrong: no mode has its number, or a handle holds something else.
+pub const MISUSE: u32 = 101;
 
 /// Why a call failed, by the numbers of `jiter_c.h`.
 #[repr(C)]
@@ -35,6 +39,18 @@ pub struct JiterPosition {
     pub line: usize,
     /// The column in bytes, from 1; 0 at a line feed and in empty bytes.
     pub column: usize,
+}
+
+/// Returns the error of a call that is itself wrong.
+pub fn misuse() -> JiterFault
+    ensures { result ≡ misuse }
+{
+    JiterFault {
+        kind: MISUSE,
+        expected: 0,
+        actual: 0,
+        index: 0,
+    }
 }
 
 pub fn kind_number(kind: &JsonErrorType) -> u32
@@ -195,6 +211,39 @@ pub extern "C" fn jiter_describe(
     }
 }
 
+/// Writes the cause of an error, without its place, to `out`: what [`jiter_describe`] writes before ` at line`.
+///
+/// `out` gets as much of the text as fits, `whole` its complete length.
+///
+/// # Errors
+///
+/// Returns `false` and writes nothing:
+///
+/// - if `fault` has no kind of `jiter_c.h` from 1 to 22, or the kind [`WRONG_TYPE`] and not two types of `jiter_c.h`
+/// - if an allocation fails
+#[unsafe(no_mangle)]
+pub extern "C" fn jiter_cause(
+    alloc: Global,
+    fault: &JiterFault,
+    out: &mut [u8],
+    whole: &mut usize,
+) -> bool
+    ensures text { result ≡ true → (c : Cause) × TellsOf fault.now c
+        × (out.new ≡ written (cause_text c) out.old) × (whole.new ≡ length (cause_text c)) }
+    ensures kept { result ≡ false → (out.new ≡ out.old) × (whole.new ≡ whole.old) }
+{
+    let Some(cause) = cause_numbered(fault) else {
+        return false;
+    };
+    match cause.to_string(alloc) {
+        Ok(text) => {
+            *whole = write_prefix(out, text.as_bytes());
+            true
+        }
+        Err(_) => false,
+    }
+}
+
 /// Writes the line and column of a byte index to `position`. An index past the bytes counts as their last byte.
 #[unsafe(no_mangle)]
 pub extern "C" fn jiter_position(bytes: &[u8], index: usize, position: &mut JiterPosition)
@@ -202,4 +251,44 @@ pub extern "C" fn jiter_position(bytes: &[u8], index: usize, position: &mut Jite
 {
     let LinePosition { line, column } = LinePosition::find(bytes, index);
     *position = JiterPosition { line, column };
+}
+
+/// Returns the column of a byte index in characters, as an editor counts them: the characters from the start of its line
+/// up to it, itself included.
+///
+/// A byte that continues a character of UTF-8 counts as no character of its own. An index past the bytes counts as their
+/// last byte; the column of a line feed is 0.
+#[unsafe(no_mangle)]
+pub extern "C" fn jiter_character_column(bytes: &[u8], index: usize) -> usize
+    ensures { result ≡ character_column bytes.now index }
+{
+    let through = if index < bytes.len() {
+        &bytes[..=index]
+    } else {
+        bytes
+    };
+    let column = LinePosition::find(bytes, index).column;
+    count_characters(&through[through.len().saturating_sub(column)..])
+}
+
+fn count_characters(bytes: &[u8]) -> usize
+    ensures { result ≡ count_by begins_character bytes.now }
+{
+    let mut count = 0;
+    for byte in bytes {
+        if *byte < 0x80 || 0xC0 <= *byte {
+            count += 1;
+        }
+    }
+    count
+}
+
+const MINOR: u32 = 18;
+
+/// Returns the version of the library: 10,000 times the major number, 100 times the minor one, and the patch.
+#[unsafe(no_mangle)]
+pub extern "C" fn jiter_version() -> u32
+    ensures { result ≡ 1800 }
+{
+    100 * MINOR
 }

@@ -3,11 +3,16 @@
 //! error has written nothing except `fault` and the reader's position.
 #![tactic(auto)]
 
+mod document_texts;
 mod documents;
 mod faults;
+mod handles;
 mod keys;
+mod line_index;
+mod parser;
 mod parts;
 mod reader;
 mod scalars;
 mod steps;
 mod texts;
+mod values;

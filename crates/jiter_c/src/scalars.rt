@@ -1,15 +1,19 @@
 //! The reader's calls for scalars: literals, numbers and strings.
-ghost use Rattle.std.specs.Prelude.{◌≡◌, false, length};
+ghost use Rattle.std.specs.Prelude.{◌≡◌, MatchOption, false, length, true};
+ghost use Rattle.std.specs.Float.{binary64, float_is_finite};
+ghost use Rattle.fast_float.specs.Parse.{parse_float};
 ghost use Rattle.jiter.specs.Jiter.{reply_seen};
-ghost use Rattle.jiter.specs.Reader.{bool_read, null_read, number_bytes_read, value_place};
+ghost use Rattle.jiter.specs.Reader.{bool_read, null_read, number_bytes_read, number_read, value_place};
+ghost use Rattle.jiter_scan.specs.NumberDecoder.{int_view, number_view};
 ghost use Rattle.jiter_steps.specs.StringDecoder.{WantsMemory};
 ghost use Rattle.jiter_c.specs.Replies.{bytes_reply, int_reply, is_small, next_reply, small_value, state_of, str_reply};
+ghost use Rattle.jiter_c.specs.Numbers.{IfGiven, IsNumber, IsUnsigned, TellsUnsigned};
 ghost use Rattle.jiter_c.specs.Told.{Tells, UnlessMemory, WhereMemory, given_or, written};
 
 use crate::faults::{JiterFault, fault_of};
 use crate::reader::{JiterReader, jiter_at, tell};
 use crate::texts::{JiterText, write_prefix};
-use jiter::NumberInt;
+use jiter::{NumberAny, NumberInt};
 use std::alloc::Global;
 
 /// Reads `null`.
@@ -131,6 +135,215 @@ pub extern "C" fn jiter_next_number<'j>(
     match read {
         Ok(bytes) => {
             *text = JiterText { bytes };
+            true
+        }
+        Err(error) => {
+            *fault = fault_of(&error);
+            false
+        }
+    }
+}
+
+/// Reads an integer that has no sign and writes it to `value`.
+///
+/// `fits` is whether it is from 0 to 2^64 - 1; otherwise `value` is 0.
+///
+/// # Errors
+///
+/// Returns `false` and writes to `fault`:
+///
+/// - the error that [`jiter::Jiter::next_int`] returns; the reader is then at the value's first byte, or the end
+#[tactic(auto, using(crate::proofs::Numbers::unsigned_told, crate::proofs::Numbers::unsigned_missing, crate::proofs::Numbers::unsigned_refused))]
+#[unsafe(no_mangle)]
+pub extern "C" fn jiter_next_u64(
+    reader: &mut JiterReader<'_>,
+    fits: &mut bool,
+    value: &mut u64,
+    fault: &mut JiterFault,
+) -> bool
+    ensures told { Tells (int_reply reader.old) result reader.old reader.new fault.old fault.new }
+    ensures value { TellsUnsigned (int_reply reader.old) fits.old fits.new value.old value.new }
+    ensures stays { result ≡ false → reader.new.index ≡ value_place (state_of reader.old) }
+{
+    let mut jiter = jiter_at(reader);
+    let read = jiter.next_int();
+    reader.index = jiter.current_index();
+    match read {
+        Ok(number) => {
+            match unsigned_of(&number) {
+                Some(unsigned) => {
+                    *fits = true;
+                    *value = unsigned;
+                }
+                None => {
+                    *fits = false;
+                    *value = 0_u64;
+                }
+            }
+            true
+        }
+        Err(error) => {
+            *fault = fault_of(&error);
+            false
+        }
+    }
+}
+
+fn unsigned_of(number: &NumberInt<'_>) -> Option<u64>
+    ensures { IsUnsigned (int_view number.now) result }
+{
+    match number {
+        NumberInt::Int(number) => {
+            if *number < 0 {
+                None
+            } else {
+                Some(*number as u64)
+            }
+        }
+        NumberInt::BigInt(text) => text.parse::<u64>().ok(),
+    }
+}
+
+/// Reads a number and writes the nearest double to `value`.
+///
+/// `finite` is whether that is a finite number. It is not for a number whose magnitude is too large, and for `NaN`,
+/// `Infinity` and `-Infinity`.
+///
+/// # Errors
+///
+/// Returns `false` and writes to `fault`:
+///
+/// - the error that [`jiter::Jiter::next_number_bytes`] returns; the reader is then at the value's first byte, or the
+///   end
+#[tactic(auto, using(crate::proofs::Numbers::if_given, crate::proofs::Numbers::if_refused))]
+#[unsafe(no_mangle)]
+pub extern "C" fn jiter_next_double(
+    reader: &mut JiterReader<'_>,
+    value: &mut f64,
+    finite: &mut bool,
+    fault: &mut JiterFault,
+) -> bool
+    ensures told { Tells (next_reply reader.old number_bytes_read) result reader.old reader.new
+        fault.old fault.new }
+    ensures value { IfGiven (next_reply reader.old number_bytes_read)
+        (λ text. MatchOption (parse_float binary64 text)
+        ((value.new ≡ value.old) × (finite.new ≡ false))
+        (λ x. (value.new ≡ x) × (finite.new ≡ float_is_finite x))) }
+    ensures kept { result ≡ false → (value.new ≡ value.old) × (finite.new ≡ finite.old) }
+    ensures stays { result ≡ false → reader.new.index ≡ value_place (state_of reader.old) }
+{
+    let mut jiter = jiter_at(reader);
+    let number = jiter.next_number_bytes();
+    reader.index = jiter.current_index();
+    match number {
+        Ok(bytes) => {
+            match double_of(bytes) {
+                Some(double) => {
+                    *value = double;
+                    *finite = double.is_finite();
+                }
+                None => *finite = false,
+            }
+            true
+        }
+        Err(error) => {
+            *fault = fault_of(&error);
+            false
+        }
+    }
+}
+
+fn double_of(bytes: &[u8]) -> Option<f64>
+    ensures { result ≡ parse_float binary64 bytes.now }
+{
+    fast_float::parse::<f64, &[u8]>(bytes).ok()
+}
+
+/// Writes the nearest double of a number's text to `value`, as [`jiter_next_double`] does.
+///
+/// # Errors
+///
+/// Returns `false` and writes nothing if the bytes are not a number. Any text that Rust's `parse::<f64>` takes is one.
+#[unsafe(no_mangle)]
+pub extern "C" fn jiter_double(bytes: &[u8], value: &mut f64, finite: &mut bool) -> bool
+    ensures { MatchOption (parse_float binary64 bytes.now)
+        ((result ≡ false) × (value.new ≡ value.old) × (finite.new ≡ finite.old))
+        (λ x. (result ≡ true) × (value.new ≡ x) × (finite.new ≡ float_is_finite x)) }
+{
+    match double_of(bytes) {
+        Some(nearest) => {
+            *value = nearest;
+            *finite = nearest.is_finite();
+            true
+        }
+        None => false,
+    }
+}
+
+/// A number, whichever it is.
+#[repr(C)]
+#[derive(Clone, Copy)]
+pub struct JiterNumber<'j> {
+    /// The type, by the numbers of `jiter_c.h`: an integer, a large integer or a float.
+    pub kind: u32,
+    /// The integer, if it fits in 64 signed bits; otherwise 0.
+    pub integer: i64,
+    /// The source text of a large integer or a float; otherwise empty.
+    pub text: JiterText<'j>,
+}
+
+fn number_of<'j>(number: NumberAny<'j>) -> JiterNumber<'j>
+    ensures { IsNumber (number_view number.entry) result.kind result.integer result.text.bytes.now }
+{
+    match number {
+        NumberAny::Int(NumberInt::Int(integer)) => JiterNumber {
+            kind: 3,
+            integer,
+            text: JiterText { bytes: b"" },
+        },
+        NumberAny::Int(NumberInt::BigInt(text)) => JiterNumber {
+            kind: 9,
+            integer: 0,
+            text: JiterText {
+                bytes: text.as_bytes(),
+            },
+        },
+        NumberAny::Float(text) => JiterNumber {
+            kind: 4,
+            integer: 0,
+            text: JiterText {
+                bytes: text.as_bytes(),
+            },
+        },
+    }
+}
+
+/// Reads a number, whichever it is, and writes it to `number`.
+///
+/// # Errors
+///
+/// Returns `false` and writes to `fault`:
+///
+/// - the error that [`jiter::Jiter::next_number`] returns; the reader is then at the value's first byte, or the end
+#[tactic(auto, using(crate::proofs::Numbers::if_given, crate::proofs::Numbers::if_refused))]
+#[unsafe(no_mangle)]
+pub extern "C" fn jiter_next_any_number<'j>(
+    reader: &mut JiterReader<'j>,
+    number: &mut JiterNumber<'j>,
+    fault: &mut JiterFault,
+) -> bool
+    ensures told { Tells (next_reply reader.old number_read) result reader.old reader.new fault.old fault.new }
+    ensures number { IfGiven (next_reply reader.old number_read)
+        (λ n. IsNumber n number.new.kind number.new.integer number.new.text.bytes.now) }
+    ensures kept { result ≡ false → number.new ≡ number.old }
+    ensures stays { result ≡ false → reader.new.index ≡ value_place (state_of reader.old) }
+{
+    let mut jiter = jiter_at(reader);
+    let read = jiter.next_number();
+    reader.index = jiter.current_index();
+    match read {
+        Ok(found) => {
+            *number = number_of(found);
             true
         }
         Err(error) => {

@@ -1,0 +1,15 @@
+-- What a handle owns, and what is said of what it holds.
+use base.Fml.{Fml}
+use base.Stored.{Coded}
+use denote.RawPtr.{Ptr}
+use Rattle.std.specs.Box.Ownership.{box_owns}
+use Rattle.std.specs.Global.{Global}
+use Rattle.std_heap.specs.contracts.GlobalAllocator.TheImpl.{ghosts}
+use Rattle.jiter_c.specs.contracts.handles.Held.{the_row}
+
+-- the same as a box of it
+abbrev pub held_owns : Global → Ptr → the_row.Denot → Fml
+held_owns alloc = box_owns (ghosts.dealloc_token alloc) the_row
+
+abbrev pub held_coded : Coded the_row.Denot
+held_coded = the_row.coded

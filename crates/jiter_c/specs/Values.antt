@@ -1,0 +1,126 @@
+-- What C is told of a document behind a handle, and of what lies in it.
+use Rattle.std.specs.Prelude.{◌≡◌, ◌≢◌, ℕ, ℤ, pos, zero, suc, Bool, true, false, not, if◌then◌else◌, List, [], ◌∷◌, length}
+use Rattle.std.specs.Prelude.{Option, Some, None, option_map, option_and_then, Result, Ok, Err, Vec}
+use Rattle.std.specs.declared.alloc.Global.{Global}
+use Rattle.jiter.specs.Cause.{json_error}
+use Rattle.jiter_scan.specs.Kind.{Kind, duplicate_key, out_of_memory}
+use Rattle.jiter_scan.specs.declared.partial_mode.PartialMode.{PartialMode}
+use Rattle.jiter_steps.specs.Answer.{answer_in}
+use Rattle.jiter_steps.specs.Read.{Reading, done, fault}
+use Rattle.jiter_steps.specs.Tree.{Text, Tree, null, boolean, int, big, float, string, array, object}
+use Rattle.jiter_steps.specs.Tree.{Items, no_items, item, Members, no_members, member}
+use Rattle.jiter_steps.specs.Unique.{unique_answer_in}
+use Rattle.jiter_value.specs.Access.{item_of}
+use Rattle.jiter_value.specs.Owned.{owned_tree}
+use Rattle.jiter_value.specs.Pointer.{pointed_by}
+use Rattle.jiter_c.specs.Faults.{fault_of, memory_number}
+use Rattle.jiter_c.specs.Holding.{HoldsDocument}
+use Rattle.jiter_c.specs.Printing.{IsTold, told_if}
+use Rattle.jiter_c.specs.declared.faults.JiterFault.{JiterFault}
+use Rattle.jiter_c.specs.declared.handles.Held.{Held}
+use Rattle.jiter_c.specs.declared.values.JiterValue.{JiterValue}
+
+-- the fault of a place that leads to nothing, or to another type
+abbrev pub absent_number : ℕ
+absent_number = 102
+
+abbrev pub absent : JiterFault
+absent = record { kind = absent_number; expected = 0; actual = 0; index = 0 }
+
+-- the reading of a document, with or without repeated keys
+abbrev pub document_reading : Bool → Bool → PartialMode → List ℕ → Reading Tree
+document_reading unique names mode t = if unique then unique_answer_in names mode t else answer_in names mode t
+
+-- what is held after such a kind: a repeated key, as a string, or nothing
+abbrev pub HoldsKey : Kind → Held → Type 0
+HoldsKey (Kind.duplicate_key key) held =
+    HoldsDocument held (λ w. w ≡ string (record { owned = true; bytes = key }))
+HoldsKey k held = held ≡ Held.Nothing
+
+-- A refusal for this kind at this index.
+abbrev pub Refuses : Kind → ℕ → Held → Option JiterFault → Type 0
+Refuses k i held None = ⊥
+Refuses k i held (Some f) = (f ≡ fault_of (json_error k) i) × HoldsKey k held
+
+-- What a reading puts behind a handle: the value, owned, or nothing, or the repeated key; and why it failed.
+abbrev pub Reads : Reading Tree → Held → Option JiterFault → Type 0
+Reads (done v e) held None = HoldsDocument held (λ w. w ≡ owned_tree v)
+Reads (done v e) held (Some f) = (f.kind ≡ memory_number) × (held ≡ Held.Nothing)
+Reads (fault k i stop) held None = ⊥
+Reads (fault k i stop) held (Some f) =
+    f.kind ≢ memory_number → (f ≡ fault_of (json_error k) i) × HoldsKey k held
+
+-- The same, as a call tells it.
+abbrev pub TellsDocument : Reading Tree → Held → Bool → JiterFault → JiterFault → Type 0
+TellsDocument reading held given before later =
+    Reads reading held (told_if (not given) later) × (given ≡ true → later ≡ before)
+
+-- the member with this index
+abbrev pub member_at : ℕ → Members → Option (Text × Tree)
+member_at i no_members = None
+member_at zero (member k v ms) = Some (k, v)
+member_at (suc i) (member k v ms) = member_at i ms
+
+-- the item, or the value of the member, with this index
+abbrev pub part_at : ℕ → Tree → Option Tree
+part_at i (array is) = item_of i is
+part_at i (object ms) = option_map (λ m. m.1) (member_at i ms)
+part_at i v = None
+
+-- from a value on, one part for each step
+abbrev pub stepped : List ℕ → Tree → Option Tree
+stepped [] v = Some v
+stepped (step ∷ steps) v = option_and_then (stepped steps) (part_at step v)
+
+-- what a JSON Pointer and the steps after it lead to
+abbrev pub placed : List ℕ → List ℕ → Tree → Option Tree
+placed pointer steps v = option_and_then (stepped steps) (pointed_by pointer v)
+
+-- how many items and members there are
+abbrev pub count_items : Items → ℕ
+count_items no_items = zero
+count_items (item v is) = suc (count_items is)
+
+abbrev pub count_members : Members → ℕ
+count_members no_members = zero
+count_members (member k v ms) = suc (count_members ms)
+
+-- a value of this type and length
+abbrev pub described : ℕ → ℕ → JiterValue
+described kind n = record { kind = kind; truth = false; integer = pos 0; length = n }
+
+-- what is told of a value
+abbrev pub value_told : Tree → JiterValue
+value_told null = described 1 0
+value_told (boolean b) = record { kind = 2; truth = b; integer = pos 0; length = 0 }
+value_told (int z) = record { kind = 3; truth = false; integer = z; length = 0 }
+value_told (big s) = described 9 (length s.bytes)
+value_told (float s) = described 4 (length s.bytes)
+value_told (string s) = described 5 (length s.bytes)
+value_told (array is) = described 6 (count_items is)
+value_told (object ms) = described 7 (count_members ms)
+
+-- the text of a string, or of a number that is kept by it
+abbrev pub text_in : Tree → Option (List ℕ)
+text_in (big s) = Some s.bytes
+text_in (float s) = Some s.bytes
+text_in (string s) = Some s.bytes
+text_in v = None
+
+-- the key of the member with this index
+abbrev pub key_of : ℕ → Tree → Option (List ℕ)
+key_of i (object ms) = option_map (λ m. m.0.bytes) (member_at i ms)
+key_of i v = None
+
+-- A copy of a text, if there is one and memory for it.
+abbrev pub Copies : Option (List ℕ) → Result (Vec ℕ Global) JiterFault → Type 0
+Copies (Some bytes) (Ok text) = text.items ≡ bytes
+Copies (Some bytes) (Err f) = f.kind ≡ memory_number
+Copies None (Ok text) = ⊥
+Copies None (Err f) = f ≡ absent
+
+-- The same, as a call tells it.
+abbrev pub TellsCopy : Option (List ℕ) → Bool → List ℕ → List ℕ → ℕ → ℕ → JiterFault → JiterFault → Type 0
+TellsCopy wanted given out written whole count before later =
+    (text : Result (Vec ℕ Global) JiterFault) × Copies wanted text
+    × IsTold text given out written whole count before later

@@ -1,0 +1,86 @@
+//! Lines and columns of a document in chunks, for C.
+ghost use Rattle.std.specs.Prelude.{◌≡◌, [], List, Some, true, ℕ};
+ghost use Rattle.jiter_incremental.specs.LineIndex.{HasPassed};
+ghost use Rattle.jiter_scan.specs.Position.{position_of};
+ghost use Rattle.jiter_c.specs.Faults.{position_view};
+ghost use Rattle.jiter_c.specs.Holding.{HoldsLines, IfLines};
+ghost use Rattle.jiter_c.specs.Lines.{Passes};
+
+use crate::faults::JiterPosition;
+use crate::handles::{Held, JiterHandle, close, filled, open};
+use core::mem::replace_with;
+use jiter::LinePosition;
+use jiter_incremental::LineIndex;
+use std::alloc::Global;
+
+/// Gives the handle a new line index, of no bytes. What it held before is freed.
+#[unsafe(no_mangle)]
+pub extern "C" fn jiter_lines_begin(alloc: Global, handle: &mut JiterHandle)
+    ensures { HoldsLines handle.new.value (λ l. HasPassed l []) }
+{
+    let lines = Held::Lines(LineIndex::new(alloc));
+    replace_with(handle, lines, |handle, lines| (filled(handle, lines), ()))
+}
+
+fn passed(handle: JiterHandle, piece: &[u8]) -> (JiterHandle, bool)
+    ensures { Passes handle.value result.0.value piece.now result.1 }
+{
+    let mut held = open(handle);
+    let done = match &mut *held {
+        Held::Lines(lines) => lines.push(piece).is_ok(),
+        _ => false,
+    };
+    (close(held), done)
+}
+
+/// Takes a chunk: the bytes that follow those so far.
+///
+/// # Errors
+///
+/// Returns `false` and takes no byte:
+///
+/// - if an allocation fails, only for a chunk with a line feed
+/// - if the number of bytes would exceed the largest `size_t`, or the handle holds no line index
+#[unsafe(no_mangle)]
+pub extern "C" fn jiter_lines_push(handle: &mut JiterHandle, piece: &[u8]) -> bool
+    ensures { Passes handle.old.value handle.new.value piece.now result }
+{
+    replace_with(handle, piece, |handle, piece| passed(handle, piece))
+}
+
+fn found(handle: JiterHandle, index: usize) -> (JiterHandle, Option<JiterPosition>)
+    ensures same { result.0.value ≡ handle.value }
+    ensures position { IfLines handle.value (λ l. (t : List ℕ) → HasPassed l t
+        → result.1 ≡ Some (position_view (position_of t index))) }
+{
+    let held = open(handle);
+    let position = match &*held {
+        Held::Lines(lines) => {
+            let LinePosition { line, column } = lines.position(index);
+            Some(JiterPosition { line, column })
+        }
+        _ => None,
+    };
+    (close(held), position)
+}
+
+/// Writes the line and column of a byte index in all bytes so far to `position`, as [`crate::faults::jiter_position`]
+/// does. Returns `false` and writes nothing if the handle holds no line index.
+#[unsafe(no_mangle)]
+pub extern "C" fn jiter_lines_position(
+    handle: &mut JiterHandle,
+    index: usize,
+    position: &mut JiterPosition,
+) -> bool
+    ensures same { handle.new.value ≡ handle.old.value }
+    ensures position { IfLines handle.old.value (λ l. (t : List ℕ) → HasPassed l t
+        → (result ≡ true) × (position.new ≡ position_view (position_of t index))) }
+{
+    match replace_with(handle, index, |handle, index| found(handle, index)) {
+        Some(place) => {
+            *position = place;
+            true
+        }
+        None => false,
+    }
+}

@@ -1,0 +1,179 @@
+/* A caller of the handles in C: it reads a document from standard input, makes the calls that its words name, and writes
+ * what they answer. It ends with status 3 if memory ran out, and has then freed all. checks/ffi runs it.
+ *
+ *   chunks SIZE MODE      the value after each chunk, then the document
+ *   lines SIZE INDEX      the line and column of an index
+ *   document MODE POINTER what the pointer leads to; with the word unique after it, repeated keys are an error
+ *   texts                 the members of an object of strings: where each key and each string lies
+ *   number                the number, whichever it is, as a double, as an unsigned integer, and its cause and column */
+#include "jiter_c.h"
+
+#include <inttypes.h>
+#include <stdio.h>
+#include <stdlib.h>
+#include <string.h>
+
+static char bytes[1 << 16], out[1 << 16];
+static size_t length;
+static JiterFault fault;
+
+static bool failed(void) {
+  char cause[200];
+  size_t count = 0;
+  if (fault.kind != JITER_OUT_OF_MEMORY && !jiter_cause(&fault, cause, sizeof cause, &count))
+    fault.kind = JITER_OUT_OF_MEMORY;
+  if (fault.kind == JITER_OUT_OF_MEMORY)
+    return false;
+  printf("fault %" PRIu32 " at %zu: %.*s\n", fault.kind, fault.index, (int)count, cause);
+  return true;
+}
+
+static uint32_t mode_of(const char *word) {
+  return !strcmp(word, "off") ? JITER_OFF : !strcmp(word, "on") ? JITER_ON : !strcmp(word, "bad") ? 7 : JITER_TRAILING_STRINGS;
+}
+
+/* A place of a document: its type, its parts, and its text. */
+static bool show(JiterDocument *document, const char *pointer, const size_t *steps, size_t depth) {
+  JiterValue value = {0, false, 0, 0};
+  size_t whole = 0;
+  if (!jiter_document_at(document, pointer, strlen(pointer), steps, depth, &value))
+    return printf("nothing\n") > 0;
+  printf("type %" PRIu32 " %d %" PRId64 " %zu: ", value.kind, value.truth, value.integer, value.length);
+  if (!jiter_document_print(document, pointer, strlen(pointer), steps, depth, out, sizeof out, &whole, &fault))
+    return failed();
+  printf("%.*s", (int)whole, out);
+  for (size_t i = 0; value.kind == JITER_OBJECT && i < value.length; i++) {
+    if (!jiter_document_key(document, pointer, strlen(pointer), steps, depth, i, out, sizeof out, &whole, &fault))
+      return failed();
+    printf(" key %.*s", (int)whole, out);
+  }
+  if (value.kind == JITER_STRING || value.kind == JITER_FLOAT || value.kind == JITER_BIG_INT) {
+    if (!jiter_document_text(document, pointer, strlen(pointer), steps, depth, out, sizeof out, &whole, &fault))
+      return failed();
+    printf(" text %.*s", (int)whole, out);
+  }
+  return printf("\n") > 0;
+}
+
+static bool document(uint32_t mode, const char *pointer, bool unique) {
+  JiterDocument held = {0};
+  size_t whole = 0, first = 0;
+  bool ok = true;
+  if (jiter_document_parse(&held, bytes, length, false, mode, unique, &fault))
+    ok = show(&held, pointer, &first, 0) && show(&held, pointer, &first, 1);
+  else if (fault.kind == JITER_DUPLICATE_KEY &&
+           jiter_document_text(&held, NULL, 0, NULL, 0, out, sizeof out, &whole, &fault))
+    printf("repeated %.*s at %zu\n", (int)whole, out, fault.index);
+  else
+    ok = fault.kind == JITER_MISUSE ? printf("misuse\n") > 0 : failed();
+  jiter_document_free(&held);
+  return ok;
+}
+
+/* Pushes a chunk: once more what was not taken, if memory ran out, as a caller may. */
+static bool push(JiterParser *parser, const char *chunk, size_t count) {
+  size_t before = jiter_parser_position(parser);
+  if (jiter_parser_push(parser, chunk, count))
+    return true;
+  size_t taken = jiter_parser_position(parser) - before;
+  return jiter_parser_push(parser, chunk + taken, count - taken);
+}
+
+static bool chunks(size_t size, uint32_t mode) {
+  JiterParser parser = {0};
+  JiterDocument held = {0};
+  size_t whole = 0;
+  bool ok = jiter_parser_new(&parser, false, mode);
+  for (size_t at = 0; ok && at < length; at += size) {
+    ok = push(&parser, bytes + at, length - at < size ? length - at : size);
+    if (ok && jiter_parser_value(&parser, out, sizeof out, &whole, &fault))
+      printf("%.*s\n", (int)whole, out);
+    else
+      ok = ok && failed();
+  }
+  if (ok && jiter_parser_error(&parser, &fault))
+    ok = failed();
+  if (ok && jiter_parser_to_document(&parser, &held, &fault))
+    ok = show(&held, "", NULL, 0);
+  jiter_document_free(&held);
+  jiter_parser_free(&parser);
+  return ok;
+}
+
+static bool lines(size_t size, size_t index) {
+  JiterLines held = {0};
+  JiterPosition at = {0, 0};
+  bool ok = jiter_lines_new(&held);
+  for (size_t i = 0; ok && i < length; i += size)
+    ok = jiter_lines_push(&held, bytes + i, length - i < size ? length - i : size);
+  if (ok && jiter_lines_position(&held, index, &at))
+    printf("line %zu column %zu\n", at.line, at.column);
+  jiter_lines_free(&held);
+  return ok;
+}
+
+static bool number(void) {
+  JiterReader reader = jiter_reader(bytes, length), again = reader;
+  JiterNumber any = {0, 0, JITER_NO_TEXT};
+  double value = 0;
+  bool finite = false, fits = false;
+  uint64_t whole = 0;
+  if (!jiter_next_any_number(&reader, &any, &fault)) {
+    if (!failed())
+      return false;
+    printf("column %zu\n", jiter_character_column(bytes, length, fault.index));
+    return true;
+  }
+  printf("type %" PRIu32 " %" PRId64 " '%.*s'", any.kind, any.integer, (int)any.text.length, any.text.bytes);
+  reader = again;
+  if (jiter_next_double(&reader, &value, &finite, &fault))
+    printf(" double %.17g %d", value, finite);
+  if (jiter_next_u64(&again, &fits, &whole, &fault))
+    printf(" unsigned %d %" PRIu64, fits, whole);
+  printf(" at %zu\n", reader.index);
+  return true;
+}
+
+/* Shows a text and where it lies; asks again with more room where it was too small. */
+static bool next_text(JiterReader *reader, bool *more, bool first, size_t *capacity, bool key) {
+  JiterText text = JITER_NO_TEXT;
+  while (!(!key ? jiter_next_text(reader, out, *capacity, &text, &fault)
+                : (first ? jiter_next_object_text : jiter_next_key_text)(reader, more, out, *capacity, &text, &fault))) {
+    if (fault.kind != JITER_ROOM_TOO_SMALL)
+      return failed() && false;
+    printf("(%zu is too small) ", (*capacity)++);
+  }
+  if (*more)
+    printf("%s%.*s%s", text.bytes == out ? "decoded " : "", (int)text.length, text.bytes, key ? ": " : ", ");
+  return true;
+}
+
+static bool texts(void) {
+  JiterReader reader = jiter_reader(bytes, length);
+  size_t capacity = 0;
+  bool more = false, first = true;
+  reader.allow_partial_strings = true;
+  while (next_text(&reader, &more, first, &capacity, true) && more && next_text(&reader, &more, false, &capacity, false))
+    first = false;
+  return fault.kind != JITER_OUT_OF_MEMORY && printf("at %zu\n", reader.index) > 0;
+}
+
+int main(int count, char **words) {
+  const char *word = count > 1 ? words[1] : "", *more = count > 2 ? words[2] : "0", *last = count > 3 ? words[3] : "";
+  setvbuf(stdout, NULL, _IONBF, 0); /* no memory of its own */
+  setvbuf(stdin, NULL, _IONBF, 0);
+  for (ssize_t got = 1; got > 0; length += (size_t)got)
+    got = (ssize_t)fread(bytes + length, 1, sizeof bytes - length, stdin);
+  bool ok = true;
+  if (!strcmp(word, "chunks"))
+    ok = chunks(strtoul(more, NULL, 10), mode_of(last));
+  else if (!strcmp(word, "lines"))
+    ok = lines(strtoul(more, NULL, 10), strtoul(last, NULL, 10));
+  else if (!strcmp(word, "document"))
+    ok = document(mode_of(more), last, count > 4);
+  else if (!strcmp(word, "texts"))
+    ok = texts();
+  else
+    ok = number();
+  return ok ? 0 : 3;
+}

@@ -1,0 +1,61 @@
+//! Why a call failed.
+use crate::raw;
+use std::fmt;
+
+/// Why a call failed: a kind of jiter_c.h, and the byte index.
+#[derive(Clone, Debug, PartialEq, Eq)]
+pub struct Error {
+    /// The kind, by the numbers of jiter_c.h.
+    pub kind: u32,
+    /// The byte index.
+    pub index: usize,
+    cause: String,
+}
+
+/// The result of a call.
+pub type Result<T> = std::result::Result<T, Error>;
+
+const OUT_OF_MEMORY: u32 = 22;
+pub(crate) const DUPLICATE_KEY: u32 = 23;
+
+pub(crate) fn told<T>(given: bool, value: T, fault: raw::Fault) -> Result<T> {
+    if given { Ok(value) } else { Err(Error::of(fault)) }
+}
+
+impl Error {
+    pub(crate) fn of(fault: raw::Fault) -> Error {
+        let (mut text, mut whole) = (vec![0; 200], 0);
+        let known = unsafe { raw::jiter_cause(&fault, text.as_mut_ptr(), text.len(), &mut whole) };
+        text.truncate(whole);
+        let cause = if known { String::from_utf8_lossy(&text).into_owned() } else { format!("error {}", fault.kind) };
+        Error { kind: fault.kind, index: fault.index, cause }
+    }
+
+    pub(crate) fn memory() -> Error {
+        Error { kind: OUT_OF_MEMORY, index: 0, cause: "out of memory".into() }
+    }
+
+    pub(crate) fn of_key(self, key: &str) -> Error {
+        Error { cause: format!("Detected duplicate key {key:?}"), ..self }
+    }
+
+    /// Returns whether memory ran out. Such an error says nothing about the bytes.
+    pub fn is_memory(&self) -> bool {
+        self.kind == OUT_OF_MEMORY
+    }
+
+    /// Returns the line and the column in bytes. Pass the bytes that were read.
+    pub fn line_and_column(&self, bytes: &[u8]) -> (usize, usize) {
+        let mut position = raw::Position::default();
+        unsafe { raw::jiter_position(bytes.as_ptr(), bytes.len(), self.index, &mut position) };
+        (position.line, position.column)
+    }
+}
+
+impl fmt::Display for Error {
+    fn fmt(&self, f: &mut fmt::Formatter<'_>) -> fmt::Result {
+        write!(f, "{} at index {}", self.cause, self.index)
+    }
+}
+
+impl std::error::Error for Error {}
