@@ -1,13 +1,15 @@
 //! A configuration, read from the members of a JSON object.
-ghost use Rattle.std.specs.Prelude.{◌≡◌, ◌≤◌, IfOk, ℕ, false};
+ghost use Rattle.std.specs.Prelude.{◌≡◌, ◌≤◌, IfOk, ℕ, Some, codes, false, string_bytes};
 ghost use Rattle.jiter.specs.Caller.{IsDocument, Node, position_of, value_of};
-ghost use Rattle.config.specs.Settings.{IsAnswer, IsHeldBy, place_of};
+ghost use Rattle.config.specs.Settings.{IsAnswer, IsHeldBy, is_memory_why, place_of, refusal_text, what_text, why, why_text};
 ghost use Rattle.config.specs.declared.config.Refusal.TheVariants as variant;
 
 use crate::settings::{Name, named, read_host, read_port};
 use jiter::{Jiter, JiterError, LinePosition};
-use std::alloc::Global;
+use std::alloc::{AllocError, Global};
 use std::fmt;
+
+const BYTE_ORDER_MARK: [u8; 3] = [0xef, 0xbb, 0xbf];
 
 /// The settings of a program.
 #[derive(Debug, Drop)]
@@ -41,9 +43,42 @@ impl Refusal {
             Self::Port(index) | Self::Missing(_, index) => LinePosition::find(bytes, *index),
         }
     }
+
+    /// Returns whether an allocation failed. Such an error says nothing about the bytes.
+    pub fn is_memory(&self) -> bool
+        ensures { result ≡ is_memory_why (why self.now) }
+    {
+        matches!(self, Self::Reading(error) if error.is_memory())
+    }
+}
+
+/// Returns `NAME:LINE:COLUMN: what is wrong` and a line feed. A byte order mark is named, as an editor doesn't show it.
+pub fn refusal_line(
+    alloc: Global,
+    name: &str,
+    bytes: &[u8],
+    refusal: &Refusal,
+) -> Result<String, AllocError>
+    ensures { IfOk result (λ text. string_bytes text
+        ≡ refusal_text name.now (position_of bytes.now (place_of refusal.now)).line
+        (position_of bytes.now (place_of refusal.now)).column (what_text bytes.now (why refusal.now))) }
+{
+    let LinePosition { line, column } = refusal.position(bytes);
+    if bytes.starts_with(&BYTE_ORDER_MARK) {
+        return mark_line(alloc, name, line, column);
+    }
+    format!(in alloc; "{name}:{line}:{column}: {refusal}\n")
+}
+
+fn mark_line(alloc: Global, name: &str, line: usize, column: usize) -> Result<String, AllocError>
+    ensures { IfOk result (λ text. string_bytes text ≡ refusal_text name.now line column (codes "byte order mark")) }
+{
+    format!(in alloc; "{name}:{line}:{column}: byte order mark\n")
 }
 
 impl fmt::Display for Refusal {
+    ghost output = { λ refusal. Some (why_text (why refusal)) };
+
     fn fmt<W: fmt::Write>(&self, f: &mut fmt::Formatter<W>) -> fmt::Result {
         match self {
             Self::Reading(error) => write!(f, "{}", error.error_type),

@@ -1,2 +1,4 @@
-pub mod Fields
 pub mod Lines
+pub mod Log
+pub mod Members
+pub mod Pointers

@@ -1,32 +1,31 @@
 -- What is written of a line.
-use Rattle.std.specs.Prelude.{◌≡◌, ℕ, List, ◌++◌, Option, Some, None, Result, Ok, Err, codes, IfOk}
-use Rattle.std.specs.Io.KnownBytes.{Appends}
-use Rattle.std.specs.declared.io.Error.{Error}
-use Rattle.jiter.specs.Caller.{Node}
+use Rattle.std.specs.Prelude.{ℕ, List, [], ◌∷◌, ◌++◌, Option, Some, None, Result, Ok, Err, Vec, codes, string_bytes}
+use Rattle.std.specs.declared.alloc.Global.{Global}
+use Rattle.jiter.specs.Caller.{Cause, Node, NodeMembers, begin, cause_of}
 use Rattle.jiter.specs.declared.errors.JiterError.{JiterError}
-use Rattle.filter.specs.Fields.{Picked, with_members, nothing_picked}
+use Rattle.filter.specs.Members.{last_source, no_object}
+use Rattle.filter.specs.declared.pointers.Member.{Member}
+
+-- what comes of a line: this text is written; or it is refused for a cause, at an index
+pub data Outcome : Type 0 where
+  written : List ℕ → Outcome
+  refused : Cause → ℕ → Outcome
 
 abbrev pub or_null : Option (List ℕ) → List ℕ
 or_null None = codes "null"
 or_null (Some source) = source
 
--- the line of what was picked
-abbrev pub line_of : Picked → List ℕ
-line_of p = codes "{\"id\":" ++ or_null p.id ++ codes ",\"text\":" ++ or_null p.text ++ codes "}\n"
+-- the object of these members, from where the first of them begins
+abbrev pub line_text : List Member → List ℕ → NodeMembers → List ℕ
+line_text [] t ms = codes "}\n"
+line_text (m ∷ more) t ms = m.key.items ++ (or_null (last_source (string_bytes m.name) t None ms) ++ line_text more t ms)
 
--- a line with these members is written, and not refused
-abbrev pub WritesLine : Option (List ℕ) → Option (List ℕ) → Picked → Result (Unit {0}) JiterError → Type 0
-WritesLine old new p (Ok u) = Appends old new (line_of p)
-WritesLine old new p (Err e) = ⊥
+-- What comes of a document: of an object its members' line. So a line with an object is refused only if it is no document.
+abbrev pub outcome_of : List Member → List ℕ → Node → Outcome
+outcome_of members t (Node.object b e ms) = written (line_text members t ms)
+outcome_of members t n = refused (no_object t n) (begin n)
 
--- a line is refused, and nothing is written
-abbrev pub RefusesLine : Option (List ℕ) → Option (List ℕ) → Result (Unit {0}) JiterError → Type 0
-RefusesLine old new (Ok u) = ⊥
-RefusesLine old new (Err e) = new ≡ old
-
--- What is written of a document, unless a write failed: of an object its members' line. Another value is refused. So a
--- line with an object is refused only if it is no document.
-abbrev pub Writes : Option (List ℕ) → Option (List ℕ) → List ℕ → Node
-    → Result (Result (Unit {0}) JiterError) Error → Type 0
-Writes old new t (Node.object b e ms) result = IfOk result (WritesLine old new (with_members t nothing_picked ms))
-Writes old new t n result = IfOk result (RefusesLine old new)
+-- what the code answers with
+abbrev pub outcome_view : Result (Vec ℕ Global) JiterError → Outcome
+outcome_view (Ok text) = written text.items
+outcome_view (Err e) = refused (cause_of e.error_type) e.index

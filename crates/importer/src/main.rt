@@ -3,6 +3,7 @@
 
 mod import;
 
+use clap::error::ErrorKind as ArgsError;
 use clap::{Arg, ArgAction, ArgMatches, Command};
 use import::{Counts, Settings, import};
 use std::alloc::{AllocError, Global};
@@ -99,6 +100,9 @@ fn run(rt: &HostRuntime) -> io::Result<u8> {
     let command = command(rt.alloc())?;
     match command.try_get_matches_from(words.as_slice()) {
         Ok(matches) => import_all(rt, &matches),
+        Err(error) if error.kind() == ArgsError::OutOfMemory => {
+            Err(io::Error::from(ErrorKind::OutOfMemory))
+        }
         Err(error) => {
             error.print(rt)?;
             Ok(error.exit_code() as u8)
