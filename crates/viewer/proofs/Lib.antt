@@ -1,4 +1,6 @@
+mod Drawing
+mod Following
 mod Lines
-mod Told
-mod IncrementalParser
+mod Split
 mod StringEnd
+mod Told

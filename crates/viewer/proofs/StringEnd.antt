@@ -1,18 +1,19 @@
 -- What is shown of a document that is cut, and how a run ends.
 use Rattle.std.proofs.Common.{◌≡◌, refl, subst, ℕ, Bool, true, false, List, Option, Some, None, IfSome}
 use Rattle.std.proofs.Common.{inl, inr}
-use Rattle.std.specs.Prelude.{Result, Ok, Err, IsErr, OnErr, OnOk}
-use Rattle.std.specs.Result.{result_and, result_unwrap_or}
+use Rattle.std.specs.Prelude.{codes, if◌then◌else◌, length, Result, Ok, Err, IsErr}
 use Rattle.std.specs.Io.KnownBytes.{Appends, Keeps}
-use Rattle.viewer.specs.Program.{WroteUsage, usage_line}
-use Rattle.std.proofs.KnownBytes.{Appends-nil, Keeps-refl}
+use Rattle.std.proofs.KnownBytes.{Keeps-refl}
 use Rattle.std.proofs.lemmas.Option.{IfSome_then}
 use Rattle.jiter_print.specs.Written.{AppendsPrefix}
 use Rattle.jiter.specs.Caller.{Reading, done, fault, Tree, answer, answer_in, is_active, IsBegunContainer}
 use Rattle.jiter_steps.proofs.Cut.CutLaw.{AnswersCut, answer_in-cut}
 use Rattle.jiter_steps.proofs.Grammar.Documents.{IsRead, answer-is}
-use Rattle.viewer.specs.Shown.{EndsAs, fault_line, Finishes, IsLineOfCut, Ran, ShowsAll, ShowsPrefix, Tells}
+use Rattle.viewer.specs.Parts.{inside_of, parts_of}
+use Rattle.viewer.specs.Shown.{document_error, EndsAs, error_of, Finishes, has_mark, IsErrorText, IsLineOfCut, Ran}
+use Rattle.viewer.specs.Shown.{ShowsAll, ShowsPrefix, Tells}
 use Rattle.viewer.specs.Shown.{value_line}
+use Rattle.viewer.specs.declared.view.Settings.{Settings}
 use Rattle.viewer.specs.declared.words.Words.{Words}
 
 -- the line of a prefix of an array or object
@@ -25,62 +26,77 @@ cut-shown words active prefix f =
       by (done v e) is = (v, is, refl)
       by (fault k i stop) is = absurd is
 
--- a text whose fault was told is no document
-pub ends-as : {E : Type 0} (names : Bool) (t : List ℕ) (end : Result Bool E) (err err' : Option (List ℕ)) → Finishes names t end err err'
-    → EndsAs names t end
-ends-as {E = E} names t end err err' h = by (answer names t) end (answer-is names t) h where
-  by : (x : Reading Tree) (end : Result Bool E) → IsRead names t x → Tells (fault_line x t) end err err' → EndsAs names t end
-  by (done v e) (Ok true) is told = (is.0, is.1)
-  by (done v e) (Ok false) is told = absurd told
-  by (done v e) (Err x) is told = tt
-  by (fault k i stop) (Ok true) is told = absurd told
-  by (fault k i stop) (Ok false) is told = is
-  by (fault k i stop) (Err x) is told = tt
+-- an input whose error was told is no document
+pub ends-as : {E : Type 0} (names : Bool) (name t : List ℕ) (end : Result Bool E) (err err' : Option (List ℕ))
+    → Tells name t (error_of names t) end err err' → EndsAs names t end
+ends-as {E = E} names name t end err err' h = by (has_mark t) refl h where
+  begin : ℕ
+  begin = length (parts_of t).before
 
-pub ended : {E : Type 0} (names : Bool) (from err err' : Option (List ℕ)) (end : Result Bool E)
-    → IfSome from (λ t. Finishes names t end err err') → IfSome from (λ t. EndsAs names t end)
-ended names from err err' end told = IfSome_then from told (λ t h. ends-as names t end err err' h)
+  in-document : (x : Reading Tree) (end : Result Bool E) → IsRead names (inside_of t) x
+      → Tells name t (document_error begin x) end err err' → EndsAs names t end
+  in-document (done v e) (Ok true) is told = (is.0, is.1)
+  in-document (done v e) (Ok false) is told = absurd told
+  in-document (done v e) (Err x) is told = tt
+  in-document (fault k i stop) (Ok true) is told = absurd told
+  in-document (fault k i stop) (Ok false) is told = inr is
+  in-document (fault k i stop) (Err x) is told = tt
 
--- the line of the fault was written, if there is one
-pub nothing-told : (E : Type 0) (o : Option (List ℕ)) → None ≡ o → (err err' : Option (List ℕ)) → Keeps err err'
-    → Tells {E = E} o (Ok true) err err'
-nothing-told E o same err err' kept = subst (λ l. Tells {E = E} l (Ok true) err err') same kept
+  marked : (end : Result Bool E) → has_mark t ≡ true
+      → Tells name t (Some (0, codes "byte order mark")) end err err' → EndsAs names t end
+  marked (Ok true) e told = absurd told
+  marked (Ok false) e told = inl e
+  marked (Err x) e told = tt
 
-pub all-told : (E : Type 0) (o : Option (List ℕ)) (line : List ℕ) → Some line ≡ o → (err err' : Option (List ℕ))
-    → Appends err err' line → Tells {E = E} o (Ok false) err err'
-all-told E o line same err err' whole = subst (λ l. Tells {E = E} l (Ok false) err err') same whole
+  by : (m : Bool) → has_mark t ≡ m
+      → Tells name t (if m then Some (0, codes "byte order mark") else document_error begin (answer names (inside_of t))) end err err'
+      → EndsAs names t end
+  by true e told = marked end e told
+  by false e told = in-document (answer names (inside_of t)) end (answer-is names (inside_of t)) told
 
--- nothing of it was written
-pub untold : {E : Type 0} (o : Option (List ℕ)) (end : Result Bool E) → IsErr end → (err : Option (List ℕ))
-    → Tells o end err err
-untold o (Ok whole) is err = absurd (cc)
-untold None (Err e) is err = Keeps-refl err
-untold (Some line) (Err e) is err = (0, Appends-nil err)
+pub ended : {E : Type 0} (settings : Settings) (from err err' : Option (List ℕ)) (end : Result Bool E)
+    → IfSome from (λ t. Finishes settings t end err err') → IfSome from (λ t. EndsAs settings.words.inf_nan t end)
+ended settings from err err' end told =
+    IfSome_then from told (λ t h. ends-as settings.words.inf_nan settings.name.now t end err err' h)
+
+-- there is no error
+pub nothing-told : (E : Type 0) (name t : List ℕ) (o : Option (ℕ × List ℕ)) → None ≡ o → (err err' : Option (List ℕ))
+    → Keeps err err' → Tells {E = E} name t o (Ok true) err err'
+nothing-told E name t o same err err' kept = subst (λ l. Tells {E = E} name t l (Ok true) err err') same kept
+
+-- its text was written
+pub all-told : (E : Type 0) (name t : List ℕ) (o : Option (ℕ × List ℕ)) (x : ℕ × List ℕ) → Some x ≡ o
+    → (err err' : Option (List ℕ)) (text : List ℕ) → IsErrorText name t x.0 x.1 text → Appends err err' text
+    → Tells {E = E} name t o (Ok false) err err'
+all-told E name t o x same err err' text is whole =
+    subst (λ l. Tells {E = E} name t l (Ok false) err err') same (text, is, whole)
+
+-- nothing of it was
+pub untold : {E : Type 0} (name t : List ℕ) (o : Option (ℕ × List ℕ)) (end : Result Bool E) → IsErr end
+    → (err : Option (List ℕ)) → Tells name t o end err err
+untold name t o (Ok whole) is err = absurd (cc)
+untold name t None (Err e) is err = Keeps-refl err
+untold name t (Some x) (Err e) is err = inl (Keeps-refl err)
 
 -- a prefix of it was
-pub half-told : {E : Type 0} (end : Result Bool E) → IsErr end → (o : Option (List ℕ)) (line : List ℕ)
-    → Some line ≡ o → (err err' : Option (List ℕ)) → AppendsPrefix err err' line → Tells o end err err'
-half-told (Ok whole) is o line same err err' prefix = absurd (cc)
-half-told (Err e) is o line same err err' prefix = subst (λ l. Tells l (Err e) err err') same prefix
+pub half-told : {E : Type 0} (end : Result Bool E) → IsErr end → (name t : List ℕ) (o : Option (ℕ × List ℕ))
+    (x : ℕ × List ℕ) → Some x ≡ o → (err err' : Option (List ℕ)) (text : List ℕ) → IsErrorText name t x.0 x.1 text
+    → AppendsPrefix err err' text → Tells name t o end err err'
+half-told (Ok whole) is name t o x same err err' text told prefix = absurd (cc)
+half-told (Err e) is name t o x same err err' text told prefix =
+    subst (λ l. Tells name t l (Err e) err err') same (inr (text, told, prefix))
 
 -- all was shown, and then the fault
-pub ran : {E : Type 0} (words : Words) (from out out' err err' : Option (List ℕ)) (end : Result Bool E)
-    → IfSome from (λ t. ShowsAll words t out out') → IfSome from (λ t. Finishes words.inf_nan t end err err')
-    → IfSome from (λ t. Ran words t end out out' err err')
-ran words None out out' err err' end shown told = tt
-ran words (Some t) out out' err err' (Ok whole) shown told = (shown, told)
-ran words (Some t) out out' err err' (Err e) shown told = inl (shown, told)
+pub ran : {E : Type 0} (settings : Settings) (from out out' err err' : Option (List ℕ)) (end : Result Bool E)
+    → IfSome from (λ t. ShowsAll settings.words t out out') → IfSome from (λ t. Finishes settings t end err err')
+    → IfSome from (λ t. Ran settings t end out out' err err')
+ran settings None out out' err err' end shown told = tt
+ran settings (Some t) out out' err err' (Ok whole) shown told = (shown, told)
+ran settings (Some t) out out' err err' (Err e) shown told = inl (shown, told)
 
 -- not all was read, or shown
-pub broke-off : {E : Type 0} (words : Words) (from out out' err : Option (List ℕ))
-    (end : Result Bool E) → IsErr end → IfSome from (λ t. ShowsPrefix words t out out')
-    → IfSome from (λ t. Ran words t end out out' err err)
-broke-off words from out out' err (Ok whole) is prefix = absurd (cc)
-broke-off words from out out' err (Err e) is prefix = IfSome_then from prefix (λ t h. inr (h, Keeps-refl err))
-
--- the usage line was written, or a prefix of it
-pub usage-told : {E : Type 0} (r : Result (Unit {0}) E) (status : ℕ) (err err' : Option (List ℕ))
-    → status ≡ result_unwrap_or (result_and r (Ok 2)) 3 → OnOk r (Appends err err' usage_line)
-    → OnErr r (AppendsPrefix err err' usage_line) → WroteUsage status err err'
-usage-told (Ok x) status err err' is whole prefix = inl (is, whole)
-usage-told (Err e) status err err' is whole prefix = inr (is, prefix)
+pub broke-off : {E : Type 0} (settings : Settings) (from out out' err : Option (List ℕ))
+    (end : Result Bool E) → IsErr end → IfSome from (λ t. ShowsPrefix settings.words t out out')
+    → IfSome from (λ t. Ran settings t end out out' err err)
+broke-off settings from out out' err (Ok whole) is prefix = absurd (cc)
+broke-off settings from out out' err (Err e) is prefix = IfSome_then from prefix (λ t h. inr (h, Keeps-refl err))

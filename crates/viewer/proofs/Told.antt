@@ -1,16 +1,16 @@
 -- What a reading that has received bytes tells is what a parse of these bytes answers.
-use Rattle.std.proofs.Common.{◌≡◌, ◌∙◌, ap, ap₂, refl, sym, ℕ, Bool, List, [], ◌∷◌, ◌++◌, None, Some, inl, inr}
+use Rattle.std.proofs.Common.{◌≡◌, ◌∙◌, ap, ap₂, refl, sym, ℕ, ◌+◌, ◌≤◌, length, Bool, List, [], ◌∷◌, ◌++◌, None, Some, inl, inr}
 use Rattle.std.specs.Prelude.{Ok, Err}
 use Rattle.std.specs.List.{join_with_byte}
-use Rattle.jiter.specs.Caller.{answer, answer_in, description_text, done, fault, JsonError, JsonValue}
-use Rattle.jiter.specs.Caller.{kind_of, owned_tree, Parses, PartialMode, Reading, reading_as, Tree, view}
+use Rattle.jiter.specs.Caller.{answer, answer_in, done, fault, JsonError, JsonValue}
+use Rattle.jiter.specs.Caller.{kind_of, kind_text, owned_tree, Parses, PartialMode, Reading, reading_as, Tree, view}
 use Rattle.jiter_incremental.specs.Caller.{HasReceived, Received}
 use Rattle.jiter_print.specs.Print.{item_prints, member_prints, print_of, print_text, with_line_feed}
 use Rattle.jiter_steps.specs.Tree.{null, boolean, int, big, float, string, array, object, Items, no_items, item}
 use Rattle.jiter_steps.specs.Tree.{Members, no_members, member}
 use Rattle.jiter_value.specs.Owned.{owned_items, owned_members}
 use Rattle.viewer.specs.Arrived.{ReadsAs}
-use Rattle.viewer.specs.Shown.{fault_line, value_line}
+use Rattle.viewer.specs.Shown.{document_error, value_line}
 use Rattle.viewer.specs.declared.words.Words.{Words}
 
 -- The compact text of a value is the same wherever its texts lie.
@@ -53,36 +53,40 @@ pub line-told : (words : Words) (d : Received) (t : List ℕ) → ReadsAs words 
 line-told words d t h v told line is =
     rw (← h.names) (rw (← h.mode) (value-told _ _ t v (told t h.received) ∙ ap Some (sym is)))
 
--- a value that is answered with partial reading off has no fault
-faultless : (names : Bool) (t : List ℕ) (v : JsonValue) → Parses owned_tree ⊥ names PartialMode.Off t (Ok v)
-    → None ≡ fault_line (answer names t) t
-faultless names t v h = by (answer names t) h.answer.1 where
-  by : (x : Reading Tree) → reading_as owned_tree x ≡ done (view v) h.answer.0 → None ≡ fault_line x t
+-- a value that is answered with partial reading off has no error
+no-error : (begin : ℕ) (names : Bool) (t : List ℕ) (v : JsonValue) → Parses owned_tree ⊥ names PartialMode.Off t (Ok v)
+    → None ≡ document_error begin (answer names t)
+no-error begin names t v h = by (answer names t) h.answer.1 where
+  by : (x : Reading Tree) → reading_as owned_tree x ≡ done (view v) h.answer.0 → None ≡ document_error begin x
   by (done w e) same = refl
   by (fault k i stop) same = absurd (cc)
 
--- Where the reading tells a value at the end, there is no fault.
+-- Where the reading tells a value at the end, there is no error.
 pub none-told : (words : Words) (d : Received) (t : List ℕ) → ReadsAs words d t → (v : JsonValue)
     → ((u : List ℕ) → HasReceived d u → Parses owned_tree ⊥ d.settings.allow_inf_nan PartialMode.Off u (Ok v))
-    → None ≡ fault_line (answer words.inf_nan t) t
-none-told words d t h v told = rw (← h.names) (faultless _ t v (told t h.received))
+    → (begin : ℕ) → None ≡ document_error begin (answer words.inf_nan t)
+none-told words d t h v told begin = rw (← h.names) (no-error begin _ t v (told t h.received))
 
 -- what is answered with partial reading off, if it is an error: the first fault, since it is never want of memory
-fault-is : (names : Bool) (t : List ℕ) (e : JsonError) → Parses owned_tree ⊥ names PartialMode.Off t (Err e)
-    → fault_line (answer names t) t ≡ Some (with_line_feed (description_text (kind_of e.error_type) e.index t))
-fault-is names t e h = elim h.answer [
+error-is : (begin : ℕ) (names : Bool) (t : List ℕ) (e : JsonError) → Parses owned_tree ⊥ names PartialMode.Off t (Err e)
+    → document_error begin (answer names t) ≡ Some (begin + e.index, kind_text (kind_of e.error_type))
+error-is begin names t e h = elim h.answer [
   | inl memory ↦ absurd (h.memory memory)
   | inr told ↦ by (answer names t) told.0 told.1
 ] where
   by : (x : Reading Tree) (stop : ℕ) → reading_as owned_tree x ≡ fault (kind_of e.error_type) e.index stop
-      → fault_line x t ≡ Some (with_line_feed (description_text (kind_of e.error_type) e.index t))
+      → document_error begin x ≡ Some (begin + e.index, kind_text (kind_of e.error_type))
   by (done w end) stop same = absurd (cc)
-  by (fault k i at) stop same = ap (λ x. fault_line x t) same
+  by (fault k i at) stop same = ap (document_error begin) same
 
--- The line of the fault that the reading tells.
-pub fault-told : (words : Words) (d : Received) (t : List ℕ) → ReadsAs words d t → (e : JsonError)
+-- The error that the reading tells.
+pub error-told : (words : Words) (d : Received) (t : List ℕ) → ReadsAs words d t → (e : JsonError)
     → ((u : List ℕ) → HasReceived d u → Parses owned_tree ⊥ d.settings.allow_inf_nan PartialMode.Off u (Err e))
-    → (line : List ℕ) → line ≡ with_line_feed (description_text (kind_of e.error_type) e.index t)
-    → Some line ≡ fault_line (answer words.inf_nan t) t
-fault-told words d t h e told line is =
-    rw (← h.names) (ap Some is ∙ sym (fault-is _ t e (told t h.received)))
+    → (begin : ℕ) → Some (begin + e.index, kind_text (kind_of e.error_type)) ≡ document_error begin (answer words.inf_nan t)
+error-told words d t h e told begin = rw (← h.names) (sym (error-is begin _ t e (told t h.received)))
+
+-- it stands within the document's bytes
+pub error-within : (words : Words) (d : Received) (t : List ℕ) → ReadsAs words d t → (e : JsonError)
+    → ((u : List ℕ) → HasReceived d u → Parses owned_tree ⊥ d.settings.allow_inf_nan PartialMode.Off u (Err e))
+    → e.index ≤ length t
+error-within words d t h e told = (told t h.received).index

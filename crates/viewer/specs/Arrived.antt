@@ -1,6 +1,8 @@
--- What is held of a text that has arrived in part.
-use Rattle.std.specs.Prelude.{◌≡◌, ℕ, List}
-use Rattle.jiter_incremental.specs.Caller.{HasPassed, HasReceived, Passed, Received}
+-- What is held of an input that has arrived in part.
+use Rattle.std.specs.Prelude.{◌≡◌, List, ℕ}
+use Rattle.jiter_incremental.specs.Caller.{HasReceived, Received}
+use Rattle.viewer.specs.Parts.{inside_of, parts, parts_of}
+use Rattle.viewer.specs.declared.input.Input.{Input}
 use Rattle.viewer.specs.declared.words.Words.{Words}
 
 -- The bytes t are read as the words ask: their value so far is held.
@@ -9,7 +11,7 @@ pub record ReadsAs (words : Words) (document : Received) (t : List ℕ) : Type 0
   pub names : document.settings.allow_inf_nan ≡ words.inf_nan
   pub mode : document.settings.mode ≡ words.mode
 
--- The bytes t have arrived: they are read as the words ask, and where their lines end is held.
-pub record HasArrived (words : Words) (document : Received) (lines : Passed) (t : List ℕ) : Type 0 where
-  pub read : ReadsAs words document t
-  pub passed : HasPassed lines t
+-- The bytes t have arrived: their parts are held, and the document is read as the words ask.
+pub record HasArrived (words : Words) (input : Input) (t : List ℕ) : Type 0 where
+  pub split : parts input ≡ parts_of t
+  pub read : ReadsAs words input.document (inside_of t)

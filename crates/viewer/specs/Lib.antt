@@ -1,4 +1,5 @@
-pub mod Words
 pub mod Arrived
+pub mod Parts
+pub mod Rows
 pub mod Shown
-pub mod Program
+pub mod Terminal

@@ -1,24 +1,22 @@
--- What is shown of a text that arrives in pieces.
-use Rattle.std.specs.Prelude.{◌≡◌, ◌⊎◌, ℕ, Bool, true, false, List, [], ◌∷◌, ◌++◌, bytes_eq, if◌then◌else◌}
-use Rattle.std.specs.Prelude.{Option, Some, None, Result, Ok, Err}
-use Rattle.std.specs.List.{concat, dedup, flat_map}
+-- What is shown of an input that arrives in pieces.
+use Rattle.std.specs.Prelude.{◌≡◌, ◌⊎◌, ◌+◌, ℕ, Bool, true, false, List, [], ◌∷◌, ◌++◌, bytes_eq, if◌then◌else◌, codes, decimal}
+use Rattle.std.specs.Prelude.{length, nat_eq, string_bytes, Option, Some, None, Result, Ok, Err}
+use Rattle.std.specs.List.{concat, dedup, flat_map, starts_with}
 use Rattle.std.specs.Io.{StartsWith}
 use Rattle.std.specs.Io.KnownBytes.{Appends, Keeps}
-use Rattle.jiter.specs.Caller.{Reading, done, fault, Tree, answer, answer_in, cut, description_text}
+use Rattle.jiter.specs.Caller.{Reading, done, fault, Tree, answer, answer_in, cut, kind_text, position_of}
 use Rattle.jiter.specs.Caller.{IsBegunContainer, IsDocument, Node}
 use Rattle.jiter_print.specs.Print.{print_of, with_line_feed}
 use Rattle.jiter_print.specs.Written.{AppendsPrefix}
+use Rattle.viewer.specs.Parts.{inside_of, parts_of}
+use Rattle.viewer.specs.declared.view.Cause.{Cause}
+use Rattle.viewer.specs.declared.view.Settings.{Settings}
 use Rattle.viewer.specs.declared.words.Words.{Words}
 
 -- the line of what was read, if it is a value
 abbrev pub value_line : Reading Tree → Option (List ℕ)
 value_line (done v e) = Some (with_line_feed (print_of v))
 value_line (fault k i stop) = None
-
--- the line of the fault of this text, if it is one
-abbrev pub fault_line : Reading Tree → List ℕ → Option (List ℕ)
-fault_line (done v e) t = None
-fault_line (fault k i stop) t = Some (with_line_feed (description_text k i t))
 
 -- the line that is the last one, where another may have come
 abbrev pub last_line : List ℕ → Option (List ℕ) → List ℕ
@@ -39,9 +37,12 @@ abbrev pub if_any : Option (List ℕ) → List (List ℕ)
 if_any None = []
 if_any (Some line) = line ∷ []
 
--- the line of what has arrived, if it has a value
+-- the line of the document in what has arrived, if it has a value
+abbrev pub line_at : Words → List ℕ → Option (List ℕ)
+line_at words t = value_line (answer_in words.inf_nan words.mode (inside_of t))
+
 abbrev pub lines_at : Words → List ℕ → List (List ℕ)
-lines_at words t = if_any (value_line (answer_in words.inf_nan words.mode t))
+lines_at words t = if_any (line_at words t)
 
 -- the line of each prefix
 abbrev pub lines_of : Words → List (List ℕ) → List (List ℕ)
@@ -51,43 +52,77 @@ lines_of words pieces = flat_map (lines_at words) (prefixes [] pieces)
 abbrev pub shown : Words → List (List ℕ) → List ℕ
 shown words pieces = concat (dedup bytes_eq (lines_of words pieces))
 
--- all that is shown of a text, as it came in some pieces
+-- all that is shown of an input, as it came in some pieces
 abbrev pub ShowsAll : Words → List ℕ → Option (List ℕ) → Option (List ℕ) → Type 0
 ShowsAll words t out out' = (pieces : List (List ℕ)) × (concat pieces ≡ t) × Appends out out' (shown words pieces)
 
--- a prefix of what is shown of a prefix of a text
+-- a prefix of what is shown of a prefix of an input
 abbrev pub ShowsPrefix : Words → List ℕ → Option (List ℕ) → Option (List ℕ) → Type 0
 ShowsPrefix words t out out' =
     (pieces : List (List ℕ)) × StartsWith t (concat pieces) × AppendsPrefix out out' (shown words pieces)
 
--- at the end of a run the line of a fault is written, if there is one: `Ok true` is a document, and `Ok false` none
-abbrev pub Tells : {E : Type 0} → Option (List ℕ) → Result Bool E → Option (List ℕ) → Option (List ℕ) → Type 0
-Tells None (Ok true) err err' = Keeps err err'
-Tells None (Ok false) err err' = ⊥
-Tells None (Err e) err err' = Keeps err err'
-Tells (Some line) (Ok true) err err' = ⊥
-Tells (Some line) (Ok false) err err' = Appends err err' line
-Tells (Some line) (Err e) err err' = AppendsPrefix err err' line
+-- a byte order mark
+abbrev pub has_mark : List ℕ → Bool
+has_mark t = starts_with nat_eq t (239 ∷ 187 ∷ 191 ∷ [])
 
-abbrev pub Finishes : {E : Type 0} → Bool → List ℕ → Result Bool E → Option (List ℕ) → Option (List ℕ) → Type 0
-Finishes names t end err err' = Tells (fault_line (answer names t) t) end err err'
+-- the index of an error in the document, and its cause
+abbrev pub document_error : ℕ → Reading Tree → Option (ℕ × List ℕ)
+document_error begin (done v e) = None
+document_error begin (fault k i stop) = Some (begin + i, kind_text k)
 
--- the whole text was shown, and then its fault
-abbrev pub ShowsWhole : {E : Type 0} → Words → List ℕ → Result Bool E → Option (List ℕ) → Option (List ℕ)
+-- the same for the input
+abbrev pub error_of : Bool → List ℕ → Option (ℕ × List ℕ)
+error_of names t =
+    if has_mark t then Some (0, codes "byte order mark")
+    else document_error (length (parts_of t).before) (answer names (inside_of t))
+
+abbrev pub cause_seen : Cause → ℕ × List ℕ
+cause_seen c = (c.index, string_bytes c.text)
+
+-- `NAME:LINE:COLUMN: CAUSE`
+abbrev pub error_line : List ℕ → List ℕ → ℕ → List ℕ → List ℕ
+error_line name t index cause =
+    name ++ (codes ":" ++ (decimal (position_of t index).line ++ (codes ":" ++ (decimal (position_of t index).column
+    ++ (codes ": " ++ (cause ++ codes "\n"))))))
+
+-- that line, and the input's line with a caret
+abbrev pub IsErrorText : List ℕ → List ℕ → ℕ → List ℕ → List ℕ → Type 0
+IsErrorText name t index cause text = (excerpt : List ℕ) × (text ≡ error_line name t index cause ++ excerpt)
+
+-- at the end of a run the text of an error is written, if there is one: `Ok true` is a document, and `Ok false` none
+abbrev pub Tells : {E : Type 0} → List ℕ → List ℕ → Option (ℕ × List ℕ) → Result Bool E → Option (List ℕ) → Option (List ℕ)
+    → Type 0
+Tells name t None (Ok true) err err' = Keeps err err'
+Tells name t None (Ok false) err err' = ⊥
+Tells name t None (Err e) err err' = Keeps err err'
+Tells name t (Some error) (Ok true) err err' = ⊥
+Tells name t (Some error) (Ok false) err err' =
+    (text : List ℕ) × IsErrorText name t error.0 error.1 text × Appends err err' text
+Tells name t (Some error) (Err e) err err' =
+    Keeps err err' ⊎ ((text : List ℕ) × IsErrorText name t error.0 error.1 text × AppendsPrefix err err' text)
+
+abbrev pub Finishes : {E : Type 0} → Settings → List ℕ → Result Bool E → Option (List ℕ) → Option (List ℕ) → Type 0
+Finishes settings t end err err' =
+    Tells settings.name.now t (error_of settings.words.inf_nan t) end err err'
+
+-- the whole input was shown, and then its error
+abbrev pub ShowsWhole : {E : Type 0} → Settings → List ℕ → Result Bool E → Option (List ℕ) → Option (List ℕ)
     → Option (List ℕ) → Option (List ℕ) → Type 0
-ShowsWhole words t end out out' err err' = ShowsAll words t out out' × Finishes words.inf_nan t end err err'
+ShowsWhole settings t end out out' err err' =
+    ShowsAll settings.words t out out' × Finishes settings t end err err'
 
 -- what a run over these bytes leaves in both writers
-abbrev pub Ran : {E : Type 0} → Words → List ℕ → Result Bool E → Option (List ℕ) → Option (List ℕ)
+abbrev pub Ran : {E : Type 0} → Settings → List ℕ → Result Bool E → Option (List ℕ) → Option (List ℕ)
     → Option (List ℕ) → Option (List ℕ) → Type 0
-Ran {E = E} words t (Ok whole) out out' err err' = ShowsWhole {E = E} words t (Ok whole) out out' err err'
-Ran words t (Err e) out out' err err' =
-    ShowsWhole words t (Err e) out out' err err' ⊎ (ShowsPrefix words t out out' × Keeps err err')
+Ran {E = E} settings t (Ok whole) out out' err err' = ShowsWhole {E = E} settings t (Ok whole) out out' err err'
+Ran settings t (Err e) out out' err err' =
+    ShowsWhole settings t (Err e) out out' err err'
+    ⊎ (ShowsPrefix settings.words t out out' × Keeps err err')
 
--- the end tells whether the text is a document
+-- the end tells whether the input has a document, and no byte order mark
 abbrev pub EndsAs : {E : Type 0} → Bool → List ℕ → Result Bool E → Type 0
-EndsAs names t (Ok true) = (n : Node) × IsDocument names t n
-EndsAs names t (Ok false) = (n : Node) → IsDocument names t n → ⊥
+EndsAs names t (Ok true) = (n : Node) × IsDocument names (inside_of t) n
+EndsAs names t (Ok false) = (has_mark t ≡ true) ⊎ ((n : Node) → IsDocument names (inside_of t) n → ⊥)
 EndsAs names t (Err e) = Unit {0}
 
 -- a line that is that of a document's cut
@@ -96,9 +131,3 @@ abbrev pub IsLineOfCut : (words : Words) {prefix : List ℕ} → IsBegunContaine
 IsLineOfCut words f line =
     (v : Tree) × (cut words.inf_nan f.text f.node f.place words.mode ≡ Some v)
     × (line ≡ Some (with_line_feed (print_of v)))
-
--- the program's exit status
-abbrev pub status_of : {E : Type 0} → Result Bool E → ℕ
-status_of (Ok true) = 0
-status_of (Ok false) = 1
-status_of (Err e) = 3

@@ -1,45 +1,42 @@
-use Rattle.std.proofs.Common.{◌≡◌, ◌∙◌, ◌∷◌, [], ◌++◌, List, ℕ, Some, ap, append_assoc, sym}
-use Rattle.std.specs.Prelude.{codes, string_bytes}
+use Rattle.std.proofs.Common.{◌∙◌, ap, subst, sym}
 use Rattle.std.proofs.KnownBytes.{Keeps-refl}
-use Rattle.jiter.specs.Caller.{answer, description_text, kind_of, kind_text, position_text}
-use Rattle.jiter_print.specs.Print.{with_line_feed}
-use Rattle.viewer.specs.Arrived.{HasArrived}
-use Rattle.viewer.specs.Shown.{fault_line}
-use Rattle.viewer.specs.declared.words.Words.{Words}
-use Rattle.viewer.proofs.StringEnd.{all-told, half-told, nothing-told, untold}
-use Rattle.viewer.proofs.Told.{fault-told, none-told}
-use Rattle.viewer.proofs.view.finish.Given.{Over}
+use Rattle.std.specs.Option.{option_map}
+use Rattle.std.specs.Prelude.{string_bytes}
+use Rattle.viewer.specs.Parts.{whole}
+use Rattle.viewer.specs.Shown.{cause_seen, IsErrorText}
+use Rattle.viewer.proofs.Split.{whole-is}
+use Rattle.viewer.proofs.StringEnd.{all-told, half-told, nothing-told}
 use Rattle.viewer.proofs.view.finish.Goals as goal
-use Rattle.viewer.proofs.view.finish.Goals.{In_ok-line}
-
--- the line is that of the fault
-told : (g : Over) (c : In_ok-line g) (words : Words) (t : List ℕ) → HasArrived words c.args.document c.args.lines.now t
-    → Some (string_bytes c.in_ok-line.line) ≡ fault_line (answer words.inf_nan t) t
-told g c words t h =
-    let error = c.in-Err.error in
-    let kind = kind_text (kind_of error.error_type) in
-    let text : string_bytes c.in_ok-line.line ≡ with_line_feed (description_text (kind_of error.error_type) error.index t) =
-    c.in_ok-line.ensures.ok ∙ sym (append_assoc kind (codes " at " ++ position_text c.position.result) (10 ∷ []))
-    ∙ ap (λ p. with_line_feed (kind ++ (codes " at " ++ position_text p))) (c.position.ensures t h.passed) in
-    fault-told words c.args.document t h.read error c.in-Err.ensures _ text
 
 pub returns-in_default : goal.returns-in_default
-returns-in_default g c = λ words t h.
-    let none = none-told words c.args.document t h.read c.in_default.field-0 c.in_default.ensures in
-    nothing-told _ _ none _ _ (Keeps-refl _)
-
-pub returns-in_err-line : goal.returns-in_err-line
-returns-in_err-line g c = λ words t h. untold _ c.from_residual.result c.from_residual.ensures.0 _
+returns-in_default g c = λ t h.
+    let is = c.as_slice.ensures.value ∙ c.in_ok-bytes.ensures ∙ ap whole h.split ∙ whole-is t in
+    let seen = c.in_ok-cause.ensures c.args.settings.words t h is in
+    nothing-told _ c.args.settings.name.now t _ (ap (option_map cause_seen) (sym c.in_default.is) ∙ seen) _ _ (Keeps-refl _)
 
 pub returns-in_err-write_line : goal.returns-in_err-write_line
-returns-in_err-write_line g c = λ words t h.
+returns-in_err-write_line g c = λ t h.
+    let name = c.args.settings.name.now in
+    let all = c.in_ok-bytes.ensures ∙ ap whole h.split ∙ whole-is t in
+    let seen = c.in_ok-cause.ensures c.args.settings.words t h (c.as_slice.ensures.value ∙ all) in
+    let x = cause_seen c.in-Some.cause in
+    let text = string_bytes c.in_ok-text.text in
+    let told : IsErrorText name t x.0 x.1 text =
+    subst (λ s. IsErrorText name t x.0 s text) c.as_str.ensures.value
+    (subst (λ b. IsErrorText name b x.0 c.as_str.result.now text) (c.as_slice-2.ensures.value ∙ all) c.in_ok-text.ensures) in
     let end = c.from_residual-in_err-write_line in
-    let line = told g (goal.at.returns-in_err-write_line g c).In_ok-line words t h in
     let prefix = rw c.as_bytes.ensures.value at c.in_err-write_line.ensures.prefix in
-    half-told end.result end.ensures.0 _ _ line _ _ prefix
+    half-told end.result end.ensures.0 name t _ x (ap (option_map cause_seen) (sym c.in-Some.is) ∙ seen) _ _ text told prefix
 
 pub returns : goal.returns
-returns g c = λ words t h.
-    let line = told g (goal.at.returns g c).In_ok-line words t h in
-    let whole = rw c.as_bytes.ensures.value at c.in_ok-write_line.ensures.whole in
-    all-told _ _ _ line _ _ whole
+returns g c = λ t h.
+    let name = c.args.settings.name.now in
+    let all = c.in_ok-bytes.ensures ∙ ap whole h.split ∙ whole-is t in
+    let seen = c.in_ok-cause.ensures c.args.settings.words t h (c.as_slice.ensures.value ∙ all) in
+    let x = cause_seen c.in-Some.cause in
+    let text = string_bytes c.in_ok-text.text in
+    let told : IsErrorText name t x.0 x.1 text =
+    subst (λ s. IsErrorText name t x.0 s text) c.as_str.ensures.value
+    (subst (λ b. IsErrorText name b x.0 c.as_str.result.now text) (c.as_slice-2.ensures.value ∙ all) c.in_ok-text.ensures) in
+    let written = rw c.as_bytes.ensures.value at c.in_ok-write_line.ensures.whole in
+    all-told _ name t _ x (ap (option_map cause_seen) (sym c.in-Some.is) ∙ seen) _ _ text told written

@@ -6,12 +6,12 @@ use Rattle.jiter_print.specs.Print.{print_of, with_line_feed}
 use Rattle.viewer.specs.Arrived.{ReadsAs}
 use Rattle.viewer.specs.Shown.{value_line}
 use Rattle.viewer.specs.declared.words.Words.{Words}
-use Rattle.viewer.proofs.IncrementalParser.{if-err}
+use Rattle.viewer.proofs.Following.{if-err}
 use Rattle.viewer.proofs.Lines.{line-shown, same-line}
 use Rattle.viewer.proofs.Told.{line-told}
-use Rattle.viewer.proofs.view.show.Given.{Over}
-use Rattle.viewer.proofs.view.show.Goals as goal
-use Rattle.viewer.proofs.view.show.Goals.{In_ok-push, then-ne+in_ok-write_line, else-ne}
+use Rattle.viewer.proofs.view.show_line.Given.{Over}
+use Rattle.viewer.proofs.view.show_line.Goals as goal
+use Rattle.viewer.proofs.view.show_line.Goals.{In_ok-push, then-ne+in_ok-write_line, else-ne}
 
 -- what has arrived has this line
 told : (g : Over) (c : In_ok-push g) (words : Words) (t : List ℕ) → ReadsAs words c.args.document.now t

@@ -1,0 +1,114 @@
+-- A small terminal: its rows, its cursor, and what the bytes that it is sent do to them.
+use Rattle.std.specs.Prelude.{◌≡◌, ℕ, ◌==◌, ◌||◌, ◌⊎◌, Bool, true, List, [], ◌∷◌, ◌++◌, drop, if◌then◌else◌, length}
+use Rattle.std.specs.Prelude.{nat_le, take}
+use Rattle.std.specs.List.{flat_map, fold}
+
+-- What the next byte is: a character or a control, what follows an escape, or a part of a control sequence.
+pub data Awaits : Type 0 where
+  anything : Awaits
+  escape : Awaits
+  sequence : Awaits
+
+-- The rows have no end in any direction: nothing scrolls away.
+pub record Screen : Type 0 where
+  pub awaits : Awaits
+  -- the rows above the cursor's row, the nearest one first
+  pub above : List (List ℕ)
+  -- the cursor's row: the bytes left of the cursor, and the others
+  pub left : List ℕ
+  pub right : List ℕ
+  pub below : List (List ℕ)
+
+-- the cursor in the same column of the row above, if there is one
+abbrev pub in_row_above : Screen → List (List ℕ) → Screen
+in_row_above s [] = record { awaits = anything; above = []; left = s.left; right = s.right; below = s.below }
+in_row_above s (row ∷ rows) = record {
+  awaits = anything;
+  above = rows;
+  left = take (length s.left) row;
+  right = drop (length s.left) row;
+  below = (s.left ++ s.right) ∷ s.below;
+}
+
+abbrev pub up : Screen → Screen
+up s = in_row_above s s.above
+
+-- the cursor in the first column
+abbrev pub home : Screen → Screen
+home s = record { awaits = anything; above = s.above; left = []; right = s.left ++ s.right; below = s.below }
+
+-- nothing from the cursor on
+abbrev pub clear : Screen → Screen
+clear s = record { awaits = anything; above = s.above; left = s.left; right = []; below = [] }
+
+-- the cursor in the first column of the row below
+abbrev pub in_row_below : Screen → List (List ℕ) → Screen
+in_row_below s [] = record { awaits = anything; above = (s.left ++ s.right) ∷ s.above; left = []; right = []; below = [] }
+in_row_below s (row ∷ rows) =
+    record { awaits = anything; above = (s.left ++ s.right) ∷ s.above; left = []; right = row; below = rows }
+
+abbrev pub down : Screen → Screen
+down s = in_row_below s s.below
+
+-- one more byte of text
+abbrev pub put : Screen → ℕ → Screen
+put s b = record { awaits = anything; above = s.above; left = s.left ++ b ∷ []; right = drop 1 s.right; below = s.below }
+
+abbrev pub await : Screen → Awaits → Screen
+await s a = record { awaits = a; above = s.above; left = s.left; right = s.right; below = s.below }
+
+-- a byte of text, a carriage return, a line feed or an escape
+abbrev pub sent : Screen → ℕ → Screen
+sent s b =
+    if b == 27 then await s escape else (if b == 13 then home s else (if b == 10 then down s else put s b))
+
+-- `ESC M` is up, and `ESC [` begins a control sequence
+abbrev pub sent_after_escape : Screen → ℕ → Screen
+sent_after_escape s b = if b == 77 then up s else (if b == 91 then await s sequence else await s anything)
+
+-- `ESC [ J` clears; a sequence that ends with `m` sets the look of what follows, and no rows
+abbrev pub sent_in_sequence : Screen → ℕ → Screen
+sent_in_sequence s b = if b == 74 then clear s else (if b == 109 then await s anything else s)
+
+abbrev pub step_by : Awaits → Screen → ℕ → Screen
+step_by anything s b = sent s b
+step_by escape s b = sent_after_escape s b
+step_by sequence s b = sent_in_sequence s b
+
+abbrev pub step : Screen → ℕ → Screen
+step s b = step_by s.awaits s b
+
+-- the screen after these bytes
+abbrev pub draws : Screen → List ℕ → Screen
+draws s bs = fold step s bs
+
+abbrev pub blank : Screen
+blank = record { awaits = anything; above = []; left = []; right = []; below = [] }
+
+-- the screen that ends with these rows, the cursor at their end
+abbrev pub screen_of : List ℕ → Screen
+screen_of t = draws blank t
+
+-- a line feed, or a byte that is no control
+abbrev pub is_plain : ℕ → Bool
+is_plain b = b == 10 || nat_le 32 b
+
+abbrev pub IsPlain : List ℕ → Type 0
+IsPlain [] = Unit {0}
+IsPlain (b ∷ bs) = (is_plain b ≡ true) × IsPlain bs
+
+-- up one row for each line feed of these bytes
+abbrev pub up_of : ℕ → List ℕ
+up_of b = if b == 10 then 27 ∷ 77 ∷ [] else []
+
+abbrev pub ups : List ℕ → List ℕ
+ups bs = flat_map up_of bs
+
+-- nothing, or some rows that end
+abbrev pub IsWholeRows : List ℕ → Type 0
+IsWholeRows t = (t ≡ []) ⊎ ((u : List ℕ) × (t ≡ u ++ 10 ∷ []))
+
+-- These bytes turn any screen that ends with the rows `old` into the same screen with the rows `new` in their place.
+abbrev pub Redraws : List ℕ → List ℕ → List ℕ → Type 0
+Redraws old new bytes =
+    (top : List ℕ) → IsPlain top → IsWholeRows top → draws (screen_of (top ++ old)) bytes ≡ screen_of (top ++ new)
