@@ -1,4 +1,5 @@
--- Worked rows on the definitions of three crates: of jiter_scan, jiter_steps and jiter_value.
+-- Worked rows on the definitions of four crates: jiter_scan, jiter_steps, jiter_value and jiter_incremental.
+mod Incremental
 mod Scan
 mod Steps
 mod Value
