@@ -80,8 +80,20 @@ class Item:
         return bool(re.match(r"(pub\S*\s+)?use\b", self.head))
 
     @property
+    def is_import(self):
+        return bool(re.match(r"ghost\s+use\b", self.head))
+
+    @property
     def is_ghost(self):
         return bool(re.match(r"ghost\s+(?!use\b)", self.head))
+
+
+def imported(text):
+    """Yields the names that a `ghost use` brings, each with the path that it stands for."""
+    path, _, names = text.removesuffix(";").partition("{")
+    for it in (names.rstrip("} ") or path.rpartition(" ")[2]).split(","):
+        one, _, other = it.strip().partition(" as ")
+        yield (other or one).strip(), f"{path} {one}".strip()
 
 
 def owners_of_impl(head):
@@ -106,6 +118,7 @@ class Source:
         self.ends = self.find_ends()
         # each block that is open: what a `mod` adds to the module, and the owners of an impl or a trait
         self.blocks = []
+        self.traits = set()
         self.scan(module)
 
     def find_ends(self):
@@ -153,11 +166,20 @@ class Source:
         if block["kind"] == "mod":
             self.blocks = [*self.blocks, (f"{block['name']}::", None)]
         elif block["kind"] == "trait":
+            self.traits.add(f"{block['name']}::")
             self.blocks = [*self.blocks, ("", (f"{block['name']}::",))]
         else:
             self.blocks = [*self.blocks, ("", owners_of_impl(block["name"] + block["rest"]))]
 
+    def is_seen(self, function):
+        """Returns whether other crates see a function: it is public, or of a trait."""
+        is_public = any(one == "pub" and other != "(" for one, other in zip(function.head, function.head[1:]))
+        return is_public or len(function.owners) > 1 or function.owners[0] in self.traits
+
     def interface(self):
-        """Returns the tokens of all but bodies: what other crates see."""
-        ends = [0, *(at for it in self.functions for at in it.at), len(self.text)]
-        return [tokens(self.text[begin:end]) for begin, end in zip(ends[::2], ends[1::2])]
+        """Returns what other crates see: the heads of functions, all other items but imports, and what their names are."""
+        heads = [it.head for it in self.functions if self.is_seen(it)]
+        items = [it.tokens for it in self.items if not it.is_use and not it.is_import]
+        words = set(re.split(r"[\s(){}\[\],;.:|&]+", " ".join(word for it in heads + items for word in it)))
+        imports = [one for it in self.items if it.is_import for one in imported(" ".join(it.tokens))]
+        return heads, items, sorted(it for it in imports if words & {it[0], *it[0].split("◌")} - {""})
