@@ -134,15 +134,6 @@ why_text (reading c) = cause_text c
 why_text no_port = codes "no port from 1 to 65535"
 why_text (missing key) = key ++ codes " is missing"
 
--- what is told of it; a byte order mark is named
-abbrev pub what_text : List ℕ → Why → List ℕ
-what_text bytes w = if starts_with nat_eq bytes (239 ∷ 187 ∷ 191 ∷ []) then codes "byte order mark" else why_text w
-
--- `NAME:LINE:COLUMN: WHAT`
-abbrev pub refusal_text : List ℕ → ℕ → ℕ → List ℕ → List ℕ
-refusal_text name line column what =
-    name ++ (codes ":" ++ (decimal line ++ (codes ":" ++ (decimal column ++ (codes ": " ++ (what ++ codes "\n"))))))
-
 -- memory was refused
 abbrev pub IsOfMemory : Refusal → Type 0
 IsOfMemory r = why r ≡ reading (json_error Kind.out_of_memory)
