@@ -1,8 +1,7 @@
 -- What a configuration holds of a document. Members of three names are settings, the last one of a name counts, and all
 -- others are nothing to it; the first value that does not fit its name is refused at its own place.
 use Rattle.std.specs.Prelude.{◌≡◌, ◌⊎◌, ℕ, ◌-◌, ℤ, pos, negsuc, ◌&&◌, Bool, false, if◌then◌else◌, List, nat_le}
-use Rattle.std.specs.Prelude.{[], ◌∷◌, ◌++◌, Option, Some, None, Result, Ok, Err, IfOk, codes, decimal, nat_eq, string_bytes}
-use Rattle.std.specs.List.{starts_with}
+use Rattle.std.specs.Prelude.{◌++◌, Option, Some, None, Result, Ok, Err, IfOk, codes, string_bytes}
 use Rattle.std.specs.Str.{bytes_eq}
 use Rattle.jiter.specs.Caller.{Cause, Kind, MovesOn, Node, NodeMembers, ReaderState, Tells, Tree, ValueType, begin}
 use Rattle.jiter.specs.Caller.{cause_of, cause_text, is_memory_cause, json_error, text_at, tree_type, value_of, wrong_type}

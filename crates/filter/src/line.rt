@@ -37,10 +37,7 @@ fn part_of(alloc: Global, member: &Member, line: &[u8]) -> Result<Outcome, Alloc
     match read_member(alloc, line, member.name.as_str()) {
         Ok(source) => match &member.deep {
             Some(pointer) => pointed(alloc, line, pointer.as_str()),
-            None => {
-                let text = Vec::from_slice(alloc, source.unwrap_or(b"null"))?;
-                Ok(Outcome::Text(text))
-            }
+            None => Ok(Outcome::Text(Vec::from_slice(alloc, source.unwrap_or(b"null"))?)),
         },
         Err(error) if error.is_memory() => Err(AllocError),
         Err(error) => {

@@ -38,10 +38,7 @@ impl Member {
             return Ok(None);
         };
         let first = steps.split_once('/').map_or(steps, |(first, _)| first);
-        let Some(name) = decoded(alloc, first)? else {
-            return Ok(None);
-        };
-        let Some(label) = decoded(alloc, steps)? else {
+        let (Some(name), Some(label)) = (decoded(alloc, first)?, decoded(alloc, steps)?) else {
             return Ok(None);
         };
         let mut deep = None;
