@@ -4,11 +4,12 @@
 PREFIX ?= /usr/local
 PROGRAMS = look config csv_of filter importer viewer
 BUILT = $(foreach name,$(PROGRAMS),crates/$(name)/out/$(name))
+LIBRARIES = $(wildcard crates/jiter*/src/*.rt crates/json_lines/src/*.rt)
 
 all: $(BUILT)
 
 .SECONDEXPANSION:
-$(BUILT): $$(wildcard $$(dir $$(patsubst %/,%,$$(dir $$@)))src/*.rt)
+$(BUILT): $$(wildcard $$(dir $$(patsubst %/,%,$$(dir $$@)))src/*.rt) $(LIBRARIES)
 	rm -f $@
 	cd $(dir $(patsubst %/,%,$(dir $@))) && rt run </dev/null >/dev/null; test -x out/$(notdir $@)
 

@@ -1,7 +1,6 @@
 -- What the replies of the reader say of a value that comes next, as a setting.
 use Rattle.std.proofs.Common.{◌≡◌, ◌∙◌, ℕ, Bool, true, false, List, refl, sym, ap, subst, ◌&&◌, pos}
-use Rattle.std.specs.Prelude.{[], ◌∷◌, Result, Ok, Err, IfOk, IsErrAnd, ℤ, negsuc, nat_eq, nat_le, codes, if◌then◌else◌}
-use Rattle.std.specs.List.{starts_with}
+use Rattle.std.specs.Prelude.{Result, Ok, Err, IfOk, IsErrAnd, ℤ, negsuc, nat_le, if◌then◌else◌}
 use Rattle.std.proofs.lemmas.Bool.{false≢true}
 use lib.IntN.{nat_abs}
 use lib.Signed.{le_z}
@@ -14,7 +13,7 @@ use Rattle.jiter.proofs.Walking.{gave-refused}
 use Rattle.config.specs.declared.config.Refusal.{Refusal}
 use Rattle.config.specs.declared.config.Refusal.TheVariants as variant
 use Rattle.config.specs.Settings.{IsOfMemory, Judges, Verdict, debug_in, fits, host_in, no_port, place_of, port_in}
-use Rattle.config.specs.Settings.{Why, port_of, reading, unfit, what_text, why, why_text}
+use Rattle.config.specs.Settings.{port_of, reading, unfit, why}
 
 -- a refusal, passed on
 pub passed-on : {X A : Type 0} (view : X → A) (x : Result X Refusal) (r : Refusal) (v : Verdict A)
@@ -109,11 +108,3 @@ port-high (negsuc n) i high = refl
 pub no-value : {X : Type 0} (x : Result X Refusal) (Q : Refusal → Type 0) (P : X → Type 0) → IsErrAnd x Q → IfOk x P
 no-value (Ok a) Q P is = absurd is
 no-value (Err d) Q P is = tt
-
--- A byte order mark is named.
-pub mark-named : (bytes : List ℕ) (w : Why) → starts_with nat_eq bytes (239 ∷ 187 ∷ 191 ∷ []) ≡ true
-    → codes "byte order mark" ≡ what_text bytes w
-mark-named bytes w is = by (starts_with nat_eq bytes (239 ∷ 187 ∷ 191 ∷ [])) is where
-  by : (b : Bool) → b ≡ true → codes "byte order mark" ≡ (if b then codes "byte order mark" else why_text w)
-  by true e = refl
-  by false e = absurd (false≢true e)

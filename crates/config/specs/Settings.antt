@@ -1,8 +1,7 @@
 -- What a configuration holds of a document. Members of three names are settings, the last one of a name counts, and all
 -- others are nothing to it; the first value that does not fit its name is refused at its own place.
 use Rattle.std.specs.Prelude.{◌≡◌, ◌⊎◌, ℕ, ◌-◌, ℤ, pos, negsuc, ◌&&◌, Bool, false, if◌then◌else◌, List, nat_le}
-use Rattle.std.specs.Prelude.{[], ◌∷◌, ◌++◌, Option, Some, None, Result, Ok, Err, IfOk, codes, decimal, nat_eq, string_bytes}
-use Rattle.std.specs.List.{starts_with}
+use Rattle.std.specs.Prelude.{◌++◌, Option, Some, None, Result, Ok, Err, IfOk, codes, string_bytes}
 use Rattle.std.specs.Str.{bytes_eq}
 use Rattle.jiter.specs.Caller.{Cause, Kind, MovesOn, Node, NodeMembers, ReaderState, Tells, Tree, ValueType, begin}
 use Rattle.jiter.specs.Caller.{cause_of, cause_text, is_memory_cause, json_error, text_at, tree_type, value_of, wrong_type}
@@ -133,15 +132,6 @@ abbrev pub why_text : Why → List ℕ
 why_text (reading c) = cause_text c
 why_text no_port = codes "no port from 1 to 65535"
 why_text (missing key) = key ++ codes " is missing"
-
--- what is told of it; a byte order mark is named
-abbrev pub what_text : List ℕ → Why → List ℕ
-what_text bytes w = if starts_with nat_eq bytes (239 ∷ 187 ∷ 191 ∷ []) then codes "byte order mark" else why_text w
-
--- `NAME:LINE:COLUMN: WHAT`
-abbrev pub refusal_text : List ℕ → ℕ → ℕ → List ℕ → List ℕ
-refusal_text name line column what =
-    name ++ (codes ":" ++ (decimal line ++ (codes ":" ++ (decimal column ++ (codes ": " ++ (what ++ codes "\n"))))))
 
 -- memory was refused
 abbrev pub IsOfMemory : Refusal → Type 0

@@ -1,15 +1,15 @@
 //! A configuration, read from the members of a JSON object.
-ghost use Rattle.std.specs.Prelude.{◌≡◌, ◌≤◌, IfOk, ℕ, Some, codes, false, string_bytes};
+ghost use Rattle.std.specs.Prelude.{◌≡◌, ◌≤◌, IfOk, ℕ, Some, false, string_bytes};
 ghost use Rattle.jiter.specs.Caller.{IsDocument, Node, position_of, value_of};
-ghost use Rattle.config.specs.Settings.{IsAnswer, IsHeldBy, is_memory_why, place_of, refusal_text, what_text, why, why_text};
+ghost use Rattle.json_lines.specs.Line.{cause_in, refusal_text};
+ghost use Rattle.config.specs.Settings.{IsAnswer, IsHeldBy, is_memory_why, place_of, why, why_text};
 ghost use Rattle.config.specs.declared.config.Refusal.TheVariants as variant;
 
 use crate::settings::{Name, named, read_host, read_port};
 use jiter::{Jiter, JiterError, LinePosition};
+use json_lines::refusal_line;
 use std::alloc::{AllocError, Global};
 use std::fmt;
-
-const BYTE_ORDER_MARK: [u8; 3] = [0xef, 0xbb, 0xbf];
 
 /// The settings of a program.
 #[derive(Debug, Drop)]
@@ -52,8 +52,8 @@ impl Refusal {
     }
 }
 
-/// Returns `NAME:LINE:COLUMN: what is wrong` and a line feed. A byte order mark is named, as an editor doesn't show it.
-pub fn refusal_line(
+/// Returns `NAME:LINE:COLUMN: what is wrong` and a line feed.
+pub fn report_of(
     alloc: Global,
     name: &str,
     bytes: &[u8],
@@ -61,19 +61,10 @@ pub fn refusal_line(
 ) -> Result<String, AllocError>
     ensures { IfOk result (λ text. string_bytes text
         ≡ refusal_text name.now (position_of bytes.now (place_of refusal.now)).line
-        (position_of bytes.now (place_of refusal.now)).column (what_text bytes.now (why refusal.now))) }
+        (position_of bytes.now (place_of refusal.now)).column (cause_in bytes.now (why_text (why refusal.now)))) }
 {
-    let LinePosition { line, column } = refusal.position(bytes);
-    if bytes.starts_with(&BYTE_ORDER_MARK) {
-        return mark_line(alloc, name, line, column);
-    }
-    format!(in alloc; "{name}:{line}:{column}: {refusal}\n")
-}
-
-fn mark_line(alloc: Global, name: &str, line: usize, column: usize) -> Result<String, AllocError>
-    ensures { IfOk result (λ text. string_bytes text ≡ refusal_text name.now line column (codes "byte order mark")) }
-{
-    format!(in alloc; "{name}:{line}:{column}: byte order mark\n")
+    let cause = format!(in alloc; "{refusal}")?;
+    refusal_line(alloc, name, &refusal.position(bytes), bytes, cause.as_str())
 }
 
 impl fmt::Display for Refusal {

@@ -1,15 +1,12 @@
 -- The CSV row of a line (RFC 4180): three members of an object, by name. A member that is missing is an empty cell, and
 -- so is `null`. A number is its compact text, a string its decoded text between quotes.
-use Rattle.std.specs.Prelude.{ℕ, ◌+◌, if◌then◌else◌, nat_eq, is_some, List, [], ◌∷◌, ◌++◌, flat_map, replicate, codes}
-use Rattle.std.specs.Prelude.{Option, Some, None, option_map, Vec}
+use Rattle.std.specs.Prelude.{◌≡◌, ℕ, ◌+◌, if◌then◌else◌, nat_eq, is_some, List, [], ◌∷◌, ◌++◌, false, flat_map, replicate}
+use Rattle.std.specs.Prelude.{Option, Some, None, option_map, Vec, codes}
 use Rattle.std.specs.declared.alloc.Global.{Global}
-use Rattle.jiter.specs.Caller.{Kind, Reading, Tree, done, fault, kind_text, member_named, members_in, unique_kind}
+use Rattle.jiter.specs.Caller.{Reading, Tree, done, fault, kind_text, member_named, members_in, unique_answer}
 use Rattle.jiter_print.specs.Print.{print_of}
-use Rattle.csv_of.specs.declared.row.Cause.{Cause}
-use Rattle.csv_of.specs.declared.row.Cause.TheVariants as cause
+use Rattle.json_lines.specs.Line.{Seen, refused, written}
 use Rattle.csv_of.specs.declared.row.Names.{Names}
-use Rattle.csv_of.specs.declared.row.Outcome.{Outcome}
-use Rattle.csv_of.specs.declared.row.Outcome.TheVariants as outcome
 
 -- a quote is written twice
 abbrev pub copies : ℕ → ℕ
@@ -36,21 +33,9 @@ or_null (Some v) = v
 abbrev pub cell_named : List ℕ → Tree → Option (List ℕ)
 cell_named name v = cell_in (or_null (member_named name v))
 
--- why a line has no row
-pub data Why : Type 0 where
-  document : Kind → Why
-  not_an_object : Why
-  no_cell : List ℕ → Why
-
-abbrev pub cause_text : Why → List ℕ
-cause_text (document k) = kind_text k
-cause_text not_an_object = codes "not an object"
-cause_text (no_cell name) = codes "member " ++ (name ++ codes " is not a string, a number or null")
-
--- what a line becomes: a row, or a column from 1 and a cause
-pub data Seen : Type 0 where
-  row : List ℕ → Seen
-  refused : ℕ → Why → Seen
+-- a member whose value has no cell
+abbrev pub no_cell : List ℕ → Seen
+no_cell name = refused 1 (codes "member " ++ (name ++ codes " is not a string, a number or null"))
 
 -- cells with commas between them, ended by CR LF (RFC 4180, 2)
 abbrev pub row_text : List ℕ → List ℕ → List ℕ → List ℕ
@@ -58,32 +43,27 @@ row_text a b c = a ++ codes "," ++ b ++ codes "," ++ c ++ codes "\r\n"
 
 -- the row of these cells, or the first name without a cell
 abbrev pub row_of : Names → Option (List ℕ) → Option (List ℕ) → Option (List ℕ) → Seen
-row_of names (Some a) (Some b) (Some c) = row (row_text a b c)
-row_of names (Some a) (Some b) None = refused 1 (no_cell names.third.now)
-row_of names (Some a) None c = refused 1 (no_cell names.second.now)
-row_of names None b c = refused 1 (no_cell names.first.now)
+row_of names (Some a) (Some b) (Some c) = written (row_text a b c)
+row_of names (Some a) (Some b) None = no_cell names.third.now
+row_of names (Some a) None c = no_cell names.second.now
+row_of names None b c = no_cell names.first.now
 
 -- what a document of this value becomes
 abbrev pub outcome_of : Names → Tree → Seen
 outcome_of names v =
     if is_some (members_in v)
     then row_of names (cell_named names.first.now v) (cell_named names.second.now v) (cell_named names.third.now v)
-    else refused 1 not_an_object
+    else refused 1 (codes "not an object")
 
 -- what a line becomes, by what is read of it
 abbrev pub outcome_in : Names → Reading Tree → Seen
 outcome_in names (done v end) = outcome_of names v
-outcome_in names (fault kind index stop) = refused (index + 1) (document kind)
+outcome_in names (fault kind index stop) = refused (index + 1) (kind_text kind)
 
--- ---- what the code returns
+-- what becomes of a line
+abbrev pub Becomes : Names → List ℕ → Seen → Type 0
+Becomes names line o = o ≡ outcome_in names (unique_answer false line)
+
+-- what the code returns
 abbrev pub cell_view : Option (Vec ℕ Global) → Option (List ℕ)
 cell_view = option_map (λ text. text.items)
-
-abbrev pub why : Cause → Why
-why (cause.Document error) = document (unique_kind error)
-why cause.NotAnObject = not_an_object
-why (cause.NoCell name) = no_cell name.now
-
-abbrev pub seen : Outcome → Seen
-seen (outcome.Row text) = row text.items
-seen (outcome.Refused column cause) = refused column (why cause)

@@ -1,13 +1,14 @@
 //! The CSV row of a line (RFC 4180): three members of a JSON object.
-ghost use Rattle.std.specs.Prelude.{◌≡◌, IfOk, Some, false, option_map};
-ghost use Rattle.jiter.specs.Caller.{IsUniqueDocument, Node, unique_answer, value_of, view};
-ghost use Rattle.csv_of.specs.Row.{cause_text, cell_in, cell_named, cell_view, copies, outcome_in};
-ghost use Rattle.csv_of.specs.Row.{outcome_of, quoted, seen, why};
+ghost use Rattle.std.specs.Prelude.{◌≡◌, IfOk, false, option_map};
+ghost use Rattle.jiter.specs.Caller.{IsUniqueDocument, Node, value_of, view};
+ghost use Rattle.json_lines.specs.Line.{seen};
+ghost use Rattle.csv_of.specs.Row.{Becomes, cell_in, cell_named, cell_view, copies, no_cell, outcome_of, quoted};
 
-use jiter::{JsonValue, PartialMode, UniqueErrorType};
+use jiter::{JsonValue, PartialMode};
 use jiter_print::print;
+use json_lines::{Convert, Outcome};
 use std::alloc::{AllocError, Global};
-use std::{fmt, iter};
+use std::iter;
 
 /// The names of the members that make a row, in order.
 #[derive(Clone, Copy)]
@@ -18,38 +19,6 @@ pub struct Names<'n> {
     pub second: &'n str,
     /// The third cell's member.
     pub third: &'n str,
-}
-
-/// Why a line has no row.
-#[derive(Debug, Drop)]
-pub enum Cause<'n> {
-    /// The line is not a document, or an object in it repeats a key.
-    Document(UniqueErrorType),
-    /// The document is not an object.
-    NotAnObject,
-    /// The member of this name is not a string, a number or `null`.
-    NoCell(&'n str),
-}
-
-/// What a line becomes.
-#[derive(Debug, Drop)]
-pub enum Outcome<'n> {
-    /// The row, ended by CR LF.
-    Row(Vec<u8>),
-    /// The column of the error, in bytes from 1, and why the line has no row.
-    Refused(usize, Cause<'n>),
-}
-
-impl fmt::Display for Cause<'_> {
-    ghost output = { λ cause. Some (cause_text (why cause)) };
-
-    fn fmt<W: fmt::Write>(&self, f: &mut fmt::Formatter<W>) -> fmt::Result {
-        match self {
-            Self::Document(error) => write!(f, "{error}"),
-            Self::NotAnObject => f.write_str("not an object"),
-            Self::NoCell(name) => write!(f, "member {name} is not a string, a number or null"),
-        }
-    }
 }
 
 type Cell = Option<Vec<u8>>;
@@ -95,52 +64,61 @@ fn cell_named(alloc: Global, name: &str, object: &JsonValue<'_>) -> Result<Cell,
     cell_in(alloc, object.get(name).unwrap_or(&JsonValue::Null))
 }
 
-fn outcome_of<'n>(
-    alloc: Global,
-    names: Names<'n>,
-    value: &JsonValue<'_>,
-) -> Result<Outcome<'n>, AllocError>
+fn no_cell(alloc: Global, name: &str) -> Result<Outcome, AllocError>
+    ensures { IfOk result (λ outcome. seen outcome ≡ no_cell name.now) }
+{
+    let cause = format!(in alloc; "member {name} is not a string, a number or null")?;
+    Ok(Outcome::Refused(1, cause))
+}
+
+fn outcome_of(alloc: Global, names: Names<'_>, value: &JsonValue<'_>) -> Result<Outcome, AllocError>
     ensures { IfOk result (λ outcome. seen outcome ≡ outcome_of names.entry (view value.now)) }
 {
     if value.as_object().is_none() {
-        return Ok(Outcome::Refused(1, Cause::NotAnObject));
+        return Ok(Outcome::Refused(1, String::from_str(alloc, "not an object")?));
     }
     let Some(mut row) = cell_named(alloc, names.first, value)? else {
-        return Ok(Outcome::Refused(1, Cause::NoCell(names.first)));
+        return no_cell(alloc, names.first);
     };
     let Some(second) = cell_named(alloc, names.second, value)? else {
-        return Ok(Outcome::Refused(1, Cause::NoCell(names.second)));
+        return no_cell(alloc, names.second);
     };
     let Some(third) = cell_named(alloc, names.third, value)? else {
-        return Ok(Outcome::Refused(1, Cause::NoCell(names.third)));
+        return no_cell(alloc, names.third);
     };
     row.push(b',')?;
     row.extend_from_slice(second.as_slice())?;
     row.push(b',')?;
     row.extend_from_slice(third.as_slice())?;
     row.extend_from_slice(b"\r\n")?;
-    Ok(Outcome::Row(row))
+    Ok(Outcome::Text(row))
 }
 
-/// Converts a line to its row, or to the reason why it has none.
-///
-/// A string becomes its decoded text between quotes, a number its compact text. `null` and a member that is missing
-/// become an empty cell. An error of the document is at its byte, any other one at the line's first column.
-///
-/// # Errors
-///
-/// - `AllocError` if an allocation fails
-pub fn convert<'n>(alloc: Global, names: Names<'n>, line: &[u8]) -> Result<Outcome<'n>, AllocError>
-    // A document without duplicate keys becomes the row of its value, or is refused for that value.
-    ensures document { (n : Node) → IsUniqueDocument false line.now n → IfOk result
-        (λ outcome. seen outcome ≡ outcome_of names.entry (value_of line.now n)) }
-    // Any other line is refused for its first error.
-    ensures first { IfOk result
-        (λ outcome. seen outcome ≡ outcome_in names.entry (unique_answer false line.now)) }
-{
-    match JsonValue::parse_unique(alloc, line, false, PartialMode::Off) {
-        Ok(value) => outcome_of(alloc, names, &value),
-        Err(error) if error.is_memory() => Err(AllocError),
-        Err(error) => Ok(Outcome::Refused(error.index + 1, Cause::Document(error.error_type))),
+impl Convert for Names<'_> {
+    ghost becomes = { Becomes };
+
+    /// Converts a line to its row, or to the reason why it has none.
+    ///
+    /// A string becomes its decoded text between quotes, a number its compact text. `null` and a member that is missing
+    /// become an empty cell. An error of the document is at its byte, any other one at the line's first column.
+    ///
+    /// # Errors
+    ///
+    /// - `AllocError` if an allocation fails
+    fn convert(&self, alloc: Global, line: &[u8]) -> Result<Outcome, AllocError>
+        // A document without duplicate keys becomes the row of its value, or is refused for that value.
+        ensures document { (n : Node) → IsUniqueDocument false line.now n → IfOk result
+            (λ outcome. seen outcome ≡ outcome_of self.now (value_of line.now n)) }
+        // Any other line is refused for its first error.
+        ensures first { IfOk result (λ outcome. Becomes self.now line.now (seen outcome)) }
+    {
+        match JsonValue::parse_unique(alloc, line, false, PartialMode::Off) {
+            Ok(value) => outcome_of(alloc, *self, &value),
+            Err(error) if error.is_memory() => Err(AllocError),
+            Err(error) => {
+                let cause = format!(in alloc; "{}", error.error_type)?;
+                Ok(Outcome::Refused(error.index + 1, cause))
+            }
+        }
     }
 }

@@ -1,5 +1,6 @@
 //! What lines become: rows, or errors with their columns.
-use crate::row::{Names, Outcome, convert};
+use crate::row::Names;
+use json_lines::{Convert, Outcome};
 use std::alloc::AllocError;
 use std::test::*;
 
@@ -11,8 +12,8 @@ const NAMES: Names<'static> = Names {
 
 // Whether the line becomes these bytes: its row, or the column and the words of its error.
 fn becomes(rt: &HostRuntime, line: &[u8], wanted: &[u8]) -> Result<bool, AllocError> {
-    match convert(rt.alloc(), NAMES, line)? {
-        Outcome::Row(row) => Ok(row.as_slice() == wanted),
+    match NAMES.convert(rt.alloc(), line)? {
+        Outcome::Text(row) => Ok(row.as_slice() == wanted),
         Outcome::Refused(column, cause) => {
             let words = format!(in rt.alloc(); "{column}: {cause}")?;
             Ok(words.as_bytes() == wanted)

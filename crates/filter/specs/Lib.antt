@@ -1,4 +1,3 @@
-pub mod Lines
-pub mod Log
+pub mod Line
 pub mod Members
 pub mod Pointers

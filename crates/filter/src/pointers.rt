@@ -8,14 +8,18 @@ use std::alloc::{AllocError, Global};
 /// A member that is written.
 #[derive(Debug, Drop)]
 pub struct Member {
-    /// The member's name, decoded.
+    /// The name that the pointer's first step gives, decoded.
     pub name: String,
-    /// What is written before its value: `{` or a comma, the name as a JSON string, and a colon.
+    /// The pointer, if it has more steps.
+    pub deep: Option<String>,
+    /// All steps, decoded, with slashes between them: the key in the output.
+    pub label: String,
+    /// What is written before the value: `{` or a comma, the label as a JSON string, and a colon.
     pub key: Vec<u8>,
 }
 
 impl Member {
-    /// Returns the member that a JSON Pointer of one step names, or `None` if it isn't one.
+    /// Returns the member that a JSON Pointer names, or `None` if it isn't one or leads to the whole line.
     ///
     /// # Errors
     ///
@@ -25,33 +29,44 @@ impl Member {
         pointer: &str,
         is_first: bool,
     ) -> Result<Option<Member>, AllocError>
-        ensures key { IfOk result (λ found. IfSome found (λ m. m.key.items ≡ key_text is_first (string_bytes m.name))) }
+        ensures key { IfOk result (λ found. IfSome found
+            (λ m. m.key.items ≡ key_text is_first (string_bytes m.label))) }
+        ensures deep { IfOk result (λ found. IfSome found
+            (λ m. IfSome m.deep (λ steps. string_bytes steps ≡ pointer.now))) }
     {
-        match name_of(alloc, pointer)? {
-            Some(name) => {
-                let mut key = Vec::new(alloc);
-                key.push(if is_first { b'{' } else { b',' })?;
-                print_str(&mut key, name.as_str())?;
-                key.push(b':')?;
-                Ok(Some(Member { name, key }))
-            }
-            None => Ok(None),
+        let Some(steps) = pointer.strip_prefix('/') else {
+            return Ok(None);
+        };
+        let first = steps.split_once('/').map_or(steps, |(first, _)| first);
+        let (Some(name), Some(label)) = (decoded(alloc, first)?, decoded(alloc, steps)?) else {
+            return Ok(None);
+        };
+        let mut deep = None;
+        if first.len() < steps.len() {
+            deep = Some(String::from_str(alloc, pointer)?);
         }
+        let mut key = Vec::new(alloc);
+        key.push(if is_first { b'{' } else { b',' })?;
+        print_str(&mut key, label.as_str())?;
+        key.push(b':')?;
+        Ok(Some(Member {
+            name,
+            deep,
+            label,
+            key,
+        }))
     }
 }
 
 // In a step, `~1` is a slash and `~0` is a tilde (RFC 6901).
-fn name_of(alloc: Global, pointer: &str) -> Result<Option<String>, AllocError> {
-    let Some(step) = pointer.strip_prefix('/') else {
-        return Ok(None);
-    };
+fn decoded(alloc: Global, steps: &str) -> Result<Option<String>, AllocError> {
     let mut name = String::new(alloc);
     let mut is_escape = false;
-    for character in step.chars() {
+    for character in steps.chars() {
         match (is_escape, character) {
             (true, '0') => name.push('~')?,
             (true, '1') => name.push('/')?,
-            (true, _) | (false, '/') => return Ok(None),
+            (true, _) => return Ok(None),
             (false, '~') => {}
             (false, _) => name.push(character)?,
         }

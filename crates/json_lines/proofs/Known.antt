@@ -1,0 +1,85 @@
+-- The same where the bytes that a reader has left are known, or not.
+use Rattle.std.proofs.Common.{◌≡◌, ◌∙◌, ap, refl, sym, subst, ℕ, ◌+◌, List, [], ◌∷◌, Option, Some, None, IfSome}
+use Rattle.std.proofs.Common.{arith, length}
+use Rattle.std.specs.Prelude.{Result, Ok, Err, OnErr}
+use Rattle.std.proofs.lemmas.Option.{IfSome_then}
+use Rattle.std.specs.Io.BufRead.{drop_through, take_through}
+use Rattle.std.specs.Io.KnownBytes.{Appends}
+use Rattle.std.proofs.KnownBytes.{Appends-nil}
+use Rattle.jiter_print.specs.Written.{AppendsPrefix}
+use Rattle.json_lines.specs.Line.{Seen}
+use Rattle.json_lines.specs.Log.{WritesAll, WritesPart, chomp, refusal_of, refusals_in, text_of}
+use Rattle.json_lines.specs.declared.log.Counts.{Counts}
+use Rattle.json_lines.proofs.Lines.{SoFar, all-done, begun, none-left, one-more, part-more, stopped}
+
+-- what holds anyway holds of an error
+pub if-err : {T E P : Type 0} (r : Result T E) → P → OnErr r P
+if-err (Ok x) p = tt
+if-err (Err e) p = p
+
+-- a list of length 0
+empty : (xs : List ℕ) → length xs ≡ 0 → xs ≡ []
+empty [] e = refl
+empty (x ∷ xs) e = absurd (omega (arith, e))
+
+-- none of some bytes is a prefix of them
+pub no-part : (a : Option (List ℕ)) (bs : List ℕ) → AppendsPrefix a a bs
+no-part a bs = (0, Appends-nil a)
+
+-- of a reader that had these bytes, the lines up to those of the rest are written
+abbrev pub Known : (List ℕ → Seen → Type 0) → List ℕ → Option (List ℕ) → Option (List ℕ) → Counts
+    → Option (List ℕ) → Option (List ℕ) → Option (List ℕ) → Option (List ℕ) → Type 0
+Known becomes name from from' counts out out' err err' = IfSome from (λ t. (rest : List ℕ) × (from' ≡ Some rest)
+    × SoFar becomes name t rest counts out out' err err')
+
+module _ (becomes : List ℕ → Seen → Type 0) (name : List ℕ) (from out err : Option (List ℕ)) where
+  pub known-begun : (counts : Counts) → counts.texts ≡ 0 → counts.refused ≡ 0
+      → Known becomes name from from counts out out err err
+  known-begun counts a b = by from where
+    by : (x : Option (List ℕ)) → Known becomes name x x counts out out err err
+    by None = tt
+    by (Some t) = (t, refl, begun becomes name t out err counts a b)
+
+  module _ (from' : Option (List ℕ)) (counts : Counts) (out' err' : Option (List ℕ))
+      (h : Known becomes name from from' counts out out' err err') where
+    pub known-stopped : IfSome from (λ t. WritesPart becomes name t out out' err err')
+    known-stopped = IfSome_then from h (λ t x. stopped becomes name t out err x.0 counts out' err' x.2)
+
+    -- a line was read
+    module _ (line : List ℕ) (read : IfSome from' (λ xs. line ≡ take_through 10 xs)) where
+      line-is : (rest : List ℕ) → from' ≡ Some rest → line ≡ take_through 10 rest
+      line-is rest is = subst (λ f. IfSome f (λ xs. line ≡ take_through 10 xs)) is read
+
+      -- it was the end
+      pub known-end : length line ≡ 0 → IfSome from (λ t. WritesAll becomes name t counts out out' err err')
+      known-end none = IfSome_then from h (λ t x.
+          all-done becomes name t out err x.0 counts out' err' x.2
+          (none-left x.0 (sym (line-is x.0 x.1) ∙ empty line none)))
+
+      module _ (some : length line ≡ 0 → ⊥) (o : Seen) (right : becomes (chomp line) o) (number : ℕ)
+          (number-is : counts.texts + counts.refused + 1 ≡ number) where
+        is-some : (rest : List ℕ) → from' ≡ Some rest → rest ≡ [] → ⊥
+        is-some rest is none = some (ap length (line-is rest is ∙ ap (take_through 10) none))
+
+        right-is : (rest : List ℕ) → from' ≡ Some rest → becomes (chomp (take_through 10 rest)) o
+        right-is rest is = subst (λ l. becomes (chomp l) o) (line-is rest is) right
+
+        pub known-more : (from'' : Option (List ℕ)) → IfSome from' (λ xs. from'' ≡ Some (drop_through 10 xs))
+            → (out'' err'' : Option (List ℕ)) (counts' : Counts) → Appends out' out'' (text_of o)
+            → Appends err' err'' (refusal_of name number (chomp line) o) → counts'.refused ≡ counts.refused + refusals_in o
+            → counts'.texts + counts'.refused ≡ number → Known becomes name from from'' counts' out out'' err err''
+        known-more from'' left out'' err'' counts' text refusal counted all = IfSome_then from h (λ t x. (
+          drop_through 10 x.0,
+          subst (λ f. IfSome f (λ xs. from'' ≡ Some (drop_through 10 xs))) x.1 left,
+          one-more becomes name t out err x.0 counts out' err' x.2 (is-some x.0 x.1) o (right-is x.0 x.1) number number-is
+              out'' err'' counts' text
+              (subst (λ l. Appends err' err'' (refusal_of name number (chomp l) o)) (line-is x.0 x.1) refusal) counted all,
+        ))
+
+        pub known-part : (out'' err'' : Option (List ℕ)) → AppendsPrefix out' out'' (text_of o)
+            → AppendsPrefix err' err'' (refusal_of name number (chomp line) o)
+            → IfSome from (λ t. WritesPart becomes name t out out'' err err'')
+        known-part out'' err'' text refusal = IfSome_then from h (λ t x.
+            part-more becomes name t out err x.0 counts out' err' x.2 (is-some x.0 x.1) o (right-is x.0 x.1) number number-is
+            out'' err'' text
+            (subst (λ l. AppendsPrefix err' err'' (refusal_of name number (chomp l) o)) (line-is x.0 x.1) refusal))

@@ -1,0 +1,11 @@
+//! What programs over files of JSON share: logs that are read line by line, the line that reports an error, and how a
+//! program takes its words and ends.
+#![tactic(auto)]
+
+mod line;
+mod log;
+mod program;
+
+pub use line::{Convert, Outcome, refusal_line};
+pub use log::{Counts, convert_log};
+pub use program::{Program, ReadInput, base_command, convert_logs, main_of, read_each};

@@ -1,0 +1,54 @@
+//! What becomes of a line.
+ghost use Rattle.std.specs.Prelude.{◌≡◌, ℕ, List, IfOk, string_bytes};
+ghost use Rattle.json_lines.specs.Line.{Seen, cause_in, refusal_text, seen};
+
+use jiter_scan::LinePosition;
+use std::alloc::{AllocError, Global};
+
+const BYTE_ORDER_MARK: [u8; 3] = [0xef, 0xbb, 0xbf];
+
+/// What a line becomes.
+#[derive(Debug, Drop)]
+pub enum Outcome {
+    /// These bytes are written.
+    Text(Vec<u8>),
+    /// The line has an error: its column, in bytes from 1, and its cause.
+    Refused(usize, String),
+}
+
+/// A program that makes something of each line of a log.
+pub trait Convert {
+    // This may become of a line.
+    ghost becomes: { Self → List ℕ → Seen → Type 0 };
+
+    /// Converts a line, without the `\n` or `\r\n` at its end.
+    ///
+    /// # Errors
+    ///
+    /// - `AllocError` if an allocation fails
+    fn convert(&self, alloc: Global, line: &[u8]) -> Result<Outcome, AllocError>
+        ensures { IfOk result (λ outcome. becomes self.now line.now (seen outcome)) };
+}
+
+/// Returns `NAME:LINE:COLUMN: CAUSE` and a line feed. If the text begins with a byte order mark, the line names it as the
+/// cause: a byte order mark isn't JSON, and an editor doesn't show it.
+///
+/// # Errors
+///
+/// - `AllocError` if an allocation fails
+pub fn refusal_line(
+    alloc: Global,
+    name: &str,
+    position: &LinePosition,
+    text: &[u8],
+    cause: &str,
+) -> Result<String, AllocError>
+    ensures { IfOk result (λ line. string_bytes line
+        ≡ refusal_text name.now position.now.line position.now.column (cause_in text.now cause.now)) }
+{
+    let LinePosition { line, column } = position;
+    if text.starts_with(&BYTE_ORDER_MARK) {
+        return format!(in alloc; "{name}:{line}:{column}: byte order mark\n");
+    }
+    format!(in alloc; "{name}:{line}:{column}: {cause}\n")
+}

@@ -1,0 +1,183 @@
+//! How a program takes its words, reads its inputs and ends.
+use crate::line::Convert;
+use crate::log::{Counts, convert_log};
+use clap::error::ErrorKind as WordsError;
+use clap::{Arg, ArgAction, ArgMatches, Command};
+use std::alloc::{AllocError, Global};
+use std::io::{BufReader, ErrorKind, Read};
+use std::process::ExitCode;
+use std::{env, fs, io};
+
+const STATUS: &str =
+    "Exit status: 0 if nothing is refused, 1 if something is, 2 for wrong arguments, 3 if a read, a write \
+    or an allocation failed.";
+
+// The bytes of a log that are read at once, at most.
+const CAPACITY: usize = 1 << 16;
+
+/// A program with words.
+pub trait Program {
+    /// The program's name.
+    const NAME: &'static str;
+
+    /// Returns what the program's words may be.
+    ///
+    /// # Errors
+    ///
+    /// - `AllocError` if an allocation fails
+    fn command<'a>(alloc: Global) -> Result<Command<'a>, AllocError>;
+
+    /// Runs the program, and returns its exit status.
+    ///
+    /// # Errors
+    ///
+    /// - the error of a failed read or write
+    /// - `OutOfMemory` if an allocation fails
+    fn run(rt: &HostRuntime, matches: &ArgMatches<'_>) -> io::Result<u8>;
+}
+
+/// A program that reads inputs, one after the other.
+pub trait ReadInput {
+    /// Reads an input to its end. Returns whether nothing in it was refused.
+    ///
+    /// # Errors
+    ///
+    /// - the error of a failed read or write
+    /// - `OutOfMemory` if an allocation fails
+    fn read<R: Read + Drop>(&mut self, rt: &HostRuntime, name: &str, reader: R) -> io::Result<bool>;
+}
+
+/// Returns a command with a version, a text about the program and its exit status, and the names of files.
+///
+/// # Errors
+///
+/// - `AllocError` if an allocation fails
+pub fn base_command<'a>(
+    alloc: Global,
+    name: &'a str,
+    about: &'a str,
+    files: &'a str,
+) -> Result<Command<'a>, AllocError> {
+    let files = Arg::new(alloc, "files")
+        .value_name("FILE")
+        .action(ArgAction::Append)
+        .num_args(0..)
+        .help(files);
+    Command::new(alloc, name)
+        .version("0.18.0")
+        .about(about)
+        .after_help(STATUS)
+        .arg(files)
+}
+
+// Reports an error and returns the exit status. A closed pipe is no news to who closed it.
+fn report(rt: &HostRuntime, program: &str, name: &str, error: &io::Error) -> u8 {
+    if error.kind() != ErrorKind::BrokenPipe {
+        let _ = eprintln!(rt; "{program}: {name}: {error}");
+    }
+    3
+}
+
+fn run<P: Program>(rt: &HostRuntime) -> io::Result<u8> {
+    let words: Vec<String> = env::args(rt)?.collect(rt.alloc())?;
+    let command = P::command(rt.alloc())?;
+    match command.try_get_matches_from(words.as_slice()) {
+        Ok(matches) => P::run(rt, &matches),
+        Err(error) if error.kind() == WordsError::OutOfMemory => {
+            Err(io::Error::from(ErrorKind::OutOfMemory))
+        }
+        Err(error) => {
+            error.print(rt)?;
+            Ok(error.exit_code() as u8)
+        }
+    }
+}
+
+/// Runs a program with the words that it was called with. Reports an error of its run.
+pub fn main_of<P: Program>(rt: &HostRuntime) -> ExitCode {
+    match run::<P>(rt) {
+        Ok(status) => ExitCode::from(status),
+        Err(error) => ExitCode::from(report(rt, P::NAME, "words", &error)),
+    }
+}
+
+fn read_file<I: ReadInput>(rt: &HostRuntime, name: &str, input: &mut I) -> io::Result<bool> {
+    let file = fs::open(rt, name)?;
+    input.read(rt, name, file)
+}
+
+// The exit status after one input.
+fn status_of(rt: &HostRuntime, program: &str, name: &str, read: io::Result<bool>) -> u8 {
+    match read {
+        Ok(is_clean) => !is_clean as u8,
+        Err(error) => report(rt, program, name, &error),
+    }
+}
+
+/// Reads each file, or standard input if there is none. Returns the exit status: 0 if nothing was refused, 1 if something
+/// was, 3 if an input could not be read to its end. Such an input is reported, and the next one is read.
+pub fn read_each<I: ReadInput>(
+    rt: &HostRuntime,
+    program: &str,
+    matches: &ArgMatches<'_>,
+    input: &mut I,
+) -> u8 {
+    let names = matches.get_strs("files").unwrap_or(&[]);
+    if names.is_empty() {
+        let read = input.read(rt, "<stdin>", rt.stdin());
+        return status_of(rt, program, "<stdin>", read);
+    }
+    let mut status = 0;
+    for name in names {
+        status = status.max(status_of(rt, program, name, read_file(rt, name, input)));
+    }
+    status
+}
+
+// A converter of logs, and the counts of those that were read.
+struct Logs<'a, C> {
+    converter: &'a C,
+    counts: Counts,
+}
+
+impl<C: Convert> ReadInput for Logs<'_, C> {
+    fn read<R: Read + Drop>(
+        &mut self,
+        rt: &HostRuntime,
+        name: &str,
+        reader: R,
+    ) -> io::Result<bool> {
+        let mut reader = BufReader::with_capacity(rt.alloc(), CAPACITY, reader)?;
+        let counts = convert_log(
+            rt.alloc(),
+            self.converter,
+            name,
+            &mut reader,
+            &mut rt.stdout(),
+            &mut rt.stderr(),
+        )?;
+        self.counts.texts = self.counts.texts.saturating_add(counts.texts);
+        self.counts.refused = self.counts.refused.saturating_add(counts.refused);
+        Ok(counts.refused == 0)
+    }
+}
+
+/// Converts each log as [`read_each`] reads it. Returns the exit status and the counts of all logs that were read to their end.
+pub fn convert_logs<C: Convert>(
+    rt: &HostRuntime,
+    program: &str,
+    matches: &ArgMatches<'_>,
+    converter: &C,
+) -> (u8, Counts) {
+    let counts = Counts {
+        texts: 0,
+        refused: 0,
+    };
+    let mut logs = Logs { converter, counts };
+    let status = read_each(rt, program, matches, &mut logs);
+    let Logs {
+        counts,
+        converter: _converter,
+    } = logs;
+    (status, counts)
+}
