@@ -48,23 +48,25 @@ pub state-then : (width : Option ℕ) (words : Words) (pieces : List (List ℕ))
     → State width words (pieces ++ piece ∷ []) new (bytes ++ more)
 state-then None words pieces last bytes piece new more s c =
     let line = line_at words (concat pieces ++ piece) in
-    let all : lines_of words (pieces ++ piece ∷ []) ≡ lines_of words pieces ++ if_any line = lines-more words pieces piece in
-    (
+    let all : lines_of words (pieces ++ piece ∷ []) ≡ lines_of words pieces ++ if_any line = lines-more words pieces piece in (
       c.0 ∙ ap (λ l. last_line l line) s.0 ∙ sym (ap (last_of []) all ∙ last-more [] (lines_of words pieces) line),
       ap₂ (λ a b. a ++ b) s.1 (c.1 ∙ ap (λ l. new_line l line) s.0)
-      ∙ sym (ap (λ l. concat (dedup bytes_eq l)) all ∙ shown-more (lines_of words pieces) line),
+          ∙ sym (ap (λ l. concat (dedup bytes_eq l)) all ∙ shown-more (lines_of words pieces) line),
     )
 state-then (Some width) words pieces last bytes piece new more s c =
     let writes = s.1.0 in
     let before = s.1.1 in
     let joined : concat (writes ++ more ∷ []) ≡ bytes ++ more = one-more writes more ∙ ap (λ l. l ++ more) (sym s.1.2) in
-    let drawn : Redraws [] new (bytes ++ more) = redraws-then [] last new bytes more s.0.1 (c.1 s.0.0) in
-    (
+    let drawn : Redraws [] new (bytes ++ more) = redraws-then [] last new bytes more s.0.1 (c.1 s.0.0) in (
       (subst IsPlain (sym c.0) (plain-rows words width (concat pieces ++ piece)), drawn),
-      (writes ++ more ∷ [], record {
-        count = length-append writes (more ∷ []) ∙ ap (λ n. n + 1) before.count ∙ sym (length-append pieces (piece ∷ []));
-        rows = λ n some few. rows-then n some few before joined drawn;
-      }, sym joined),
+      (
+        writes ++ more ∷ [],
+        record {
+          count = length-append writes (more ∷ []) ∙ ap (λ n. n + 1) before.count ∙ sym (length-append pieces (piece ∷ []));
+          rows = λ n some few. rows-then n some few before joined drawn;
+        },
+        sym joined,
+      ),
     ) where
       rows-then : (n : ℕ) → 1 ≤ n → n ≤ length (pieces ++ piece ∷ []) → ShowsRows words width pieces s.1.0
           → concat (s.1.0 ++ more ∷ []) ≡ bytes ++ more → Redraws [] new (bytes ++ more)
@@ -72,20 +74,20 @@ state-then (Some width) words pieces last bytes piece new more s c =
       rows-then n some few before joined drawn =
           ⊎_elim
           (λ earlier.
-              rw (take-append-le n pieces (piece ∷ []) (omega (arith, earlier)))
-              (rw (take-append-le n s.1.0 (more ∷ []) (omega (arith, earlier, before.count)))
-              (before.rows n some (omega (arith, earlier)))))
+          rw (take-append-le n pieces (piece ∷ []) (omega (arith, earlier)))
+          (rw (take-append-le n s.1.0 (more ∷ []) (omega (arith, earlier, before.count)))
+          (before.rows n some (omega (arith, earlier)))))
           (λ last.
-              let all : n ≡ length (pieces ++ piece ∷ []) = omega (arith, last, few, length-append pieces (piece ∷ [])) in
-              let same : n ≡ length (s.1.0 ++ more ∷ []) =
-              omega (arith, last, few, before.count, length-append pieces (piece ∷ []), length-append s.1.0 (more ∷ [])) in
-              let whole : take n (pieces ++ piece ∷ []) ≡ pieces ++ piece ∷ [] =
-              ap (λ m. take m (pieces ++ piece ∷ [])) all ∙ take-length (pieces ++ piece ∷ []) in
-              let written : take n (s.1.0 ++ more ∷ []) ≡ s.1.0 ++ more ∷ [] =
-              ap (λ m. take m (s.1.0 ++ more ∷ [])) same ∙ take-length (s.1.0 ++ more ∷ []) in
-              subst (λ x. Redraws [] x (concat (take n (s.1.0 ++ more ∷ []))))
-              (c.0 ∙ ap (rows_of words width) (sym (ap concat whole ∙ one-more pieces piece)))
-              (subst (Redraws [] new) (sym (ap concat written ∙ joined)) drawn))
+          let all : n ≡ length (pieces ++ piece ∷ []) = omega (arith, last, few, length-append pieces (piece ∷ [])) in
+          let same : n ≡ length (s.1.0 ++ more ∷ []) =
+          omega (arith, last, few, before.count, length-append pieces (piece ∷ []), length-append s.1.0 (more ∷ [])) in
+          let whole : take n (pieces ++ piece ∷ []) ≡ pieces ++ piece ∷ [] =
+          ap (λ m. take m (pieces ++ piece ∷ [])) all ∙ take-length (pieces ++ piece ∷ []) in
+          let written : take n (s.1.0 ++ more ∷ []) ≡ s.1.0 ++ more ∷ [] =
+          ap (λ m. take m (s.1.0 ++ more ∷ [])) same ∙ take-length (s.1.0 ++ more ∷ []) in
+          subst (λ x. Redraws [] x (concat (take n (s.1.0 ++ more ∷ []))))
+          (c.0 ∙ ap (rows_of words width) (sym (ap concat whole ∙ one-more pieces piece)))
+          (subst (Redraws [] new) (sym (ap concat written ∙ joined)) drawn))
           (below_or_not n (length pieces + 1))
 
 -- What was read has arrived in some pieces, and they are shown.
@@ -206,7 +208,7 @@ module _ (width : Option ℕ) (words : Words) (from out : Option (List ℕ)) whe
           (shows-is width words pieces new (h.bytes ++ more) state) (
             length h.bytes + prefix.0,
             subst (Appends out out'') (sym (take-append-add h.bytes more prefix.0))
-            (Appends-trans out out' out'' _ _ h.shown-is prefix.1),
+                (Appends-trans out out' out'' _ _ h.shown-is prefix.1),
           )
 
 pub if-ok : {T E P Q : Type 0} (r : Result T E) → OnOk r P → (P → Q) → OnOk r Q

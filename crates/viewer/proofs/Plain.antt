@@ -43,17 +43,20 @@ plain-character : (c : ℕ) → 32 ≤ c → IsPlain (encode_utf8 c)
 plain-character c l =
     ⊎_elim (λ one. subst IsPlain (encode-sign c one) (plain-byte c l, tt)) (λ two.
     ⊎_elim (λ one. subst IsPlain (sym (encode-two c two one))
-        (plain-byte (192 + c / 64) (omega arith), (plain-byte (128 + c % 64) (omega arith), tt))) (λ three.
+    (plain-byte (192 + c / 64) (omega arith), (plain-byte (128 + c % 64) (omega arith), tt))) (λ three.
     ⊎_elim (λ one. subst IsPlain (sym (encode-three c three one)) (
-          plain-byte (224 + c / 4096) (omega arith),
-          (plain-byte (128 + c / 64 % 64) (omega arith), (plain-byte (128 + c % 64) (omega arith), tt)),
-        )) (λ four.
+      plain-byte (224 + c / 4096) (omega arith),
+      (plain-byte (128 + c / 64 % 64) (omega arith), (plain-byte (128 + c % 64) (omega arith), tt)),
+    )) (λ four.
     subst IsPlain (sym (encode-four c four)) (
       plain-byte (240 + c / 262144) (omega arith),
-      (plain-byte (128 + c / 4096 % 64) (omega arith), (
-        plain-byte (128 + c / 64 % 64) (omega arith),
-        (plain-byte (128 + c % 64) (omega arith), tt),
-      )),
+      (
+        plain-byte (128 + c / 4096 % 64) (omega arith),
+        (
+          plain-byte (128 + c / 64 % 64) (omega arith),
+          (plain-byte (128 + c % 64) (omega arith), tt),
+        ),
+      ),
     ))
     (below_or_not c 65536)) (below_or_not c 2048)) (below_or_not c 128)
 
@@ -67,9 +70,14 @@ plain-digits : (n : ℕ) → n < 256 → IsPlain (two_digits n)
 plain-digits n h = subst IsPlain (sym (hex_byte false n h)) (plain-glyph (n / 16), (plain-glyph (n % 16), tt))
 
 plain-escape : (c : ℕ) → c < 65536 → IsPlain (escape_of c)
-plain-escape c h =
-    (refl, (refl, plain-both (two_digits (c / 256)) (two_digits (c % 256))
-    (plain-digits (c / 256) (omega arith)) (plain-digits (c % 256) (omega arith))))
+plain-escape c h = (
+  refl,
+  (
+    refl,
+    plain-both (two_digits (c / 256)) (two_digits (c % 256))
+        (plain-digits (c / 256) (omega arith)) (plain-digits (c % 256) (omega arith)),
+  ),
+)
 
 plain-shown : (c : ℕ) → IsPlain (shown_char c)
 plain-shown c = by (is_hidden c) refl where

@@ -12,8 +12,8 @@ returns-then-input-eq0-clause-rows c = λ words t h is.
     let text : c.as_slice-then-input-eq0.result.now ≡ pretty_of 2 (view c.in-Ok.value.now) =
     c.as_slice-then-input-eq0.ensures.value ∙ c.in_ok-text.ensures.text in
     if-ok c.append-then-input-eq0.result c.append-then-input-eq0.ensures.rows (λ rows.
-        rows ∙ whole-told words input.document t h c.args.rows.now.width input.extent.depth (filled c.args.rows.now)
-        c.in-Ok.value.now c.in-Ok.ensures _ text c.if-input-eq0.true)
+    rows ∙ whole-told words input.document t h c.args.rows.now.width input.extent.depth (filled c.args.rows.now)
+    c.in-Ok.value.now c.in-Ok.ensures _ text c.if-input-eq0.true)
 
 pub returns-clause-rows : goal.returns-clause-rows
 returns-clause-rows c = λ words t h is.
@@ -21,5 +21,5 @@ returns-clause-rows c = λ words t h is.
     let text : c.as_slice-2.result.now ≡ pretty_of 2 (view c.in-Ok.value.now) =
     c.as_slice-2.ensures.value ∙ c.in_ok-text.ensures.text in
     if-ok c.append_marked.result c.append_marked.ensures.rows (λ rows.
-        rows ∙ marked-told words input.document t h c.args.rows.now.width input.extent.depth (filled c.args.rows.now)
-        c.in-Ok.value.now c.in-Ok.ensures _ text c.if-input-eq0.false)
+    rows ∙ marked-told words input.document t h c.args.rows.now.width input.extent.depth (filled c.args.rows.now)
+    c.in-Ok.value.now c.in-Ok.ensures _ text c.if-input-eq0.false)
