@@ -175,3 +175,7 @@ drawn-by old new drawn y z begin same rows parts is old-plain new-plain =
     let shown = redrawn u x y z (subst IsPlain (sym whole-old) old-plain) (subst IsPlain (sym whole-new) new-plain) rows in
     subst (λ o. Redraws o new drawn) whole-old
     (subst (λ n. Redraws (u ++ x) n drawn) whole-new (subst (λ d. Redraws (u ++ x) (u ++ (y ++ z)) d) joined shown))
+
+pub redraws-then : (a b c x y : List ℕ) → Redraws a b x → Redraws b c y → Redraws a c (x ++ y)
+redraws-then a b c x y h k top plain whole =
+    fold-append step (screen_of (top ++ a)) x y ∙ ap (λ s. draws s y) (h top plain whole) ∙ k top plain whole

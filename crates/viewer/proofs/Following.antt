@@ -1,31 +1,116 @@
 -- What a run has shown so far, and what it has shown after a piece more.
-use Rattle.std.proofs.Common.{◌≡◌, ◌∙◌, ap, sym, subst, ℕ, ◌+◌, List, [], ◌∷◌, ◌++◌, Option, Some, None, IfSome}
-use Rattle.std.proofs.Common.{append-nil, length, take}
-use Rattle.std.specs.Prelude.{Result, Ok, Err, OnErr}
+use Rattle.std.proofs.Common.{◌≡◌, ◌∙◌, ap, ap₂, refl, sym, subst, ℕ, ◌+◌, ◌≤◌, List, [], ◌∷◌, ◌++◌, Option, Some, None}
+use Rattle.std.proofs.Common.{append-nil, arith, IfSome, inl, inr, length, take, ⊎_elim}
+use Rattle.std.specs.Prelude.{bytes_eq, IfOk, Result, Ok, Err, OnErr, OnOk}
+use Rattle.std.proofs.lemmas.List.{length-append, take-append-le}
 use Rattle.std.proofs.lemmas.List.Folds.{concat-append}
 use Rattle.std.proofs.lemmas.Option.{IfSome_then}
 use Rattle.std.proofs.Math.Seq.{take-append_seam, take-append-add, take-length}
-use Rattle.std.proofs.KnownBytes.{Appends-trans, Consumes-all, Consumes-kept, Consumes-trans}
-use Rattle.std.specs.Prelude.{bytes_eq}
+use Rattle.std.proofs.KnownBytes.{Appends-nil, Appends-trans, Consumes-all, Consumes-nil, Consumes-kept, Consumes-trans}
 use Rattle.std.specs.List.{concat, dedup}
 use Rattle.std.specs.Io.{StartsWith}
 use Rattle.std.specs.Io.KnownBytes.{Appends, Consumes, IsAtEnd, Keeps}
 use Rattle.jiter_print.specs.Written.{AppendsPrefix}
 use Rattle.viewer.specs.Arrived.{HasArrived}
-use Rattle.viewer.specs.Shown.{if_any, last_line, line_at, lines_of, new_line, shown, ShowsAll}
-use Rattle.viewer.specs.Shown.{ShowsPrefix}
+use Rattle.viewer.specs.Rows.{rows_of}
+use Rattle.viewer.specs.Shown.{BreaksOff, Changes, if_any, last_line, line_at, lines_of, new_line, shown, Shows, ShowsAll}
+use Rattle.viewer.specs.Shown.{ShowsPrefix, ShowsRows, WritesChange}
+use Rattle.viewer.specs.Terminal.{IsPlain, Redraws}
 use Rattle.viewer.specs.declared.input.Input.{Input}
-use Rattle.viewer.specs.declared.words.Words.{Words}
+use Rattle.viewer.specs.declared.input.Words.{Words}
+use Rattle.viewer.proofs.Drawing.{redraws-then}
 use Rattle.viewer.proofs.Lines.{last_of, last-more, lines-more, shown-more}
+use Rattle.viewer.proofs.Plain.{below_or_not, plain-rows}
 
--- What was read has arrived in some pieces. If lines are written: the last line, and what was shown.
+-- What was shown of some pieces, and what was written for that. In rows: the screen ends with what was shown.
+abbrev pub State : Option ℕ → Words → List (List ℕ) → List ℕ → List ℕ → Type 0
+State None words pieces last bytes = (last ≡ last_of [] (lines_of words pieces)) × (bytes ≡ shown words pieces)
+State (Some width) words pieces last bytes =
+    (IsPlain last × Redraws [] last bytes)
+    × ((writes : List (List ℕ)) × ShowsRows words width pieces writes × (bytes ≡ concat writes))
+
+shows-is : (width : Option ℕ) (words : Words) (pieces : List (List ℕ)) (last bytes : List ℕ)
+    → State width words pieces last bytes → Shows width words pieces bytes
+shows-is None words pieces last bytes s = s.1
+shows-is (Some width) words pieces last bytes s = s.1
+
+pub begun : (width : Option ℕ) (words : Words) → State width words [] [] []
+begun None words = (refl, refl)
+begun (Some width) words =
+    ((tt, λ top plain whole. refl), ([], record { count = refl; rows = λ n some few. absurd (omega (arith, some, few)) }, refl))
+
+one-more : (pieces : List (List ℕ)) (piece : List ℕ) → concat (pieces ++ piece ∷ []) ≡ concat pieces ++ piece
+one-more pieces piece = concat-append pieces (piece ∷ []) ∙ ap (λ l. concat pieces ++ l) (append-nil piece)
+
+-- what one read more shows
+pub state-then : (width : Option ℕ) (words : Words) (pieces : List (List ℕ)) (last bytes piece new more : List ℕ)
+    → State width words pieces last bytes → Changes width words (concat pieces ++ piece) last new more
+    → State width words (pieces ++ piece ∷ []) new (bytes ++ more)
+state-then None words pieces last bytes piece new more s c =
+    let line = line_at words (concat pieces ++ piece) in
+    let all : lines_of words (pieces ++ piece ∷ []) ≡ lines_of words pieces ++ if_any line = lines-more words pieces piece in (
+      c.0 ∙ ap (λ l. last_line l line) s.0 ∙ sym (ap (last_of []) all ∙ last-more [] (lines_of words pieces) line),
+      ap₂ (λ a b. a ++ b) s.1 (c.1 ∙ ap (λ l. new_line l line) s.0)
+          ∙ sym (ap (λ l. concat (dedup bytes_eq l)) all ∙ shown-more (lines_of words pieces) line),
+    )
+state-then (Some width) words pieces last bytes piece new more s c =
+    let writes = s.1.0 in
+    let before = s.1.1 in
+    let joined : concat (writes ++ more ∷ []) ≡ bytes ++ more = one-more writes more ∙ ap (λ l. l ++ more) (sym s.1.2) in
+    let drawn : Redraws [] new (bytes ++ more) = redraws-then [] last new bytes more s.0.1 (c.1 s.0.0) in (
+      (subst IsPlain (sym c.0) (plain-rows words width (concat pieces ++ piece)), drawn),
+      (
+        writes ++ more ∷ [],
+        record {
+          count = length-append writes (more ∷ []) ∙ ap (λ n. n + 1) before.count ∙ sym (length-append pieces (piece ∷ []));
+          rows = λ n some few. rows-then n some few before joined drawn;
+        },
+        sym joined,
+      ),
+    ) where
+      rows-then : (n : ℕ) → 1 ≤ n → n ≤ length (pieces ++ piece ∷ []) → ShowsRows words width pieces s.1.0
+          → concat (s.1.0 ++ more ∷ []) ≡ bytes ++ more → Redraws [] new (bytes ++ more)
+          → Redraws [] (rows_of words width (concat (take n (pieces ++ piece ∷ [])))) (concat (take n (s.1.0 ++ more ∷ [])))
+      rows-then n some few before joined drawn =
+          ⊎_elim
+          (λ earlier.
+          rw (take-append-le n pieces (piece ∷ []) (omega (arith, earlier)))
+          (rw (take-append-le n s.1.0 (more ∷ []) (omega (arith, earlier, before.count)))
+          (before.rows n some (omega (arith, earlier)))))
+          (λ last.
+          let all : n ≡ length (pieces ++ piece ∷ []) = omega (arith, last, few, length-append pieces (piece ∷ [])) in
+          let same : n ≡ length (s.1.0 ++ more ∷ []) =
+          omega (arith, last, few, before.count, length-append pieces (piece ∷ []), length-append s.1.0 (more ∷ [])) in
+          let whole : take n (pieces ++ piece ∷ []) ≡ pieces ++ piece ∷ [] =
+          ap (λ m. take m (pieces ++ piece ∷ [])) all ∙ take-length (pieces ++ piece ∷ []) in
+          let written : take n (s.1.0 ++ more ∷ []) ≡ s.1.0 ++ more ∷ [] =
+          ap (λ m. take m (s.1.0 ++ more ∷ [])) same ∙ take-length (s.1.0 ++ more ∷ []) in
+          subst (λ x. Redraws [] x (concat (take n (s.1.0 ++ more ∷ []))))
+          (c.0 ∙ ap (rows_of words width) (sym (ap concat whole ∙ one-more pieces piece)))
+          (subst (Redraws [] new) (sym (ap concat written ∙ joined)) drawn))
+          (below_or_not n (length pieces + 1))
+
+-- What was read has arrived in some pieces, and they are shown.
 pub record Follows (width : Option ℕ) (words : Words) (from from' out out' : Option (List ℕ)) (input : Input) (last : List ℕ)
     : Type 0 where
   pub pieces : List (List ℕ)
+  pub bytes : List ℕ
   pub arrived : HasArrived words input (concat pieces)
   pub taken : Consumes from from' (concat pieces)
-  pub last-is : width ≡ None → last ≡ last_of [] (lines_of words pieces)
-  pub shown-is : width ≡ None → Appends out out' (shown words pieces)
+  pub state : State width words pieces last bytes
+  pub shown-is : Appends out out' bytes
+
+-- nothing was read yet
+pub begins : (width : Option ℕ) (words : Words) (from out : Option (List ℕ)) (input : Input) → HasArrived words input []
+    → Follows width words from from out out input []
+begins width words from out input h = record {
+  pieces = [];
+  bytes = [];
+  arrived = h;
+  taken = Consumes-nil from;
+  state = begun width words;
+  shown-is = Appends-nil out;
+}
 
 -- what holds anyway holds of an error
 pub if-err : {T E P : Type 0} (r : Result T E) → P → OnErr r P
@@ -47,20 +132,24 @@ appends-kept (Some x) (Some y) (Some z) t h k = k ∙ h
 
 module _ (width : Option ℕ) (words : Words) (from out : Option (List ℕ)) where
   -- a prefix of what pieces that were read show
-  stopped-in : (from' out' : Option (List ℕ)) (pieces : List (List ℕ)) → Consumes from from' (concat pieces)
-      → AppendsPrefix out out' (shown words pieces) → IfSome from (λ t. ShowsPrefix words t out out')
-  stopped-in from' out' pieces taken prefix =
-      IfSome_then from (prefix-of from from' (concat pieces) taken) (λ t starts. (pieces, starts, prefix))
+  stopped-in : (from' out' : Option (List ℕ)) (pieces : List (List ℕ)) (bytes : List ℕ) → Consumes from from' (concat pieces)
+      → Shows width words pieces bytes → AppendsPrefix out out' bytes → IfSome from (λ t. ShowsPrefix width words t out out')
+  stopped-in from' out' pieces bytes taken shows prefix =
+      IfSome_then from (prefix-of from from' (concat pieces) taken) (λ t starts. (pieces, starts, (bytes, shows, prefix)))
 
   module _ (from' out' : Option (List ℕ)) (input : Input) (last : List ℕ)
       (h : Follows width words from from' out out' input last) where
+    shows : Shows width words h.pieces h.bytes
+    shows = shows-is width words h.pieces last h.bytes h.state
+
     -- nothing was read
     pub stays : (from'' : Option (List ℕ)) → Keeps from' from'' → Follows width words from from'' out out' input last
     stays from'' kept = record {
       pieces = h.pieces;
+      bytes = h.bytes;
       arrived = h.arrived;
       taken = Consumes-kept from from' from'' (concat h.pieces) h.taken kept;
-      last-is = h.last-is;
+      state = h.state;
       shown-is = h.shown-is;
     }
 
@@ -74,67 +163,68 @@ module _ (width : Option ℕ) (words : Words) (from out : Option (List ℕ)) whe
       pub all-arrived : IfSome from (λ t. HasArrived words input t)
       all-arrived = IfSome_then from all-read (λ t is. subst (HasArrived words input) is h.arrived)
 
-      pub all-shown : width ≡ None → (out'' : Option (List ℕ)) → Keeps out' out'' → IfSome from (λ t. ShowsAll words t out out'')
-      all-shown none out'' kept =
-          IfSome_then from all-read (λ t is. (h.pieces, is, appends-kept out out' out'' _ (h.shown-is none) kept))
+      pub all-shown : IfSome from (λ t. ShowsAll width words t out out')
+      all-shown = IfSome_then from all-read (λ t is. (h.pieces, is, (h.bytes, shows, h.shown-is)))
 
     -- no more is read
-    pub stopped : width ≡ None → (out'' : Option (List ℕ)) → Keeps out' out'' → IfSome from (λ t. ShowsPrefix words t out out'')
-    stopped none out'' kept =
-        let all = shown words h.pieces in
-        let whole = appends-kept out out' out'' all (h.shown-is none) kept in
-        stopped-in from' out'' h.pieces h.taken (length all, subst (Appends out out'') (sym (take-length all)) whole)
+    pub stopped : (out'' : Option (List ℕ)) → Keeps out' out'' → IfSome from (λ t. ShowsPrefix width words t out out'')
+    stopped out'' kept =
+        let whole = appends-kept out out' out'' h.bytes h.shown-is kept in
+        stopped-in from' out'' h.pieces h.bytes h.taken shows
+        (length h.bytes, subst (Appends out out'') (sym (take-length h.bytes)) whole)
 
     module _ (from'' : Option (List ℕ)) (piece : List ℕ) (read : Consumes from' from'' piece) where
-      abbrev line : Option (List ℕ)
-      line = line_at words (concat h.pieces ++ piece)
-
       abbrev pieces : List (List ℕ)
       pieces = h.pieces ++ piece ∷ []
 
       joined : concat h.pieces ++ piece ≡ concat pieces
-      joined = sym (concat-append h.pieces (piece ∷ []) ∙ ap (λ l. concat h.pieces ++ l) (append-nil piece))
+      joined = sym (one-more h.pieces piece)
 
       taken-then : Consumes from from'' (concat pieces)
       taken-then =
           subst (Consumes from from'') joined
           (Consumes-trans from from' from'' (concat h.pieces) piece h.taken read)
 
-      lines-then : lines_of words pieces ≡ lines_of words h.pieces ++ if_any line
-      lines-then = lines-more words h.pieces piece
-
-      shown-then : width ≡ None → shown words pieces ≡ shown words h.pieces ++ new_line last line
-      shown-then none =
-          ap (λ l. concat (dedup bytes_eq l)) lines-then ∙ shown-more (lines_of words h.pieces) line
-          ∙ ap (λ l. shown words h.pieces ++ new_line l line) (sym (h.last-is none))
-
-      last-then : width ≡ None → last_of [] (lines_of words pieces) ≡ last_line last line
-      last-then none =
-          ap (last_of []) lines-then ∙ last-more [] (lines_of words h.pieces) line
-          ∙ ap (λ l. last_line l line) (sym (h.last-is none))
-
       -- what stands then is shown
       pub goes-on : (input' : Input) → HasArrived words input' (concat h.pieces ++ piece)
-          → (out'' : Option (List ℕ)) (last' : List ℕ) → (width ≡ None → Appends out' out'' (new_line last line))
-          → (width ≡ None → last' ≡ last_line last line)
-          → Follows width words from from'' out out'' input' last'
-      goes-on input' more-arrived out'' last' more is = record {
+          → (out'' : Option (List ℕ)) (new : List ℕ) → WritesChange width words (concat h.pieces ++ piece) last new out' out''
+          → Follows width words from from'' out out'' input' new
+      goes-on input' more-arrived out'' new wrote = record {
         pieces = pieces;
+        bytes = h.bytes ++ wrote.0;
         arrived = subst (HasArrived words input') joined more-arrived;
         taken = taken-then;
-        last-is = λ none. is none ∙ sym (last-then none);
-        shown-is = λ none.
-            subst (Appends out out'') (sym (shown-then none)) (Appends-trans out out' out'' _ _ (h.shown-is none) (more none));
+        state = state-then width words h.pieces last h.bytes piece new wrote.0 h.state wrote.1;
+        shown-is = Appends-trans out out' out'' _ _ h.shown-is wrote.2;
       }
 
       -- a prefix of it is
-      pub breaks-off : width ≡ None → (out'' : Option (List ℕ)) → AppendsPrefix out' out'' (new_line last line)
-          → IfSome from (λ t. ShowsPrefix words t out out'')
-      breaks-off none out'' more =
-          let before = shown words h.pieces in
-          let is : take (length before + more.0) (shown words pieces) ≡ before ++ take more.0 (new_line last line) =
-          ap (take (length before + more.0)) (shown-then none) ∙ take-append-add before (new_line last line) more.0 in
-          stopped-in from'' out'' pieces taken-then (
-            length before + more.0,
-            subst (Appends out out'') (sym is) (Appends-trans out out' out'' _ _ (h.shown-is none) more.1),
+      pub breaks-off : (out'' : Option (List ℕ)) → BreaksOff width words (concat h.pieces ++ piece) last out' out''
+          → IfSome from (λ t. ShowsPrefix width words t out out'')
+      breaks-off out'' (inl kept) = stopped out'' kept
+      breaks-off out'' (inr (new, (more, changes, prefix))) =
+          let state = state-then width words h.pieces last h.bytes piece new more h.state changes in
+          stopped-in from'' out'' pieces (h.bytes ++ more) taken-then
+          (shows-is width words pieces new (h.bytes ++ more) state) (
+            length h.bytes + prefix.0,
+            subst (Appends out out'') (sym (take-append-add h.bytes more prefix.0))
+                (Appends-trans out out' out'' _ _ h.shown-is prefix.1),
           )
+
+pub if-ok : {T E P Q : Type 0} (r : Result T E) → OnOk r P → (P → Q) → OnOk r Q
+if-ok (Ok x) p f = f p
+if-ok (Err e) p f = tt
+
+-- A line that was written, or a prefix of it.
+pub line-written : {T E : Type 0} (r : Result T E) (items : T → List ℕ) (words : Words) (t last : List ℕ)
+    (out out' : Option (List ℕ)) → IfOk r (λ x. items x ≡ last_line last (line_at words t))
+    → OnOk r (Appends out out' (new_line last (line_at words t)))
+    → IfOk r (λ x. WritesChange None words t last (items x) out out')
+line-written (Ok x) items words t last out out' is wrote = (new_line last (line_at words t), (is, refl), wrote)
+line-written (Err e) items words t last out out' is wrote = tt
+
+pub line-broken : {T E : Type 0} (r : Result T E) (words : Words) (t last : List ℕ) (out out' : Option (List ℕ))
+    → OnErr r (AppendsPrefix out out' (new_line last (line_at words t))) → OnErr r (BreaksOff None words t last out out')
+line-broken (Ok x) words t last out out' prefix = tt
+line-broken (Err e) words t last out out' prefix =
+    inr (last_line last (line_at words t), (new_line last (line_at words t), (refl, refl), prefix))

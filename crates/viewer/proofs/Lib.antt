@@ -1,6 +1,7 @@
 mod Drawing
 mod Following
 mod Lines
+mod Plain
 mod Split
 mod StringEnd
 mod Told

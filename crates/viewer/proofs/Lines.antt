@@ -8,7 +8,7 @@ use Rattle.std.proofs.lemmas.Grind.{flat_map-append}
 use Rattle.std.proofs.lemmas.List.Folds.{concat-append}
 use Rattle.std.proofs.lemmas.Slice.Eq.{bytes_eq-Decides}
 use Rattle.viewer.specs.Shown.{prefixes, if_any, last_line, lines_at, lines_of, new_line}
-use Rattle.viewer.specs.declared.words.Words.{Words}
+use Rattle.viewer.specs.declared.input.Words.{Words}
 
 -- the last of some lines, where there is one
 abbrev pub last_of : List ℕ → List (List ℕ) → List ℕ

@@ -51,8 +51,8 @@ either P false x y p q = q
 
 joins : (place : Place) (depth : ℕ) (p : Parts) (b : ℕ) → Ordered place p → Joins place p b (step_by place depth b)
 joins Before depth p b o =
-    either (Joins Before p b) (is_open b) (at Between 1) (at Before 0)
-    (inside-joins p (at Between 1) b o.1, o.1) (before-joins p (at Before 0) b o.0 o.1, o)
+    either (Joins Before p b) (is_open b) (at Between 1) (at Before depth)
+    (inside-joins p (at Between 1) b o.1, o.1) (before-joins p (at Before depth) b o.0 o.1, o)
 joins Between depth p b o =
     let inside : (e : Extent) → whole (with_inside p e b) ≡ whole p ++ b ∷ [] = λ e. inside-joins p e b o in
     let e0 = at Quoted depth in
@@ -76,7 +76,7 @@ joins Quoted depth p b o =
     let rest : Joins Quoted p b x1 = either (Joins Quoted p b) (b == 92) e1 e2 (inside e1, o) (inside e2, o) in
     either (Joins Quoted p b) (b == 34) e0 x1 (inside e0, o) rest
 joins Escaped depth p b o = (inside-joins p (at Quoted depth) b o, o)
-joins After depth p b o = (after-joins p (at After 0) b, tt)
+joins After depth p b o = (after-joins p (at After depth) b, tt)
 
 part-extent : (old new : Place) (p : Parts) (e : Extent) (b : ℕ) → (part_by old new p e b).extent ≡ e
 part-extent Before Before p e b = refl

@@ -14,7 +14,7 @@ use Rattle.viewer.specs.Shown.{document_error, EndsAs, error_of, Finishes, has_m
 use Rattle.viewer.specs.Shown.{ShowsAll, ShowsPrefix, Tells}
 use Rattle.viewer.specs.Shown.{value_line}
 use Rattle.viewer.specs.declared.view.Settings.{Settings}
-use Rattle.viewer.specs.declared.words.Words.{Words}
+use Rattle.viewer.specs.declared.input.Words.{Words}
 
 -- the line of a prefix of an array or object
 pub cut-shown : (words : Words) → is_active words.mode ≡ true → (prefix : List ℕ)
@@ -88,7 +88,7 @@ half-told (Err e) is name t o x same err err' text told prefix =
 
 -- all was shown, and then the fault
 pub ran : {E : Type 0} (settings : Settings) (from out out' err err' : Option (List ℕ)) (end : Result Bool E)
-    → IfSome from (λ t. ShowsAll settings.words t out out') → IfSome from (λ t. Finishes settings t end err err')
+    → IfSome from (λ t. ShowsAll settings.width settings.words t out out') → IfSome from (λ t. Finishes settings t end err err')
     → IfSome from (λ t. Ran settings t end out out' err err')
 ran settings None out out' err err' end shown told = tt
 ran settings (Some t) out out' err err' (Ok whole) shown told = (shown, told)
@@ -96,7 +96,7 @@ ran settings (Some t) out out' err err' (Err e) shown told = inl (shown, told)
 
 -- not all was read, or shown
 pub broke-off : {E : Type 0} (settings : Settings) (from out out' err : Option (List ℕ))
-    (end : Result Bool E) → IsErr end → IfSome from (λ t. ShowsPrefix settings.words t out out')
+    (end : Result Bool E) → IsErr end → IfSome from (λ t. ShowsPrefix settings.width settings.words t out out')
     → IfSome from (λ t. Ran settings t end out out' err err)
 broke-off settings from out out' err (Ok whole) is prefix = absurd (cc)
 broke-off settings from out out' err (Err e) is prefix = IfSome_then from prefix (λ t h. inr (h, Keeps-refl err))

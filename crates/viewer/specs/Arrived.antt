@@ -3,7 +3,7 @@ use Rattle.std.specs.Prelude.{◌≡◌, List, ℕ}
 use Rattle.jiter_incremental.specs.Caller.{HasReceived, Received}
 use Rattle.viewer.specs.Parts.{inside_of, parts, parts_of}
 use Rattle.viewer.specs.declared.input.Input.{Input}
-use Rattle.viewer.specs.declared.words.Words.{Words}
+use Rattle.viewer.specs.declared.input.Words.{Words}
 
 -- The bytes t are read as the words ask: their value so far is held.
 pub record ReadsAs (words : Words) (document : Received) (t : List ℕ) : Type 0 where

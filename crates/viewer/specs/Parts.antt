@@ -16,8 +16,8 @@ abbrev pub at : Place → ℕ → Extent
 at place depth = record { place = place; depth = depth }
 
 -- the document begins at the first `[` or `{`
-abbrev pub after_before : ℕ → Extent
-after_before b = if is_open b then at Between 1 else at Before 0
+abbrev pub after_before : ℕ → ℕ → Extent
+after_before depth b = if is_open b then at Between 1 else at Before depth
 
 -- and ends at the bracket after which none is open
 abbrev pub after_between : ℕ → ℕ → Extent
@@ -32,11 +32,11 @@ abbrev pub after_quoted : ℕ → ℕ → Extent
 after_quoted depth b = if b == 34 then at Between depth else (if b == 92 then at Escaped depth else at Quoted depth)
 
 abbrev pub step_by : Place → ℕ → ℕ → Extent
-step_by Before depth b = after_before b
+step_by Before depth b = after_before depth b
 step_by Between depth b = after_between depth b
 step_by Quoted depth b = after_quoted depth b
 step_by Escaped depth b = at Quoted depth
-step_by After depth b = at After 0
+step_by After depth b = at After depth
 
 abbrev pub step : Extent → ℕ → Extent
 step e b = step_by e.place e.depth b

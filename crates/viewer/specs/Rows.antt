@@ -1,11 +1,15 @@
 -- Bytes as rows of a terminal.
-use Rattle.std.specs.Prelude.{◌≡◌, ℕ, ◌-◌, ◌^◌, ◌==◌, ◌||◌, ◌≤◌, Bool, true, false, List, [], ◌∷◌, ◌++◌, chars, codes, nat_lt}
-use Rattle.std.specs.Prelude.{if◌then◌else◌, string_bytes}
+use Rattle.std.specs.Prelude.{ℕ, zero, suc, ◌+◌, ◌-◌, ◌/◌, ◌%◌, ◌^◌, ◌==◌, ◌||◌, Bool, false, List, [], ◌∷◌, ◌++◌, chars, codes}
+use Rattle.std.specs.Prelude.{drop, if◌then◌else◌, length, nat_lt, reverse, string_bytes, take}
 use Rattle.std.specs.Char.{encode_utf8}
 use Rattle.std.specs.Fmt.{digits, format_spec, padded_integral}
 use Rattle.std.specs.Int.{is_in_range}
-use Rattle.std.specs.List.{fold, list_all}
+use Rattle.std.specs.List.{fold}
 use Rattle.std.specs.Str.Lossy.{utf8_lossy}
+use Rattle.jiter.specs.Caller.{Reading, done, fault, Tree, answer_in}
+use Rattle.jiter_print.specs.Layout.{pretty_of}
+use Rattle.viewer.specs.Parts.{is_close, Parts, parts_of}
+use Rattle.viewer.specs.declared.input.Words.{Words}
 use Rattle.viewer.specs.declared.screen.Rows.{Rows}
 
 -- control characters, DEL, C1 controls, and the marks that turn the direction of text
@@ -17,9 +21,13 @@ is_hidden c =
 abbrev pub columns_of : ℕ → ℕ
 columns_of c = if is_hidden c then 6 else (if nat_lt c 2048 then 1 else 2)
 
+-- a number below 256 as two hexadecimal digits
+abbrev pub two_digits : ℕ → List ℕ
+two_digits n = padded_integral (format_spec 32 0 4 2 (2 ^ 64 - 1)) false [] (digits 16 false n)
+
 -- `\u` and four hexadecimal digits
 abbrev pub escape_of : ℕ → List ℕ
-escape_of c = codes "\\u" ++ padded_integral (format_spec 32 0 4 4 (2 ^ 64 - 1)) false [] (digits 16 false c)
+escape_of c = codes "\\u" ++ (two_digits (c / 256) ++ two_digits (c % 256))
 
 abbrev pub shown_char : ℕ → List ℕ
 shown_char c = if is_hidden c then escape_of c else encode_utf8 c
@@ -57,18 +65,48 @@ empty_row width = record { text = []; left = width }
 abbrev pub mark : List ℕ
 mark = 226 ∷ 128 ∷ 166 ∷ []
 
--- a closing bracket, or whitespace of a value's text
-abbrev pub is_closing : ℕ → Bool
-is_closing b = b == 93 || b == 125 || b == 32 || b == 10
+-- a space or a line feed
+abbrev pub is_blank : ℕ → Bool
+is_blank b = b == 32 || b == 10
 
--- The text of a value too: if containers are open, with the mark in front of some of its closing brackets.
-pub record PutsMarked (width : ℕ) (r : Filled) (text : List ℕ) (r' : Filled) : Type 0 where
-  pub head : List ℕ
-  pub tail : List ℕ
-  pub parts : text ≡ head ++ tail
-  pub closing : list_all is_closing tail ≡ true
-  pub puts : r' ≡ put_bytes width (put_bytes width (put_bytes width r head) mark) tail
+-- how many bytes of a text, from its last one back, are its last closing brackets, with the whitespace before each
+abbrev pub closers : ℕ → List ℕ → ℕ
+closers depth [] = 0
+closers zero (b ∷ bs) = if is_blank b then 1 + closers zero bs else 0
+closers (suc depth) (b ∷ bs) =
+    if is_blank b then 1 + closers (suc depth) bs else (if is_close b then 1 + closers depth bs else 0)
 
-abbrev pub PutsValue : ℕ → ℕ → Filled → List ℕ → Filled → Type 0
-PutsValue depth width r text r' =
-    (depth ≡ 0 → r' ≡ put_bytes width r text) × (1 ≤ depth → PutsMarked width r text r')
+-- where they begin: the open place of a value in which so many containers are open
+abbrev pub open_place : ℕ → List ℕ → ℕ
+open_place depth text = length text - closers depth (reverse text)
+
+-- the text of a value, with the mark at its open place
+abbrev pub put_marked : ℕ → ℕ → Filled → List ℕ → Filled
+put_marked depth width r text =
+    let place = open_place depth text in
+    put_bytes width (put_bytes width (put_bytes width r (take place text)) mark) (drop place text)
+
+-- no mark in a complete value
+abbrev pub put_value : ℕ → ℕ → Filled → List ℕ → Filled
+put_value width zero r text = put_bytes width r text
+put_value width (suc depth) r text = put_marked (suc depth) width r text
+
+-- the pretty text of what was read; what has an error stays as it is
+abbrev pub put_reading : ℕ → ℕ → Filled → List ℕ → Reading Tree → Filled
+put_reading width depth r t (done v e) = put_value width depth r (pretty_of 2 v)
+put_reading width depth r t (fault k i stop) = put_bytes width r t
+
+-- the last row ends too, if it is not empty
+abbrev pub ended : ℕ → Filled → Filled
+ended width r = if nat_lt r.left width then new_row width r else r
+
+-- the text before the document, the document's value so far, and the text after it
+abbrev pub put_parts : Words → ℕ → Parts → Filled
+put_parts words width p =
+    let value = answer_in words.inf_nan words.mode p.inside in
+    let before = put_bytes width (empty_row width) p.before in
+    put_bytes width (put_reading width p.extent.depth before p.inside value) p.after
+
+-- the rows of an input so far
+abbrev pub rows_of : Words → ℕ → List ℕ → List ℕ
+rows_of words width t = (ended width (put_parts words width (parts_of t))).text

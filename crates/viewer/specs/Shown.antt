@@ -1,6 +1,6 @@
 -- What is shown of an input that arrives in pieces.
-use Rattle.std.specs.Prelude.{◌≡◌, ◌⊎◌, ◌+◌, ℕ, Bool, true, false, List, [], ◌∷◌, ◌++◌, bytes_eq, if◌then◌else◌, codes, decimal}
-use Rattle.std.specs.Prelude.{length, nat_eq, string_bytes, Option, Some, None, Result, Ok, Err}
+use Rattle.std.specs.Prelude.{◌≡◌, ◌⊎◌, ◌+◌, ◌≤◌, ℕ, Bool, true, false, List, [], ◌∷◌, ◌++◌, bytes_eq, if◌then◌else◌, codes, decimal}
+use Rattle.std.specs.Prelude.{length, nat_eq, string_bytes, take, Option, Some, None, Result, Ok, Err}
 use Rattle.std.specs.List.{concat, dedup, flat_map, starts_with}
 use Rattle.std.specs.Io.{StartsWith}
 use Rattle.std.specs.Io.KnownBytes.{Appends, Keeps}
@@ -9,9 +9,11 @@ use Rattle.jiter.specs.Caller.{IsBegunContainer, IsDocument, Node}
 use Rattle.jiter_print.specs.Print.{print_of, with_line_feed}
 use Rattle.jiter_print.specs.Written.{AppendsPrefix}
 use Rattle.viewer.specs.Parts.{inside_of, parts_of}
+use Rattle.viewer.specs.Rows.{rows_of}
+use Rattle.viewer.specs.Terminal.{IsPlain, Redraws}
 use Rattle.viewer.specs.declared.view.Cause.{Cause}
 use Rattle.viewer.specs.declared.view.Settings.{Settings}
-use Rattle.viewer.specs.declared.words.Words.{Words}
+use Rattle.viewer.specs.declared.input.Words.{Words}
 
 -- the line of what was read, if it is a value
 abbrev pub value_line : Reading Tree → Option (List ℕ)
@@ -52,14 +54,44 @@ lines_of words pieces = flat_map (lines_at words) (prefixes [] pieces)
 abbrev pub shown : Words → List (List ℕ) → List ℕ
 shown words pieces = concat (dedup bytes_eq (lines_of words pieces))
 
+-- On a terminal: each read writes something, and after each the screen ends with the rows of what has been read.
+pub record ShowsRows (words : Words) (width : ℕ) (pieces writes : List (List ℕ)) : Type 0 where
+  pub count : length writes ≡ length pieces
+  pub rows : (n : ℕ) → 1 ≤ n → n ≤ length pieces
+      → Redraws [] (rows_of words width (concat (take n pieces))) (concat (take n writes))
+
+-- what is written for an input that is read in these pieces: lines, or rows of a width
+abbrev pub Shows : Option ℕ → Words → List (List ℕ) → List ℕ → Type 0
+Shows None words pieces bytes = bytes ≡ shown words pieces
+Shows (Some width) words pieces bytes =
+    (writes : List (List ℕ)) × ShowsRows words width pieces writes × (bytes ≡ concat writes)
+
 -- all that is shown of an input, as it came in some pieces
-abbrev pub ShowsAll : Words → List ℕ → Option (List ℕ) → Option (List ℕ) → Type 0
-ShowsAll words t out out' = (pieces : List (List ℕ)) × (concat pieces ≡ t) × Appends out out' (shown words pieces)
+abbrev pub ShowsAll : Option ℕ → Words → List ℕ → Option (List ℕ) → Option (List ℕ) → Type 0
+ShowsAll width words t out out' =
+    (pieces : List (List ℕ)) × (concat pieces ≡ t)
+    × ((bytes : List ℕ) × Shows width words pieces bytes × Appends out out' bytes)
 
 -- a prefix of what is shown of a prefix of an input
-abbrev pub ShowsPrefix : Words → List ℕ → Option (List ℕ) → Option (List ℕ) → Type 0
-ShowsPrefix words t out out' =
-    (pieces : List (List ℕ)) × StartsWith t (concat pieces) × AppendsPrefix out out' (shown words pieces)
+abbrev pub ShowsPrefix : Option ℕ → Words → List ℕ → Option (List ℕ) → Option (List ℕ) → Type 0
+ShowsPrefix width words t out out' =
+    (pieces : List (List ℕ)) × StartsWith t (concat pieces)
+    × ((bytes : List ℕ) × Shows width words pieces bytes × AppendsPrefix out out' bytes)
+
+-- What a read writes, where `old` was shown before: the new line, or what turns the old rows into the new ones.
+abbrev pub Changes : Option ℕ → Words → List ℕ → List ℕ → List ℕ → List ℕ → Type 0
+Changes None words t old new bytes = (new ≡ last_line old (line_at words t)) × (bytes ≡ new_line old (line_at words t))
+Changes (Some width) words t old new bytes = (new ≡ rows_of words width t) × (IsPlain old → Redraws old new bytes)
+
+abbrev pub WritesChange : Option ℕ → Words → List ℕ → List ℕ → List ℕ → Option (List ℕ) → Option (List ℕ) → Type 0
+WritesChange width words t old new out out' =
+    (bytes : List ℕ) × Changes width words t old new bytes × Appends out out' bytes
+
+-- nothing of it, or a prefix
+abbrev pub BreaksOff : Option ℕ → Words → List ℕ → List ℕ → Option (List ℕ) → Option (List ℕ) → Type 0
+BreaksOff width words t old out out' =
+    Keeps out out'
+    ⊎ ((new : List ℕ) × ((bytes : List ℕ) × Changes width words t old new bytes × AppendsPrefix out out' bytes))
 
 -- a byte order mark
 abbrev pub has_mark : List ℕ → Bool
@@ -109,7 +141,7 @@ Finishes settings t end err err' =
 abbrev pub ShowsWhole : {E : Type 0} → Settings → List ℕ → Result Bool E → Option (List ℕ) → Option (List ℕ)
     → Option (List ℕ) → Option (List ℕ) → Type 0
 ShowsWhole settings t end out out' err err' =
-    ShowsAll settings.words t out out' × Finishes settings t end err err'
+    ShowsAll settings.width settings.words t out out' × Finishes settings t end err err'
 
 -- what a run over these bytes leaves in both writers
 abbrev pub Ran : {E : Type 0} → Settings → List ℕ → Result Bool E → Option (List ℕ) → Option (List ℕ)
@@ -117,7 +149,7 @@ abbrev pub Ran : {E : Type 0} → Settings → List ℕ → Result Bool E → Op
 Ran {E = E} settings t (Ok whole) out out' err err' = ShowsWhole {E = E} settings t (Ok whole) out out' err err'
 Ran settings t (Err e) out out' err err' =
     ShowsWhole settings t (Err e) out out' err err'
-    ⊎ (ShowsPrefix settings.words t out out' × Keeps err err')
+    ⊎ (ShowsPrefix settings.width settings.words t out out' × Keeps err err')
 
 -- the end tells whether the input has a document, and no byte order mark
 abbrev pub EndsAs : {E : Type 0} → Bool → List ℕ → Result Bool E → Type 0

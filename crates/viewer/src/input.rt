@@ -1,12 +1,21 @@
 //! Which bytes of the input are the document.
 ghost use Rattle.std.specs.Prelude.{◌≡◌, ◌++◌, [], IfOk, List, ℕ, OnOk};
 ghost use Rattle.viewer.specs.Arrived.{HasArrived};
-ghost use Rattle.viewer.specs.Parts.{Grows, after_before, after_between, after_quoted, at, is_close, is_open, part_step, parts, step};
-ghost use Rattle.viewer.specs.declared.words.Words.{Words};
+ghost use Rattle.viewer.specs.Parts.{Grows, at, part_step, parts, step};
+ghost use Rattle.viewer.specs.declared.input.Words.{Words};
 
-use crate::words::Words;
+use jiter::PartialMode;
 use jiter_incremental::IncrementalParser;
 use std::alloc::{AllocError, Global};
+
+/// How a document is read.
+#[derive(Debug, Clone, Copy, PartialEq, Eq)]
+pub struct Words {
+    /// How a truncated document is read; never `Off`.
+    pub mode: PartialMode,
+    /// Whether `NaN`, `Infinity` and `-Infinity` are numbers.
+    pub inf_nan: bool,
+}
 
 /// Where the next byte of the input is.
 #[derive(Debug, Clone, Copy, PartialEq, Eq)]
@@ -32,60 +41,10 @@ pub struct Extent {
     pub depth: usize,
 }
 
-fn is_open(byte: u8) -> bool
-    ensures { result ≡ is_open byte }
-{
-    byte == b'[' || byte == b'{'
-}
-
-fn is_close(byte: u8) -> bool
-    ensures { result ≡ is_close byte }
-{
-    byte == b']' || byte == b'}'
-}
-
 fn at(place: Place, depth: usize) -> Extent
     ensures { result ≡ at place depth }
 {
     Extent { place, depth }
-}
-
-fn before(byte: u8) -> Extent
-    ensures { result ≡ after_before byte }
-{
-    if is_open(byte) {
-        at(Place::Between, 1)
-    } else {
-        at(Place::Before, 0)
-    }
-}
-
-fn between(depth: usize, byte: u8) -> Extent
-    ensures { result ≡ after_between depth byte }
-{
-    if byte == b'"' {
-        at(Place::Quoted, depth)
-    } else if is_open(byte) {
-        at(Place::Between, depth.saturating_add(1))
-    } else if !is_close(byte) {
-        at(Place::Between, depth)
-    } else if depth > 1 {
-        at(Place::Between, depth - 1)
-    } else {
-        at(Place::After, 0)
-    }
-}
-
-fn quoted(depth: usize, byte: u8) -> Extent
-    ensures { result ≡ after_quoted depth byte }
-{
-    if byte == b'"' {
-        at(Place::Between, depth)
-    } else if byte == b'\\' {
-        at(Place::Escaped, depth)
-    } else {
-        at(Place::Quoted, depth)
-    }
 }
 
 impl Extent {
@@ -96,12 +55,19 @@ impl Extent {
     pub fn step(self, byte: u8) -> Extent
         ensures { result ≡ step self byte }
     {
+        let depth = self.depth;
+        let opens = byte == b'[' || byte == b'{';
+        let closes = byte == b']' || byte == b'}';
         match self.place {
-            Place::Before => before(byte),
-            Place::Between => between(self.depth, byte),
-            Place::Quoted => quoted(self.depth, byte),
-            Place::Escaped => at(Place::Quoted, self.depth),
-            Place::After => at(Place::After, 0),
+            Place::Before if opens => at(Place::Between, 1),
+            Place::Between if byte == b'"' => at(Place::Quoted, depth),
+            Place::Between if opens => at(Place::Between, depth.saturating_add(1)),
+            Place::Between if closes && depth > 1 => at(Place::Between, depth - 1),
+            Place::Between if closes => at(Place::After, 0),
+            Place::Quoted if byte == b'"' => at(Place::Between, depth),
+            Place::Quoted if byte == b'\\' => at(Place::Escaped, depth),
+            Place::Escaped => at(Place::Quoted, depth),
+            place => at(place, depth),
         }
     }
 }
@@ -144,8 +110,7 @@ impl Input {
         for byte in piece {
             self.take_byte(*byte)?;
         }
-        self.document.push(&self.inside[count..])?;
-        Ok(())
+        self.document.push(&self.inside[count..])
     }
 
     /// Returns all bytes of the input.
@@ -166,12 +131,9 @@ impl Input {
     {
         let old = self.extent.place;
         self.extent = self.extent.step(byte);
-        match old {
-            Place::After => self.after.push(byte)?,
-            Place::Before => match self.extent.place {
-                Place::Before => self.before.push(byte)?,
-                _ => self.inside.push(byte)?,
-            },
+        match (old, self.extent.place) {
+            (Place::Before, Place::Before) => self.before.push(byte)?,
+            (Place::After, _) => self.after.push(byte)?,
             _ => self.inside.push(byte)?,
         }
         Ok(())

@@ -4,16 +4,15 @@
 mod input;
 mod screen;
 mod view;
-mod words;
 
 use clap::{Arg, ArgAction, ArgMatches, Command};
+use input::Words;
 use jiter::PartialMode;
 use std::alloc::{AllocError, Global};
 use std::io::{ErrorKind, IsTerminal, Read};
 use std::process::ExitCode;
 use std::{env, fs, io};
 use view::{Settings, run};
-use words::Words;
 
 const ABOUT: &str =
     "Shows a JSON document while it is read, for example a model's answer. On a terminal it is shown \
@@ -65,36 +64,25 @@ fn show<R: Read + Drop>(
     mut reader: R,
 ) -> io::Result<bool> {
     let mut out = rt.stdout();
-    let mode = if matches.get_flag("strings") {
-        PartialMode::TrailingStrings
-    } else {
-        PartialMode::On
+    let mode = match matches.get_flag("strings") {
+        true => PartialMode::TrailingStrings,
+        false => PartialMode::On,
     };
-    let words = Words {
-        mode,
-        inf_nan: matches.get_flag("non-finite"),
+    let inf_nan = matches.get_flag("non-finite");
+    let width = match matches.get_flag("lines") || !out.is_terminal() {
+        true => None,
+        false => Some(width(rt)),
     };
-    let is_lines = matches.get_flag("lines") || !out.is_terminal();
     let settings = Settings {
         name,
-        words,
-        width: if is_lines { None } else { Some(width(rt)) },
+        words: Words { mode, inf_nan },
+        width,
     };
-    run(
-        rt.alloc(),
-        settings,
-        &mut reader,
-        &mut out,
-        &mut rt.stderr(),
-    )
+    let mut err = rt.stderr();
+    run(rt.alloc(), settings, &mut reader, &mut out, &mut err)
 }
 
-fn show_file(rt: &HostRuntime, matches: &ArgMatches<'_>, path: &str) -> io::Result<bool> {
-    let file = fs::open(rt, path)?;
-    show(rt, matches, path, file)
-}
-
-// A closed pipe is no news to who closed it.
+// Returns the exit status. A closed pipe is no news to who closed it.
 fn report(rt: &HostRuntime, name: &str, error: &io::Error) -> u8 {
     if error.kind() != ErrorKind::BrokenPipe {
         let _ = eprintln!(rt; "viewer: {name}: {error}");
@@ -102,27 +90,24 @@ fn report(rt: &HostRuntime, name: &str, error: &io::Error) -> u8 {
     3
 }
 
+fn show_input(rt: &HostRuntime, matches: &ArgMatches<'_>) -> io::Result<bool> {
+    match matches.get_str("file") {
+        Some(path) => show(rt, matches, path, fs::open(rt, path)?),
+        None => show(rt, matches, "<stdin>", rt.stdin()),
+    }
+}
+
 fn status(rt: &HostRuntime) -> io::Result<u8> {
     let words: Vec<String> = env::args(rt)?.collect(rt.alloc())?;
-    let command = command(rt.alloc())?;
-    match command.try_get_matches_from(words.as_slice()) {
-        Ok(matches) => Ok(shown(rt, &matches)),
+    match command(rt.alloc())?.try_get_matches_from(words.as_slice()) {
+        Ok(matches) => match show_input(rt, &matches) {
+            Ok(is_document) => Ok(!is_document as u8),
+            Err(error) => Ok(report(rt, matches.get_str("file").unwrap_or("<stdin>"), &error)),
+        },
         Err(error) => {
             error.print(rt)?;
             Ok(error.exit_code() as u8)
         }
-    }
-}
-
-fn shown(rt: &HostRuntime, matches: &ArgMatches<'_>) -> u8 {
-    let name = matches.get_str("file").unwrap_or("<stdin>");
-    let is_document = match matches.get_str("file") {
-        Some(path) => show_file(rt, matches, path),
-        None => show(rt, matches, name, rt.stdin()),
-    };
-    match is_document {
-        Ok(is_document) => !is_document as u8,
-        Err(error) => report(rt, name, &error),
     }
 }
 

@@ -1,8 +1,8 @@
 //! What is on the screen, and what is written to change it.
-ghost use Rattle.std.specs.Prelude.{◌≡◌, ◌+◌, ◌++◌, ◌≤◌, [], true, chars, IfOk, List, ℕ, OnOk, drop, length, take, string_bytes};
+ghost use Rattle.std.specs.Prelude.{◌≡◌, ◌-◌, ◌++◌, ◌≤◌, chars, IfOk, List, ℕ, OnOk, length, reverse, take};
 ghost use Rattle.std.specs.Int.{is_in_range};
-ghost use Rattle.std.specs.List.{fold, list_all};
-ghost use Rattle.viewer.specs.Rows.{PutsValue, columns_of, empty_row, filled, is_closing, is_hidden, new_row, put_bytes, put_char};
+ghost use Rattle.std.specs.List.{fold};
+ghost use Rattle.viewer.specs.Rows.{closers, columns_of, empty_row, ended, filled, is_hidden, new_row, put_bytes, put_char, put_marked};
 ghost use Rattle.viewer.specs.Terminal.{IsPlain, IsWholeRows, Redraws, ups};
 
 use std::alloc::{AllocError, Global};
@@ -40,12 +40,10 @@ fn is_within(c: char, first: char, last: char) -> bool
 fn columns_of(c: char) -> usize
     ensures { result ≡ columns_of c }
 {
-    if is_hidden(c) {
-        6
-    } else if c < '\u{800}' {
-        1
-    } else {
-        2
+    match c {
+        c if is_hidden(c) => 6,
+        c if c < '\u{800}' => 1,
+        _ => 2,
     }
 }
 
@@ -61,6 +59,8 @@ pub struct Rows {
     pub left: usize,
     /// The columns of a row.
     pub width: usize,
+    /// Where the text is dim from.
+    pub mark: usize,
 }
 
 impl Rows {
@@ -73,6 +73,7 @@ impl Rows {
             text: String::new(alloc),
             left: width,
             width,
+            mark: usize::MAX,
         }
     }
 
@@ -83,15 +84,7 @@ impl Rows {
         ensures width { self.new.width ≡ self.old.width }
     {
         let text = String::from_utf8_lossy(alloc, bytes)?;
-        self.append_text(alloc, text.as_str())
-    }
-
-    fn append_text(&mut self, alloc: Global, text: &str) -> Result<(), AllocError>
-        ensures rows { OnOk result
-            (filled self.new ≡ fold (put_char self.old.width) (filled self.old) (chars text.now)) }
-        ensures width { self.new.width ≡ self.old.width }
-    {
-        for c in text.chars() {
+        for c in text.as_str().chars() {
             self.push(alloc, c)?;
         }
         Ok(())
@@ -101,21 +94,19 @@ impl Rows {
         ensures rows { OnOk result (filled self.new ≡ put_char self.old.width (filled self.old) c) }
         ensures width { self.new.width ≡ self.old.width }
     {
+        let columns = columns_of(c);
         if c == '\n' {
             return self.break_row();
-        }
-        if c == '\r' {
+        } else if c == '\r' {
             return Ok(());
-        }
-        let columns = columns_of(c);
-        if self.left < columns {
+        } else if self.left < columns {
             self.break_row()?;
         }
         self.left = self.left.saturating_sub(columns);
         if is_hidden(c) {
-            return self
-                .text
-                .push_str(format!(in alloc; "\\u{:04x}", c as u32)?.as_str());
+            let (high, low) = (c as u32 / 256, c as u32 % 256);
+            let escape = format!(in alloc; "\\u{high:02x}{low:02x}")?;
+            return self.text.push_str(escape.as_str());
         }
         self.text.push(c)
     }
@@ -124,63 +115,57 @@ impl Rows {
         ensures rows { OnOk result (filled self.new ≡ new_row self.old.width (filled self.old)) }
         ensures width { self.new.width ≡ self.old.width }
     {
-        self.text.push('\n')?;
         self.left = self.width;
+        self.text.push('\n')
+    }
+
+    /// Ends the last row if it is not empty.
+    pub fn end(&mut self) -> Result<(), AllocError>
+        ensures { OnOk result (filled self.new ≡ ended self.old.width (filled self.old)) }
+    {
+        if self.left < self.width {
+            self.break_row()?;
+        }
         Ok(())
     }
 
-    /// Appends the text of a value in which `depth` containers are open. The mark is before their closing brackets.
-    /// Returns where the mark is, or `usize::MAX` if none is open.
-    pub fn append_value(
+    /// Appends the text of a value, with the mark before its last `depth` closing brackets.
+    pub fn append_marked(
         &mut self,
         alloc: Global,
         text: &[u8],
         depth: usize,
-    ) -> Result<usize, AllocError>
+    ) -> Result<(), AllocError>
         ensures rows { OnOk result
-            (PutsValue depth self.old.width (filled self.old) text.now (filled self.new)) }
+            (filled self.new ≡ put_marked depth self.old.width (filled self.old) text.now) }
         ensures width { self.new.width ≡ self.old.width }
     {
-        if depth == 0 {
-            self.append(alloc, text)?;
-            return Ok(usize::MAX);
-        }
-        let tail = tail_begin(text, depth);
-        self.append(alloc, &text[..tail])?;
-        let mark = self.text.len();
+        let place = open_place(text, depth);
+        self.append(alloc, &text[..place])?;
+        self.mark = self.text.len();
         self.append(alloc, MARK)?;
-        self.append(alloc, &text[tail..])?;
-        Ok(mark)
+        self.append(alloc, &text[place..])
     }
 }
 
-// Where the last `depth` closing brackets of a value's text begin, with the line breaks before them.
-fn tail_begin(text: &[u8], depth: usize) -> usize
+// Where the last `depth` closing brackets of a value's text begin, with the whitespace before each.
+fn open_place(text: &[u8], depth: usize) -> usize
+    ensures place { result ≡ length text.now - closers depth (reverse text.now) }
     ensures within { result ≤ length text.now }
-    ensures closing { list_all is_closing (drop result text.now) ≡ true }
 {
-    let mut begin = text.len();
+    let mut place = text.len();
     let mut left = depth;
-    while begin > 0 && is_closing(text[begin - 1]) {
-        if !is_blank(text[begin - 1]) {
-            if left == 0 {
-                return begin;
+    while place > 0 {
+        let byte = text[place - 1];
+        if byte != b' ' && byte != b'\n' {
+            if left == 0 || byte != b']' && byte != b'}' {
+                return place;
             }
             left -= 1;
         }
-        begin -= 1;
+        place -= 1;
     }
-    begin
-}
-
-fn is_blank(byte: u8) -> bool {
-    byte == b' ' || byte == b'\n'
-}
-
-fn is_closing(byte: u8) -> bool
-    ensures { result ≡ is_closing byte }
-{
-    byte == b']' || byte == b'}' || byte == b' ' || byte == b'\n'
+    place
 }
 
 /// Returns what to write so that a screen that ends with the rows `old` ends with the rows `new`.

@@ -1,18 +1,17 @@
 //! A complete run, over one reader and two writers.
-ghost use Rattle.std.specs.Prelude.{◌≡◌, [], List, ℕ, None, true, IfOk, IfSome, OnErr, OnOk, string_bytes};
+ghost use Rattle.std.specs.Prelude.{◌≡◌, [], List, ℕ, true, IfOk, IfSome, OnErr, OnOk, Some, string_bytes};
 ghost use Rattle.std.specs.Option.{option_map};
-ghost use Rattle.std.specs.Io.KnownBytes.{Appends, Keeps};
+ghost use Rattle.std.specs.Io.KnownBytes.{Appends};
 ghost use Rattle.jiter.specs.Caller.{answer_in, is_active, IsBegunContainer};
 ghost use Rattle.jiter_print.specs.Written.{AppendsPrefix};
 ghost use Rattle.viewer.specs.Arrived.{HasArrived, ReadsAs};
-ghost use Rattle.viewer.specs.Shown.{EndsAs, Finishes, IsErrorText, IsLineOfCut, cause_seen, error_of, last_line, new_line, Ran};
-ghost use Rattle.viewer.specs.Shown.{ShowsAll, ShowsPrefix, value_line};
-ghost use Rattle.viewer.specs.Terminal.{IsPlain, Redraws};
-ghost use Rattle.viewer.specs.declared.words.Words.{Words};
+ghost use Rattle.viewer.specs.Rows.{filled, put_reading, rows_of};
+ghost use Rattle.viewer.specs.Shown.{BreaksOff, EndsAs, Finishes, IsErrorText, cause_seen, error_of, IsLineOfCut, last_line, new_line, Ran};
+ghost use Rattle.viewer.specs.Shown.{ShowsAll, ShowsPrefix, value_line, WritesChange};
+ghost use Rattle.viewer.specs.declared.input.Words.{Words};
 
-use crate::input::Input;
+use crate::input::{Input, Words};
 use crate::screen::{Rows, redraw};
-use crate::words::Words;
 use jiter::LinePosition;
 use jiter_incremental::IncrementalParser;
 use jiter_print::{print, print_pretty, write_line};
@@ -35,9 +34,10 @@ pub struct Settings<'a> {
 
 /// Reads the input to its end, and shows the document so far after each read.
 ///
-/// With a width, it is shown in place, indented, with the text around it; its closing brackets that haven't come are dim.
-/// Without one, the compact text of the value is written if its line differs from the last one. Returns whether the
-/// input has a document. If it hasn't, the error is written to `err`, with the line and a caret under the column.
+/// With a width, it is shown in place, indented, with the text around it: after each read the screen ends with the rows of
+/// the input so far. The closing brackets that haven't come are dim. An input whose document has an error is shown as it
+/// is. Without a width, the compact text of the value is written if its line differs from the last one. Returns whether
+/// the input has a document. If it hasn't, the error is written to `err`, with the line and a caret under the column.
 ///
 /// # Errors
 ///
@@ -52,7 +52,7 @@ pub fn run<R: Read, O: Write, E: Write>(
     out: &mut O,
     err: &mut E,
 ) -> io::Result<bool>
-    ensures wrote { settings.entry.width ≡ None → IfSome (R.remaining reader.old) (λ t. Ran settings.entry t result
+    ensures wrote { IfSome (R.remaining reader.old) (λ t. Ran settings.entry t result
         (O.contents out.old) (O.contents out.new) (E.contents err.old) (E.contents err.new)) }
     ensures document { IfSome (R.remaining reader.old) (λ t. EndsAs settings.entry.words.inf_nan t result) }
     ensures cut { is_active settings.entry.words.mode ≡ true → (prefix : List ℕ)
@@ -66,6 +66,7 @@ pub fn run<R: Read, O: Write, E: Write>(
 }
 
 // The number of reads is bounded, so that the loop provably ends.
+#[tactic(auto, using(crate::proofs::Following::begins))]
 fn follow<R: Read, O: Write>(
     alloc: Global,
     width: Option<usize>,
@@ -75,21 +76,18 @@ fn follow<R: Read, O: Write>(
 ) -> io::Result<()>
     ensures all { (words : Words) → HasArrived words input.old []
         → OnOk result (IfSome (R.remaining reader.old) (λ t. HasArrived words input.new t)) }
-    ensures shown { width ≡ None → (words : Words) → HasArrived words input.old []
-        → OnOk result (IfSome (R.remaining reader.old) (λ t. ShowsAll words t
+    ensures shown { (words : Words) → HasArrived words input.old []
+        → OnOk result (IfSome (R.remaining reader.old) (λ t. ShowsAll width words t
         (O.contents out.old) (O.contents out.new))) }
-    ensures prefix { width ≡ None → (words : Words) → HasArrived words input.old []
-        → OnErr result (IfSome (R.remaining reader.old) (λ t. ShowsPrefix words t
+    ensures prefix { (words : Words) → HasArrived words input.old []
+        → OnErr result (IfSome (R.remaining reader.old) (λ t. ShowsPrefix width words t
         (O.contents out.old) (O.contents out.new))) }
 {
     let mut last = Vec::new(alloc);
     let mut piece = [0; 4096];
     for _ in 0..u64::MAX {
         match reader.read(&mut piece) {
-            Ok(0) => {
-                end_row(width, last.as_slice(), out)?;
-                return Ok(());
-            }
+            Ok(0) => return Ok(()),
             Ok(count) => {
                 input.take(&piece[..count])?;
                 last = show(alloc, width, input, last, out)?;
@@ -101,17 +99,7 @@ fn follow<R: Read, O: Write>(
     Err(io::Error::from(ErrorKind::Other))
 }
 
-// The last row has no line feed yet.
-fn end_row<O: Write>(width: Option<usize>, last: &[u8], out: &mut O) -> io::Result<()>
-    ensures { width ≡ None → Keeps (O.contents out.old) (O.contents out.new) }
-{
-    if width.is_none() || last.is_empty() || last.ends_with(b"\n") {
-        return Ok(());
-    }
-    write_line(out, b"\n")
-}
-
-// Returns the text that was shown last.
+// Returns the text that is shown now.
 fn show<O: Write>(
     alloc: Global,
     width: Option<usize>,
@@ -119,15 +107,10 @@ fn show<O: Write>(
     last: Vec<u8>,
     out: &mut O,
 ) -> io::Result<Vec<u8>>
-    ensures last { width ≡ None → (words : Words) → (t : List ℕ) → ReadsAs words input.now.document t
-        → IfOk result (λ line. line.items
-        ≡ last_line last.items (value_line (answer_in words.inf_nan words.mode t))) }
-    ensures whole { width ≡ None → (words : Words) → (t : List ℕ) → ReadsAs words input.now.document t
-        → OnOk result (Appends (O.contents out.old) (O.contents out.new)
-        (new_line last.items (value_line (answer_in words.inf_nan words.mode t)))) }
-    ensures prefix { width ≡ None → (words : Words) → (t : List ℕ) → ReadsAs words input.now.document t
-        → OnErr result (AppendsPrefix (O.contents out.old) (O.contents out.new)
-        (new_line last.items (value_line (answer_in words.inf_nan words.mode t)))) }
+    ensures whole { (words : Words) → (t : List ℕ) → HasArrived words input.now t → IfOk result (λ text.
+        WritesChange width words t last.items text.items (O.contents out.old) (O.contents out.new)) }
+    ensures prefix { (words : Words) → (t : List ℕ) → HasArrived words input.now t → OnErr result
+        (BreaksOff width words t last.items (O.contents out.old) (O.contents out.new)) }
 {
     match width {
         Some(width) => show_rows(alloc, width, input, last, out),
@@ -162,13 +145,6 @@ fn show_line<O: Write>(
     Ok(line)
 }
 
-// The rows of the input so far, and from where on they are dim.
-#[derive(Drop)]
-struct Shown {
-    text: Vec<u8>,
-    mark: usize,
-}
-
 fn show_rows<O: Write>(
     alloc: Global,
     width: usize,
@@ -176,33 +152,45 @@ fn show_rows<O: Write>(
     last: Vec<u8>,
     out: &mut O,
 ) -> io::Result<Vec<u8>>
-    ensures { IsPlain last.items
-        → IfOk result (λ text. (bytes : List ℕ) × Appends (O.contents out.old) (O.contents out.new) bytes
-        × (IsPlain text.items → Redraws last.items text.items bytes)) }
+    ensures whole { (words : Words) → (t : List ℕ) → HasArrived words input.now t → IfOk result (λ text.
+        WritesChange (Some width) words t last.items text.items (O.contents out.old) (O.contents out.new)) }
+    ensures prefix { (words : Words) → (t : List ℕ) → HasArrived words input.now t → OnErr result
+        (BreaksOff (Some width) words t last.items (O.contents out.old) (O.contents out.new)) }
 {
-    let Some(shown) = rows_of(alloc, width, input)? else {
-        return Ok(last);
-    };
-    let drawn = redraw(alloc, last.as_slice(), shown.text.as_slice(), shown.mark)?;
+    let rows = rows_of(alloc, width, input)?;
+    let text = rows.text.into_bytes();
+    let drawn = redraw(alloc, last.as_slice(), text.as_slice(), rows.mark)?;
     write_line(out, drawn.as_slice())?;
-    Ok(shown.text)
+    Ok(text)
 }
 
-// Returns `None` if the document's value is not known.
-fn rows_of(alloc: Global, width: usize, input: &Input) -> Result<Option<Shown>, AllocError> {
+// The rows of the input so far. A document with an error is shown as it is.
+fn rows_of(alloc: Global, width: usize, input: &Input) -> Result<Rows, AllocError>
+    ensures { (words : Words) → (t : List ℕ) → HasArrived words input.now t
+        → IfOk result (λ rows. string_bytes rows.text ≡ rows_of words width t) }
+{
     let mut rows = Rows::new(alloc, width);
     rows.append(alloc, input.before.as_slice())?;
-    let mut mark = usize::MAX;
-    if !input.inside.is_empty() {
-        let Ok(value) = input.document.value() else {
-            return Ok(None);
-        };
-        let text = print_pretty(alloc, value, 2)?;
-        mark = rows.append_value(alloc, text.as_slice(), input.extent.depth)?;
-    }
+    append_document(alloc, input, &mut rows)?;
     rows.append(alloc, input.after.as_slice())?;
-    let text = rows.text.into_bytes();
-    Ok(Some(Shown { text, mark }))
+    rows.end()?;
+    Ok(rows)
+}
+
+fn append_document(alloc: Global, input: &Input, rows: &mut Rows) -> Result<(), AllocError>
+    ensures rows { (words : Words) → (t : List ℕ) → ReadsAs words input.now.document t → t ≡ input.now.inside.items
+        → OnOk result (filled rows.new ≡ put_reading rows.old.width input.now.extent.depth (filled rows.old) t
+        (answer_in words.inf_nan words.mode t)) }
+    ensures width { rows.new.width ≡ rows.old.width }
+{
+    let Ok(value) = input.document.value() else {
+        return rows.append(alloc, input.inside.as_slice());
+    };
+    let text = print_pretty(alloc, value, 2)?;
+    if input.extent.depth == 0 {
+        return rows.append(alloc, text.as_slice());
+    }
+    rows.append_marked(alloc, text.as_slice(), input.extent.depth)
 }
 
 fn finish<E: Write>(
@@ -218,13 +206,7 @@ fn finish<E: Write>(
     let Some(cause) = cause_of(alloc, input, bytes.as_slice())? else {
         return Ok(true);
     };
-    let text = error_text(
-        alloc,
-        settings.name,
-        bytes.as_slice(),
-        cause.index,
-        cause.text.as_str(),
-    )?;
+    let text = error_text(alloc, settings.name, bytes.as_slice(), cause)?;
     write_line(err, text.as_bytes())?;
     Ok(false)
 }
@@ -257,35 +239,22 @@ fn cause_of(alloc: Global, input: Input, bytes: &[u8]) -> Result<Option<Cause>, 
 }
 
 // `NAME:LINE:COLUMN: CAUSE`, the line, and a caret under the byte. Of a long line, what is around the byte.
-fn error_text(
-    alloc: Global,
-    name: &str,
-    bytes: &[u8],
-    index: usize,
-    cause: &str,
-) -> Result<String, AllocError>
+fn error_text(alloc: Global, name: &str, bytes: &[u8], cause: Cause) -> Result<String, AllocError>
     ensures { IfOk result
-        (λ text. IsErrorText name.now bytes.now index cause.now (string_bytes text)) }
+        (λ text. IsErrorText name.now bytes.now cause.index (string_bytes cause.text) (string_bytes text)) }
 {
-    let LinePosition { line, column } = LinePosition::find(bytes, index);
-    let mut text = format!(in alloc; "{name}:{line}:{column}: {cause}\n")?;
-    let through = index.saturating_add(1).min(bytes.len());
+    let LinePosition { line, column } = LinePosition::find(bytes, cause.index);
+    let through = cause.index.saturating_add(1).min(bytes.len());
     let at = through.saturating_sub(column.min(1));
     let begin = through.saturating_sub(column.min(60)).min(at);
+    let rest = &bytes[at..at.saturating_add(20).min(bytes.len())];
+    let count = rest.iter().take_while(|byte| **byte != b'\n').count();
     let mut rows = Rows::new(alloc, usize::MAX);
     rows.append(alloc, &bytes[begin..at])?;
-    let count = usize::MAX.saturating_sub(rows.left);
-    rows.append(alloc, line_rest(&bytes[at..]))?;
-    let shown = rows.text;
-    text.push_str(format!(in alloc; "{shown}\n{:count$}^\n", "")?.as_str())?;
+    let indent = usize::MAX.saturating_sub(rows.left);
+    rows.append(alloc, &rest[..count])?;
+    let (cause, shown) = (cause.text, rows.text);
+    let mut text = format!(in alloc; "{name}:{line}:{column}: {cause}\n")?;
+    text.push_str(format!(in alloc; "{shown}\n{:indent$}^\n", "")?.as_str())?;
     Ok(text)
-}
-
-// The bytes before the first line feed, at most twenty.
-fn line_rest(bytes: &[u8]) -> &[u8] {
-    let count = bytes
-        .iter()
-        .position(|byte| *byte == b'\n')
-        .unwrap_or(bytes.len());
-    &bytes[..count.min(20).min(bytes.len())]
 }

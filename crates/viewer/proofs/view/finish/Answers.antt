@@ -22,8 +22,7 @@ returns-in_err-write_line g c = λ t h.
     let x = cause_seen c.in-Some.cause in
     let text = string_bytes c.in_ok-text.text in
     let told : IsErrorText name t x.0 x.1 text =
-    subst (λ s. IsErrorText name t x.0 s text) c.as_str.ensures.value
-    (subst (λ b. IsErrorText name b x.0 c.as_str.result.now text) (c.as_slice-2.ensures.value ∙ all) c.in_ok-text.ensures) in
+    subst (λ b. IsErrorText name b x.0 x.1 text) (c.as_slice-2.ensures.value ∙ all) c.in_ok-text.ensures in
     let end = c.from_residual-in_err-write_line in
     let prefix = rw c.as_bytes.ensures.value at c.in_err-write_line.ensures.prefix in
     half-told end.result end.ensures.0 name t _ x (ap (option_map cause_seen) (sym c.in-Some.is) ∙ seen) _ _ text told prefix
@@ -36,7 +35,6 @@ returns g c = λ t h.
     let x = cause_seen c.in-Some.cause in
     let text = string_bytes c.in_ok-text.text in
     let told : IsErrorText name t x.0 x.1 text =
-    subst (λ s. IsErrorText name t x.0 s text) c.as_str.ensures.value
-    (subst (λ b. IsErrorText name b x.0 c.as_str.result.now text) (c.as_slice-2.ensures.value ∙ all) c.in_ok-text.ensures) in
+    subst (λ b. IsErrorText name b x.0 x.1 text) (c.as_slice-2.ensures.value ∙ all) c.in_ok-text.ensures in
     let written = rw c.as_bytes.ensures.value at c.in_ok-write_line.ensures.whole in
     all-told _ name t _ x (ap (option_map cause_seen) (sym c.in-Some.is) ∙ seen) _ _ text told written

@@ -1,7 +1,7 @@
 use Rattle.std.proofs.Common.{[]}
 use Rattle.viewer.proofs.Following.{Follows}
 use Rattle.viewer.specs.Arrived.{HasArrived}
-use Rattle.viewer.specs.declared.words.Words.{Words}
+use Rattle.viewer.specs.declared.input.Words.{Words}
 use Rattle.viewer.proofs.view.follow.Given as goal
 
 abbrev pub invariant-loop : goal.invariant-loop

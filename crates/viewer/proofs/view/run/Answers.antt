@@ -3,19 +3,19 @@ use Rattle.viewer.proofs.StringEnd.{broke-off, cut-shown, ended, ran}
 use Rattle.viewer.proofs.view.run.Goals as goal
 
 pub returns-in_err-follow-clause-wrote : goal.returns-in_err-follow-clause-wrote
-returns-in_err-follow-clause-wrote g c = λ none.
+returns-in_err-follow-clause-wrote g c =
     let settings = c.args.settings in
     broke-off settings _ _ _ _ _ c.from_residual.ensures.0
-    (c.in_err-follow.ensures.prefix none settings.words c.new-input.ensures)
+    (c.in_err-follow.ensures.prefix settings.words c.new-input.ensures)
 
 pub returns-in_err-follow-clause-cut : goal.returns-in_err-follow-clause-cut
 returns-in_err-follow-clause-cut g c = cut-shown c.args.settings.words
 
 pub returns-clause-wrote : goal.returns-clause-wrote
-returns-clause-wrote g c = λ none.
+returns-clause-wrote g c =
     let settings = c.args.settings in
     let followed = c.in_ok-follow.ensures in
-    ran settings _ _ _ _ _ c.finish.result (followed.shown none settings.words c.new-input.ensures)
+    ran settings _ _ _ _ _ c.finish.result (followed.shown settings.words c.new-input.ensures)
     (IfSome_then _ (followed.all settings.words c.new-input.ensures) c.finish.ensures)
 
 pub returns-clause-document : goal.returns-clause-document

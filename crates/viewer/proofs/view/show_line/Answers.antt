@@ -5,7 +5,7 @@ use Rattle.jiter.specs.Caller.{answer_in, view}
 use Rattle.jiter_print.specs.Print.{print_of, with_line_feed}
 use Rattle.viewer.specs.Arrived.{ReadsAs}
 use Rattle.viewer.specs.Shown.{value_line}
-use Rattle.viewer.specs.declared.words.Words.{Words}
+use Rattle.viewer.specs.declared.input.Words.{Words}
 use Rattle.viewer.proofs.Following.{if-err}
 use Rattle.viewer.proofs.Lines.{line-shown, same-line}
 use Rattle.viewer.proofs.Told.{line-told}

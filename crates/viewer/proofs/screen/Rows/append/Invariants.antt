@@ -1,7 +1,7 @@
 use Rattle.std.proofs.Common.{◌≡◌}
 use Rattle.std.specs.List.{fold}
 use Rattle.viewer.specs.Rows.{filled, put_char}
-use Rattle.viewer.proofs.screen.Rows.append_text.Given as goal
+use Rattle.viewer.proofs.screen.Rows.append.Given as goal
 
 abbrev pub invariant-loop-c : goal.invariant-loop-c
 invariant-loop-c l =
