@@ -216,7 +216,7 @@ impl PartialValue {
         ensures room { OnOk result (HasRoomInside self.new.spine.items) }
         ensures refused { OnErr result (self.new.awaits ≡ self.old.awaits) }
     {
-        make_room_inside(&mut self.spine)?;
+        make_room_inside(self.alloc, &mut self.spine)?;
         self.awaits = Awaits::Value;
         Ok(())
     }
@@ -319,7 +319,7 @@ impl PartialValue {
         ensures same { IsSeenAs self.old self.new }
         ensures room { OnOk result (HasRoomInside self.new.spine.items) }
     {
-        make_room_inside(&mut self.spine)
+        make_room_inside(self.alloc, &mut self.spine)
     }
 
     /// Takes the opening bracket of a container, which is the value that comes next. If an allocation fails, the value
