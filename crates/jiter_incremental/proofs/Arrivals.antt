@@ -1,4 +1,4 @@
--- What is open of a document that arrives in pieces is, where the text ends, its value so far.
+-- What is open of a document that arrives in chunks is, where the text ends, its value so far.
 use Rattle.std.proofs.Common.{◌≡◌, ℕ, suc, ◌-◌, ◌≤◌, true, false, List, [], ◌∷◌, ◌++◌, length, refl, sym, subst, ap, ◌∙◌, arith, inl, inr}
 use Rattle.std.specs.Prelude.{slice_get, Option, Some, None}
 use Rattle.std.proofs.lemmas.List.{append-nil}

@@ -1,4 +1,4 @@
--- What a document that arrives in pieces knows of its bytes, where some are taken.
+-- What a document that arrives in chunks knows of its bytes, where some are taken.
 pub mod Blanks
 pub mod Bytes
 pub mod Ends
@@ -44,8 +44,8 @@ use Rattle.jiter_incremental.specs.declared.partial_document.Token.TheVariants a
 use Rattle.jiter_incremental.specs.declared.partial_value.Awaits.{Awaits}
 use Rattle.jiter_incremental.specs.declared.partial_value.Awaits.TheVariants as awaits
 use Rattle.jiter_incremental.specs.declared.partial_value.PartialValue.{PartialValue}
-use Rattle.jiter_incremental.specs.declared.partial_value.Went.{Went}
-use Rattle.jiter_incremental.specs.declared.partial_value.Went.TheVariants as went
+use Rattle.jiter_incremental.specs.declared.partial_value.Transition.{Transition}
+use Rattle.jiter_incremental.specs.declared.partial_value.Transition.TheVariants as went
 use Rattle.jiter_value.specs.declared.settings.Settings.{Settings}
 
 -- A fault of the prefix is the text's answer.
@@ -712,7 +712,7 @@ pub counted : (d : PartialDocument) (j : ℕ) (t : List ℕ) → HasTakenIn anyt
 counted d j t h is = record { read = moved anything d j t h; position = is }
 
 -- What is neither taken nor closes what is open stands after the whole value.
-pub over-else : (v : PartialValue) (s : Arrived) (c : ℕ) (w : Went) → IsEnding w → (w ≡ went.Taken → ⊥)
+pub over-else : (v : PartialValue) (s : Arrived) (c : ℕ) (w : Transition) → IsEnding w → (w ≡ went.Taken → ⊥)
     → ((k : FaultKind) → w ≡ went.Closed k → ⊥) → Goes v s c w → Goes v s c went.Over
 over-else v s c went.Taken e taken closed g = absurd (taken refl)
 over-else v s c (went.Closed k) e taken closed g = absurd (closed k refl)

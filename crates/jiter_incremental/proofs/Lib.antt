@@ -5,7 +5,7 @@ pub mod ShownTexts
 pub mod Arrivals
 pub mod OpenValues
 pub mod Documents
-pub mod Pieces
+pub mod Chunks
 pub mod Received
 pub mod GrownTexts
 pub mod WholeLiterals

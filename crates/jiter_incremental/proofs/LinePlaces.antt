@@ -26,7 +26,7 @@ feeds-append n (x ∷ a) b =
 pub line_index-more : (a b : List ℕ) → line_index (a ++ b) ≡ line_index a ++ feeds_from (length a) b
 line_index-more a b = feeds-append 0 a b ∙ ap (λ n. line_index a ++ feeds_from n b) (zero-add (length a))
 
--- one byte more of a piece
+-- one byte more of a chunk
 module _ (n : ℕ) (xs : List ℕ) (i : ℕ) (within : i < length xs) where
   feeds-more : feeds_from n (take (i + 1) xs) ≡ feeds_from n (take i xs) ++ feeds_from (n + i) (get_or xs i 0 ∷ [])
   feeds-more =

@@ -47,8 +47,8 @@ use Rattle.jiter_incremental.specs.declared.partial_value.Awaits.{Awaits}
 use Rattle.jiter_incremental.specs.declared.partial_value.Awaits.TheVariants as awaits
 use Rattle.jiter_value.specs.Value.{view}
 use Rattle.jiter_incremental.specs.declared.partial_value.PartialValue.{PartialValue}
-use Rattle.jiter_incremental.specs.declared.partial_value.Went.{Went}
-use Rattle.jiter_incremental.specs.declared.partial_value.Went.TheVariants as went
+use Rattle.jiter_incremental.specs.declared.partial_value.Transition.{Transition}
+use Rattle.jiter_incremental.specs.declared.partial_value.Transition.TheVariants as went
 use Rattle.jiter_value.specs.declared.settings.Settings.{Settings}
 use Rattle.jiter_value.specs.declared.value.JsonValue.{JsonValue}
 use Rattle.jiter_incremental.proofs.Arrivals.{shown-stands}
@@ -337,7 +337,7 @@ module _ (a : Awaits) (xs : List Tree) (fs : List OpenFrame) (c : ℕ) (other : 
     same-there : Everywhere c (λ p t j. completed p t between j ≡ completed p t item j)
     same-there = λ p t j here. item-begins p t j c here other a xs fs (row p t j)
 
-    pub item-goes : (new : PartialValue) (w : Went) → Goes new item c w → Goes new between c w
+    pub item-goes : (new : PartialValue) (w : Transition) → Goes new item c w → Goes new between c w
     item-goes new went.Taken g = record {
       next = g.next;
       left = g.left;
@@ -668,20 +668,20 @@ between-awaits shape.Array xs fs spine h = (items_frame xs ∷ fs, h)
 between-awaits shape.Object ms fs spine h = (members_frame ms (text_of []) ∷ fs, h)
 
 -- What is told of a byte between the parts of a container of a shape,
-abbrev pub BetweenGoes : PartialValue → PartialValue → ℕ → Result Went AllocFailed → Awaits → ContainerKind → Type 0
+abbrev pub BetweenGoes : PartialValue → PartialValue → ℕ → Result Transition AllocFailed → Awaits → ContainerKind → Type 0
 BetweenGoes old new c r a h =
     (xs : List (PartTree h)) (fs : List OpenFrame) → map view old.spine.items ≡ spine_of fs (built h xs)
     → is_blank c ≡ false → IfOk r (Goes new (between_parts a h xs fs) c)
 
 -- and where it begins a part.
-abbrev pub PartGoes : PartialValue → PartialValue → ℕ → Result Went AllocFailed → ContainerKind → Type 0
+abbrev pub PartGoes : PartialValue → PartialValue → ℕ → Result Transition AllocFailed → ContainerKind → Type 0
 PartGoes old new c r h =
     (a : Awaits) (xs : List (PartTree h)) (fs : List OpenFrame)
     → map view old.spine.items ≡ spine_of fs (built h xs) → is_blank c ≡ false → begins_part h c ≡ true
     → ((p : Settings) (t : List ℕ) (j : ℕ) → part_row (rules_as owned p) t a h j (Some c) ≡ more j)
     → IfOk r (Goes new (between_parts a h xs fs) c)
 
-pub item-part : (old new : PartialValue) (c : ℕ) (r : Result Went AllocFailed)
+pub item-part : (old new : PartialValue) (c : ℕ) (r : Result Transition AllocFailed)
     → ((fs : List OpenFrame) → AwaitsPart old.spine.items fs → IsOfKey (text_view old.key) fs → is_blank c ≡ false
     → IfOk r (Goes new (at_value awaits.Value fs) c))
     → PartGoes old new c r shape.Array
@@ -689,7 +689,7 @@ item-part old new c r goes = λ a xs fs h other begins row.
     by a xs fs other row r (goes (items_frame xs ∷ fs) h tt other) where
       by : (a : Awaits) (xs : List Tree) (fs : List OpenFrame) → is_blank c ≡ false
           → ((p : Settings) (t : List ℕ) (j : ℕ) → part_row (rules_as owned p) t a shape.Array j (Some c) ≡ more j)
-          → (r : Result Went AllocFailed) → IfOk r (Goes new (at_value awaits.Value (items_frame xs ∷ fs)) c)
+          → (r : Result Transition AllocFailed) → IfOk r (Goes new (at_value awaits.Value (items_frame xs ∷ fs)) c)
           → IfOk r (Goes new (between_parts a shape.Array xs fs) c)
       by a xs fs other row (Ok w) g = item-goes a xs fs c other row new w g
       by a xs fs other row (Err e) g = tt
@@ -759,7 +759,7 @@ whole-on v (at_value a fs) left is p t j = absurd (subst IsBeforeValue (sym left
 whole-on v (between_parts a k xs fs) left is p t j = absurd (subst IsBetweenParts (sym left.0 ∙ is) left.1)
 whole-on v (at_end x n) left is p t j = let same : j - n ≡ j + 1 - (n + 1) = omega arith in ap (done x) same
 
-pub closes-over : (old new : PartialValue) (s : Arrived) (c : ℕ) (w : Went) → ClosesTo old s c
+pub closes-over : (old new : PartialValue) (s : Arrived) (c : ℕ) (w : Transition) → ClosesTo old s c
     → ((u : Arrived) → IsLeft old u → Goes new u c w) → IsEnding w → ((k : FaultKind) → ¬ (w ≡ went.Closed k))
     → ClosesOver new s c
 closes-over old new s c went.Taken to goes ending last =
@@ -794,7 +794,7 @@ read-on p t c s new g read = record {
       subst (λ x. prefix_answer r x ≡ completed p x g.next (length (t ++ c ∷ []))) (sym (append_assoc t (c ∷ []) u)) all;
 }
 
-pub reads-on : (p : Settings) (t : List ℕ) (c : ℕ) (s : Arrived) (new : PartialValue) (r : Result Went AllocFailed)
+pub reads-on : (p : Settings) (t : List ℕ) (c : ℕ) (s : Arrived) (new : PartialValue) (r : Result Transition AllocFailed)
     → HasRead p t s → IfOk r (Goes new s c) → IfOk r (ReadsOn new p (t ++ c ∷ []))
 reads-on p t c s new (Ok went.Taken) read g = (g.next, g.left, read-on p t c s new g read)
 reads-on p t c s new (Ok w) read g = tt

@@ -1,4 +1,4 @@
--- What a reading of a document that arrives in pieces has received.
+-- What a reading of a document that arrives in chunks has received.
 use Rattle.std.proofs.Common.{◌≡◌, Bool, true, false, ℕ, ◌+◌, ◌^◌, ◌<◌, ◌≤◌, List, [], ◌∷◌, ◌++◌, length, take, drop, get_or, Bor}
 use Rattle.std.proofs.Common.{refl, sym, ap, ap₂, ◌∙◌, subst, inl, inr, arith, length-append}
 use Rattle.std.specs.List.{flat_map}
@@ -106,10 +106,10 @@ refused s t h some mode strict still =
     }
 
 -- Bytes have arrived, whether memory was refused or not.
-pub arrived-either : {T E : Type 0} (r : Result T E) (d : PartialDocument) (t piece : List ℕ) (n : ℕ)
-    → OnOk r (HasArrived d (t ++ piece)) → OnErr r (HasArrived d (t ++ take n piece)) → (u : List ℕ) × HasArrived d u
-arrived-either (Ok x) d t piece n ok err = (t ++ piece, ok)
-arrived-either (Err e) d t piece n ok err = (t ++ take n piece, err)
+pub arrived-either : {T E : Type 0} (r : Result T E) (d : PartialDocument) (t chunk : List ℕ) (n : ℕ)
+    → OnOk r (HasArrived d (t ++ chunk)) → OnErr r (HasArrived d (t ++ take n chunk)) → (u : List ℕ) × HasArrived d u
+arrived-either (Ok x) d t chunk n ok err = (t ++ chunk, ok)
+arrived-either (Err e) d t chunk n ok err = (t ++ take n chunk, err)
 
 -- What every parse promises, once the answer is told: the value,
 module _ (p : Settings) (t : List ℕ) where
@@ -147,39 +147,39 @@ pub never-refused : (names : Bool) (t : List ℕ) (r : Result JsonValue JsonErro
 never-refused names t r h =
     parses-same owned_tree owned_tree (λ v. refl) ⊥ (past_blanks t 0 < length t) (λ no. absurd no) names Off t r h
 
--- the bytes of borrowed pieces, one after the other
+-- the bytes of borrowed chunks, one after the other
 abbrev pub bytes_of : List (Bor (List ℕ)) → List ℕ
-bytes_of pieces = flat_map {X = Bor (List ℕ)} {A = ℕ} (λ piece. piece.now) pieces
+bytes_of chunks = flat_map {X = Bor (List ℕ)} {A = ℕ} (λ chunk. chunk.now) chunks
 
-module _ (pieces : List (Bor (List ℕ))) (i : ℕ) (other : Bor (List ℕ)) (within : i < length pieces) where
+module _ (chunks : List (Bor (List ℕ))) (i : ℕ) (other : Bor (List ℕ)) (within : i < length chunks) where
   abbrev before : List ℕ
-  before = bytes_of (take i pieces)
+  before = bytes_of (take i chunks)
 
-  abbrev piece : List ℕ
-  piece = (get_or pieces i other).now
+  abbrev chunk : List ℕ
+  chunk = (get_or chunks i other).now
 
-  -- one piece more
-  pub pieces-more : bytes_of (take (i + 1) pieces) ≡ before ++ piece
-  pieces-more =
-      ap bytes_of (take_more pieces i other within)
-      ∙ flat_map-append (λ (p : Bor (List ℕ)). p.now) (take i pieces) (get_or pieces i other ∷ [])
-      ∙ ap (λ w. before ++ w) (append-nil piece)
+  -- one chunk more
+  pub chunks-more : bytes_of (take (i + 1) chunks) ≡ before ++ chunk
+  chunks-more =
+      ap bytes_of (take_more chunks i other within)
+      ∙ flat_map-append (λ (p : Bor (List ℕ)). p.now) (take i chunks) (get_or chunks i other ∷ [])
+      ∙ ap (λ w. before ++ w) (append-nil chunk)
 
   -- and those after it
-  pieces-parts : bytes_of pieces ≡ (before ++ piece) ++ bytes_of (drop (i + 1) pieces)
-  pieces-parts =
-      ap bytes_of (sym (take-append-drop (i + 1) pieces))
-      ∙ flat_map-append (λ (p : Bor (List ℕ)). p.now) (take (i + 1) pieces) (drop (i + 1) pieces)
-      ∙ ap (λ w. w ++ bytes_of (drop (i + 1) pieces)) pieces-more
+  chunks-parts : bytes_of chunks ≡ (before ++ chunk) ++ bytes_of (drop (i + 1) chunks)
+  chunks-parts =
+      ap bytes_of (sym (take-append-drop (i + 1) chunks))
+      ∙ flat_map-append (λ (p : Bor (List ℕ)). p.now) (take (i + 1) chunks) (drop (i + 1) chunks)
+      ∙ ap (λ w. w ++ bytes_of (drop (i + 1) chunks)) chunks-more
 
-  pieces-long : length before + length piece ≤ length (bytes_of pieces)
-  pieces-long =
-      let rest = bytes_of (drop (i + 1) pieces) in
-      omega (arith, ap length pieces-parts, length-append (before ++ piece) rest, length-append before piece)
+  chunks-long : length before + length chunk ≤ length (bytes_of chunks)
+  chunks-long =
+      let rest = bytes_of (drop (i + 1) chunks) in
+      omega (arith, ap length chunks-parts, length-append (before ++ chunk) rest, length-append before chunk)
 
   -- Where this one is refused, memory may be: its bytes and those before it are not too many.
-  pub pieces-refused : (from at : ℕ) → from ≡ length before → length (bytes_of pieces) < 2 ^ 64
-      → (from + length piece < 2 ^ 64 → MayRefuseAt (before ++ piece) at) → MayRefuseAt (bytes_of pieces) at
-  pieces-refused from at place few h =
-      subst (λ t. MayRefuseAt t at) (sym pieces-parts)
-      (refuse-on (before ++ piece) (bytes_of (drop (i + 1) pieces)) at (h (omega (arith, pieces-long))))
+  pub chunks-refused : (from at : ℕ) → from ≡ length before → length (bytes_of chunks) < 2 ^ 64
+      → (from + length chunk < 2 ^ 64 → MayRefuseAt (before ++ chunk) at) → MayRefuseAt (bytes_of chunks) at
+  chunks-refused from at place few h =
+      subst (λ t. MayRefuseAt t at) (sym chunks-parts)
+      (refuse-on (before ++ chunk) (bytes_of (drop (i + 1) chunks)) at (h (omega (arith, chunks-long))))

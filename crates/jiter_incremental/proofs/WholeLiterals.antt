@@ -1,4 +1,4 @@
--- A literal, or a container that is empty, of a document that arrives, which lies whole in a piece.
+-- A literal, or a container that is empty, of a document that arrives, which lies whole in a chunk.
 use Rattle.std.proofs.Common.{◌≡◌, ◌+◌, ◌-◌, ◌<◌, ◌≤◌, ◌∷◌, ◌++◌, ◌∙◌, ℕ, List, [], ap, arith, get_or, length, refl, subst, sym}
 use Rattle.std.proofs.Common.{length-append}
 use Rattle.std.proofs.lemmas.Bool.Decides.{nat_tests}
@@ -29,25 +29,25 @@ use Rattle.jiter_value.specs.declared.settings.Settings.{Settings}
 use Rattle.jiter_incremental.proofs.Documents.Tokens.{begins-so, held-stands, word-done}
 use Rattle.jiter_incremental.proofs.OpenValues.{opens-item}
 
-module _ (piece : List ℕ) (at : ℕ) (l : Literal) (e : ℕ) (starts : start_of (get_or piece at 0) ≡ start.Literal l)
-    (read : literal_at piece l at ≡ taken tt e) (some : at < e) (within : e ≤ length piece) where
+module _ (chunk : List ℕ) (at : ℕ) (l : Literal) (e : ℕ) (starts : start_of (get_or chunk at 0) ≡ start.Literal l)
+    (read : literal_at chunk l at ≡ taken tt e) (some : at < e) (within : e ≤ length chunk) where
   abbrev first : ℕ
-  first = get_or piece at 0
+  first = get_or chunk at 0
 
   abbrev bytes : List ℕ
-  bytes = slice_range piece at e
+  bytes = slice_range chunk at e
 
-  bytes-are : bytes ≡ first ∷ slice_range piece (at + 1) e
+  bytes-are : bytes ≡ first ∷ slice_range chunk (at + 1) e
   bytes-are =
-      slice_range-split piece at (at + 1) (omega arith) e (omega arith)
-      ∙ ap (λ w. w ++ slice_range piece (at + 1) e)
-      (slice-one piece at first (slice_get-get_or piece at 0 (omega arith)))
+      slice_range-split chunk at (at + 1) (omega arith) e (omega arith)
+      ∙ ap (λ w. w ++ slice_range chunk (at + 1) e)
+      (slice-one chunk at first (slice_get-get_or chunk at 0 (omega arith)))
 
   word-is : bytes ≡ word_of l
-  word-is = sym (slice-stands piece at e (word_of l) (word_at-sound piece (word_of l) at e tt read))
+  word-is = sym (slice-stands chunk at e (word_of l) (word_at-sound chunk (word_of l) at e tt read))
 
   -- It is read as a value.
-  pub literal-scalar : IsScalarWithin piece at (literal_tree l) e
+  pub literal-scalar : IsScalarWithin chunk at (literal_tree l) e
   literal-scalar = record {
     begins = some;
     within = within;
@@ -101,28 +101,28 @@ empty-read p t depth b c few here shape.Object starts ends =
     begins-so p t depth b c few here start.Object starts
     ∙ ap (follow r (parts_at r o t (length t) []) (λ e. o.build e [])) (first-closes t (b + 1) shape.Object ends)
 
-module _ (piece : List ℕ) (at : ℕ) (h : ContainerKind) (starts : start_of (get_or piece at 0) ≡ opening h)
-    (ends : slice_get piece (at + 1) ≡ Some (closer_of h)) where
+module _ (chunk : List ℕ) (at : ℕ) (h : ContainerKind) (starts : start_of (get_or chunk at 0) ≡ opening h)
+    (ends : slice_get chunk (at + 1) ≡ Some (closer_of h)) where
   abbrev bracket : ℕ
-  bracket = get_or piece at 0
+  bracket = get_or chunk at 0
 
   abbrev both : List ℕ
-  both = slice_range piece at (at + 2)
+  both = slice_range chunk at (at + 2)
 
-  inside : at + 1 < length piece
-  inside = slice_get_within piece (at + 1) (closer_of h) ends
+  inside : at + 1 < length chunk
+  inside = slice_get_within chunk (at + 1) (closer_of h) ends
 
   both-are : both ≡ bracket ∷ closer_of h ∷ []
   both-are =
       let more : at + 1 + 1 ≡ at + 2 = omega arith in
-      slice_range-split piece at (at + 1) (omega arith) (at + 2) (omega arith)
-      ∙ ap (λ w. w ++ slice_range piece (at + 1) (at + 2))
-      (slice-one piece at bracket (slice_get-get_or piece at 0 (omega (arith, inside))))
-      ∙ ap (λ e. bracket ∷ slice_range piece (at + 1) e) (sym more)
-      ∙ ap (λ w. bracket ∷ w) (slice-one piece (at + 1) (closer_of h) ends)
+      slice_range-split chunk at (at + 1) (omega arith) (at + 2) (omega arith)
+      ∙ ap (λ w. w ++ slice_range chunk (at + 1) (at + 2))
+      (slice-one chunk at bracket (slice_get-get_or chunk at 0 (omega (arith, inside))))
+      ∙ ap (λ e. bracket ∷ slice_range chunk (at + 1) e) (sym more)
+      ∙ ap (λ w. bracket ∷ w) (slice-one chunk (at + 1) (closer_of h) ends)
 
   -- as a value.
-  pub empty-scalar : IsScalarWithin piece at (empty_tree h) (at + 2)
+  pub empty-scalar : IsScalarWithin chunk at (empty_tree h) (at + 2)
   empty-scalar = record {
     begins = omega arith;
     within = omega (arith, inside);

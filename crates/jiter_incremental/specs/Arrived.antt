@@ -1,4 +1,4 @@
--- A document that arrives in pieces: what its bytes so far leave open, and what the rest of it completes that to.
+-- A document that arrives in chunks: what its bytes so far leave open, and what the rest of it completes that to.
 use Rattle.std.specs.Prelude.{◌≡◌, ℕ, ◌-◌, List, [], ◌∷◌, ◌++◌, length, map, Option, Some, None}
 use Rattle.jiter_scan.specs.Kind.{Kind, eof_object, eof_value}
 use Rattle.jiter_scan.specs.Scanned.{taken, failed}

@@ -1,4 +1,4 @@
--- A string or a key of a document that arrives in pieces, where it ends.
+-- A string or a key of a document that arrives in chunks, where it ends.
 use Rattle.std.specs.Prelude.{◌≡◌, ◌⊎◌, ℕ, ◌+◌, Bool, List, ◌++◌, length, slice_get, Some, None}
 use Rattle.jiter_scan.specs.Ascii as ascii
 use Rattle.jiter_scan.specs.Scanned.{taken}

@@ -1,4 +1,4 @@
--- A piece that begins within a string or a key.
+-- A chunk that begins within a string or a key.
 use Rattle.std.specs.Prelude.{◌≡◌, ℕ, Option, Some, None}
 use Rattle.jiter_scan.specs.declared.errors.Fault.{Fault}
 use Rattle.jiter_steps.specs.PartialString.{IsEven}

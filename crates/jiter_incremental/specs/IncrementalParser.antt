@@ -1,4 +1,4 @@
--- A reading of a document that arrives in pieces: what it holds of the bytes that were pushed, and what they answer.
+-- A reading of a document that arrives in chunks: what it holds of the bytes that were pushed, and what they answer.
 use Rattle.std.specs.Prelude.{◌≡◌, ℕ, Bool, Err, List, None, Ok, Option, Some, length, true}
 use Rattle.jiter_scan.specs.declared.errors.JsonError.{JsonError}
 use Rattle.jiter_scan.specs.declared.partial_mode.PartialMode.TheVariants.{Off}

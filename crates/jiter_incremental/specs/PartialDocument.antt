@@ -1,4 +1,4 @@
--- A document that arrives in pieces: what its bytes so far leave open, and what they answer whatever comes after them.
+-- A document that arrives in chunks: what its bytes so far leave open, and what they answer whatever comes after them.
 use Rattle.std.specs.Prelude.{◌≡◌, ◌⊎◌, ℕ, ◌+◌, ◌-◌, ◌≤◌, ◌<◌, true, false, List, [], ◌∷◌, ◌++◌, drop, length, map}
 use Rattle.std.specs.Prelude.{slice_get, slice_index, slice_range, Option, Some, None}
 use Rattle.jiter_scan.specs.Ascii as ascii
@@ -38,8 +38,8 @@ use Rattle.jiter_incremental.specs.declared.partial_document.Token.{Token}
 use Rattle.jiter_incremental.specs.declared.partial_document.Token.TheVariants as token
 use Rattle.jiter_incremental.specs.declared.partial_value.Awaits.TheVariants as awaits
 use Rattle.jiter_incremental.specs.declared.partial_value.PartialValue.{PartialValue}
-use Rattle.jiter_incremental.specs.declared.partial_value.Went.{Went}
-use Rattle.jiter_incremental.specs.declared.partial_value.Went.TheVariants as went
+use Rattle.jiter_incremental.specs.declared.partial_value.Transition.{Transition}
+use Rattle.jiter_incremental.specs.declared.partial_value.Transition.TheVariants as went
 use Rattle.jiter_value.specs.declared.settings.Settings.{Settings}
 
 -- the same with partial reading off
@@ -162,19 +162,19 @@ pub record StandsAt (c : ℕ) (d : PartialDocument) (t : List ℕ) (s : Arrived)
   pub position : d.position ≡ length t
 
 -- Where the container was closed, a comma or its end is awaited.
-abbrev pub IsClosed : PartialValue → Went → Type 0
+abbrev pub IsClosed : PartialValue → Transition → Type 0
 IsClosed v (went.Closed k) = IsAfter v.awaits
 IsClosed v other = Unit {0}
 
 -- The byte c comes next, and this is what it is there.
-pub record Meets (c : ℕ) (d : PartialDocument) (t : List ℕ) (w : Went) : Type 0 where
+pub record Meets (c : ℕ) (d : PartialDocument) (t : List ℕ) (w : Transition) : Type 0 where
   pub state : Arrived
   pub stands : StandsAt c d t state
   pub goes : Goes d.value state c w
   pub closed : IsClosed d.value w
 
 -- It comes after a scalar of so many bytes, which are not counted yet.
-abbrev pub MeetsAfter : ℕ → ℕ → PartialDocument → List ℕ → Went → Type 0
+abbrev pub MeetsAfter : ℕ → ℕ → PartialDocument → List ℕ → Transition → Type 0
 MeetsAfter n c d t w = Meets c (record d { position = d.position + n }) t w
 
 -- A scalar begins with the byte c, which comes next, inside these containers.
@@ -228,22 +228,22 @@ pub record EndsBefore (d : PartialDocument) (t w : List ℕ) (c : ℕ) (fs : Lis
   pub begins : BeginsHere first d t fs
   pub reads : IsReadAs d (with_byte c) (t ++ w) (length fs) (length t) v
 
--- A number of this value stands in a piece from a place on to before e. Its first byte begins numbers, and wherever its
+-- A number of this value stands in a chunk from a place on to before e. Its first byte begins numbers, and wherever its
 -- bytes stand with the one after them, it is read to there.
-pub record IsNumberWithin (piece : List ℕ) (at : ℕ) (v : Tree) (e : ℕ) : Type 0 where
-  pub begins : begins_decimal (slice_index piece at) ≡ true
+pub record IsNumberWithin (chunk : List ℕ) (at : ℕ) (v : Tree) (e : ℕ) : Type 0 where
+  pub begins : begins_decimal (slice_index chunk at) ≡ true
   pub number : Number
-  pub ends : EndsWithin piece at number e
+  pub ends : EndsWithin chunk at number e
   pub is : v ≡ tree_as owned_text (number_tree number)
 
--- A scalar of this value stands in a piece from a place on to before e: after whatever bytes it stands, and whatever
+-- A scalar of this value stands in a chunk from a place on to before e: after whatever bytes it stands, and whatever
 -- comes, it is read to there.
-pub record IsScalarWithin (piece : List ℕ) (at : ℕ) (v : Tree) (e : ℕ) : Type 0 where
+pub record IsScalarWithin (chunk : List ℕ) (at : ℕ) (v : Tree) (e : ℕ) : Type 0 where
   pub begins : at < e
-  pub within : e ≤ length piece
+  pub within : e ≤ length chunk
   pub reads : (p : Settings) (t u : List ℕ) (depth : ℕ) → depth ≤ nesting_limit
-      → value_in (rules_as owned p) ((t ++ slice_range piece at e) ++ u) depth (length t)
-      ≡ done v (length (t ++ slice_range piece at e))
+      → value_in (rules_as owned p) ((t ++ slice_range chunk at e) ++ u) depth (length t)
+      ≡ done v (length (t ++ slice_range chunk at e))
 
 -- A name that begins with this byte, wherever it stands, where names are allowed; else no value does.
 pub record NameBegins (k : Name) (c : ℕ) : Type 0 where

@@ -25,8 +25,8 @@ use Rattle.jiter_incremental.specs.declared.partial_value.Awaits.TheVariants as 
 use Rattle.jiter_incremental.specs.declared.partial_value.PartialValue.{PartialValue}
 use Rattle.jiter_incremental.specs.declared.partial_value.Sign.{Sign}
 use Rattle.jiter_incremental.specs.declared.partial_value.Sign.TheVariants as sign
-use Rattle.jiter_incremental.specs.declared.partial_value.Went.{Went}
-use Rattle.jiter_incremental.specs.declared.partial_value.Went.TheVariants as went
+use Rattle.jiter_incremental.specs.declared.partial_value.Transition.{Transition}
+use Rattle.jiter_incremental.specs.declared.partial_value.Transition.TheVariants as went
 use Rattle.jiter_value.specs.declared.settings.Settings.{Settings}
 use Rattle.jiter_value.specs.declared.value.JsonValue.{JsonValue}
 
@@ -146,7 +146,7 @@ pub record ClosesBefore (new : PartialValue) (s : Arrived) (c : ℕ) (k : Kind) 
   pub fails : Everywhere c (λ p t j. is_active p.mode ≡ false → completed p t s j ≡ fault k j j)
 
 -- What is told of a byte is right for a value that leaves this open.
-abbrev pub Goes : PartialValue → Arrived → ℕ → Went → Type 0
+abbrev pub Goes : PartialValue → Arrived → ℕ → Transition → Type 0
 Goes new s c went.Taken = TakesByte new s c
 Goes new s c went.Scalar = BeginsScalar new s c
 Goes new s c went.Key = BeginsKey new s c
@@ -155,7 +155,7 @@ Goes new s c (went.Wrong k) = Everywhere c (λ p t j. completed p t s j ≡ faul
 Goes new s c went.Over = IsLeft new s × (new.awaits ≡ awaits.Nothing) × (is_blank c ≡ false)
 
 -- A byte that is taken was read after those before it: these bytes leave open what is left then.
-abbrev pub ReadsOn : PartialValue → Settings → List ℕ → Went → Type 0
+abbrev pub ReadsOn : PartialValue → Settings → List ℕ → Transition → Type 0
 ReadsOn new p t went.Taken = (s : Arrived) × IsLeft new s × HasRead p t s
 ReadsOn new p t other = Unit {0}
 
@@ -172,14 +172,14 @@ IsAfter awaits.Nothing = Unit {0}
 IsAfter other = ⊥
 
 -- after a value a byte is taken, or closes the container, or stands after the whole
-abbrev pub IsEnding : Went → Type 0
+abbrev pub IsEnding : Transition → Type 0
 IsEnding went.Taken = Unit {0}
 IsEnding (went.Closed k) = Unit {0}
 IsEnding went.Over = Unit {0}
 IsEnding other = ⊥
 
 -- Where the container was closed, one is open less, and what stands after it is awaited.
-abbrev pub ClosesOne : PartialValue → PartialValue → Went → Type 0
+abbrev pub ClosesOne : PartialValue → PartialValue → Transition → Type 0
 ClosesOne old new (went.Closed k) = IsAfter new.awaits × (length new.spine.items < length old.spine.items)
 ClosesOne old new other = Unit {0}
 

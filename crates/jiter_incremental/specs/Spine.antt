@@ -1,4 +1,4 @@
--- The open containers of a document that arrives in pieces: inside each other, and one after the other.
+-- The open containers of a document that arrives in chunks: inside each other, and one after the other.
 use Rattle.std.specs.Prelude.{◌≡◌, ◌⊎◌, ℕ, zero, suc, ◌+◌, ◌<◌, List, [], ◌∷◌, ◌++◌, length, map, vec_len, vec_capacity}
 use Rattle.std.specs.declared.alloc.Global.{Global}
 use Rattle.std.specs.declared.borrow.CowStr.{CowStr}

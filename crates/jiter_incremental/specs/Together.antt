@@ -1,4 +1,4 @@
--- A document that arrives in pieces, between two of them: its value so far is put together, to be shown.
+-- A document that arrives in chunks, between two of them: its value so far is put together, to be shown.
 use Rattle.std.specs.Prelude.{◌≡◌, ℕ, Bool, true, false, List, [], length, string_bytes, None}
 use Rattle.std.specs.Str.{IsUtf8}
 use Rattle.std.specs.declared.alloc.Global.{Global}

@@ -19,7 +19,7 @@ ghost use Rattle.jiter_incremental.specs.declared.partial_value.Awaits.{Awaits};
 use crate::partial_document::{PartialDocument, Token};
 use jiter_scan::errors::FaultKind;
 use jiter_scan::memory::AllocFailed;
-use jiter_steps::partial_string::Went as StringWent;
+use jiter_steps::partial_string::Went as StringStep;
 use jiter_value::value::JsonValue;
 use std::borrow::CowStr;
 
@@ -92,21 +92,21 @@ impl PartialDocument {
     }
 
     // A wrong byte counts as taken: the error is final.
-    pub(crate) fn take_string(&mut self, piece: &[u8], at: usize) -> Result<usize, AllocFailed>
-        requires within { at < length piece.now }
+    pub(crate) fn take_string(&mut self, chunk: &[u8], at: usize) -> Result<usize, AllocFailed>
+        requires within { at < length chunk.now }
         requires token { IsInString self.old }
-        ensures taken { IfOk result (λ n. Takes self.old self.new (slice_range piece.now at (at + n))) }
-        ensures part { IfOk result (λ n. (0 < n) × (at + n ≤ length piece.now)) }
+        ensures taken { IfOk result (λ n. Takes self.old self.new (slice_range chunk.now at (at + n))) }
+        ensures part { IfOk result (λ n. (0 < n) × (at + n ≤ length chunk.now)) }
         ensures refused { OnErr result (Stays self.old self.new) }
         ensures same { StaysSo self.old self.new }
     {
-        match self.string.next(piece, at)? {
-            StringWent::Taken(count) => Ok(count),
-            StringWent::Quote => {
+        match self.string.next(chunk, at)? {
+            StringStep::Taken(count) => Ok(count),
+            StringStep::Quote => {
                 self.close_string();
                 Ok(1)
             }
-            StringWent::Wrong(kind, back) => {
+            StringStep::Wrong(kind, back) => {
                 self.refuse(kind, self.position - back);
                 Ok(1)
             }

@@ -26,17 +26,17 @@ fn is_plain_byte(byte: u8) -> bool
 // Whether the chunk has at most `FEW` bytes, and all of them are plain and below 80 hex. The test of one byte is a
 // shortcut: the scan would return the same.
 #[inline(always)]
-pub(crate) fn is_plain(piece: &[u8]) -> bool
-    ensures { result ≡ true → Pass is_plain_ascii piece.now }
+pub(crate) fn is_plain(chunk: &[u8]) -> bool
+    ensures { result ≡ true → Pass is_plain_ascii chunk.now }
 {
-    if let [byte] = piece {
+    if let [byte] = chunk {
         return is_plain_byte(*byte);
     }
-    if piece.len() > FEW {
+    if chunk.len() > FEW {
         return false;
     }
-    let (stop, low) = scan_string(piece, 0);
-    low && stop == piece.len()
+    let (stop, low) = scan_string(chunk, 0);
+    low && stop == chunk.len()
 }
 
 impl PartialDocument {
@@ -73,26 +73,26 @@ impl Settled {
 
     // After complete characters and escapes, plain bytes are appended without decoding.
     #[inline(always)]
-    pub(crate) fn grow(&mut self, piece: &[u8]) -> Result<(), AllocFailed>
+    pub(crate) fn grow(&mut self, chunk: &[u8]) -> Result<(), AllocFailed>
         requires received { (t : List ℕ) × HasReceived (received self.old) t }
         requires growing { self.old.growing ≡ true }
-        requires plain { Pass is_plain_ascii piece.now }
-        requires room { self.old.document.position + length piece.now < 2 ^ 64 }
+        requires plain { Pass is_plain_ascii chunk.now }
+        requires room { self.old.document.position + length chunk.now < 2 ^ 64 }
         ensures ok { (t : List ℕ) → HasReceived (received self.old) t
-            → OnOk result (HasReceived (received self.new) (t ++ piece.now)) }
+            → OnOk result (HasReceived (received self.new) (t ++ chunk.now)) }
         ensures refused { (t : List ℕ) → HasReceived (received self.old) t
             → OnErr result (HasReceived (received self.new) t) }
-        ensures some { OnErr result (0 < length piece.now) }
-        ensures position { OnOk result (self.new.document.position ≡ self.old.document.position + length piece.now) }
+        ensures some { OnErr result (0 < length chunk.now) }
+        ensures position { OnOk result (self.new.document.position ≡ self.old.document.position + length chunk.now) }
         ensures stays { OnErr result (self.new.document.position ≡ self.old.document.position) }
         ensures settings { self.new.document.settings ≡ self.old.document.settings }
     {
         if self.shown {
-            self.document.value.append_text(self.depth, piece)?;
+            self.document.value.append_text(self.depth, chunk)?;
         } else {
-            self.document.string.add_plain(piece)?;
+            self.document.string.add_plain(chunk)?;
         }
-        self.document.position += piece.len();
+        self.document.position += chunk.len();
         self.move_end();
         Ok(())
     }

@@ -77,46 +77,46 @@ impl Settled {
 
     // The slow path: separates the value, takes the chunk, and assembles the value again.
     #[inline(never)]
-    fn take_apart(&mut self, piece: &[u8]) -> Result<(), AllocFailed>
+    fn take_apart(&mut self, chunk: &[u8]) -> Result<(), AllocFailed>
         requires received { (t : List ℕ) × HasReceived (received self.old) t }
-        requires room { self.old.document.position + length piece.now < 2 ^ 64 }
+        requires room { self.old.document.position + length chunk.now < 2 ^ 64 }
         ensures ok { (t : List ℕ) → HasReceived (received self.old) t
-            → OnOk result (HasReceived (received self.new) (t ++ piece.now)) }
+            → OnOk result (HasReceived (received self.new) (t ++ chunk.now)) }
         ensures refused { (t : List ℕ) → HasReceived (received self.old) t → OnErr result
             (HasReceived (received self.new)
-            (t ++ take (self.new.document.position - self.old.document.position) piece.now)) }
+            (t ++ take (self.new.document.position - self.old.document.position) chunk.now)) }
         ensures wanted { (t : List ℕ) → HasReceived (received self.old) t
-            → OnErr result (MayRefuseAt (t ++ piece.now) self.new.document.position) }
+            → OnErr result (MayRefuseAt (t ++ chunk.now) self.new.document.position) }
         ensures within { (self.old.document.position ≤ self.new.document.position)
-            × (self.new.document.position ≤ self.old.document.position + length piece.now) }
+            × (self.new.document.position ≤ self.old.document.position + length chunk.now) }
         ensures settings { self.new.document.settings ≡ self.old.document.settings }
     {
         self.unsettle();
-        let taken = self.document.take_all(piece);
+        let taken = self.document.take_all(chunk);
         self.settle();
         taken
     }
 
     // The fast path: plain bytes that continue a string go into the assembled value.
     #[inline(always)]
-    fn take(&mut self, piece: &[u8]) -> Result<(), AllocFailed>
+    fn take(&mut self, chunk: &[u8]) -> Result<(), AllocFailed>
         requires received { (t : List ℕ) × HasReceived (received self.old) t }
-        requires room { self.old.document.position + length piece.now < 2 ^ 64 }
+        requires room { self.old.document.position + length chunk.now < 2 ^ 64 }
         ensures ok { (t : List ℕ) → HasReceived (received self.old) t
-            → OnOk result (HasReceived (received self.new) (t ++ piece.now)) }
+            → OnOk result (HasReceived (received self.new) (t ++ chunk.now)) }
         ensures refused { (t : List ℕ) → HasReceived (received self.old) t → OnErr result
             (HasReceived (received self.new)
-            (t ++ take (self.new.document.position - self.old.document.position) piece.now)) }
+            (t ++ take (self.new.document.position - self.old.document.position) chunk.now)) }
         ensures wanted { (t : List ℕ) → HasReceived (received self.old) t
-            → OnErr result (MayRefuseAt (t ++ piece.now) self.new.document.position) }
+            → OnErr result (MayRefuseAt (t ++ chunk.now) self.new.document.position) }
         ensures within { (self.old.document.position ≤ self.new.document.position)
-            × (self.new.document.position ≤ self.old.document.position + length piece.now) }
+            × (self.new.document.position ≤ self.old.document.position + length chunk.now) }
         ensures settings { self.new.document.settings ≡ self.old.document.settings }
     {
-        if self.growing && is_plain(piece) {
-            return self.grow(piece);
+        if self.growing && is_plain(chunk) {
+            return self.grow(chunk);
         }
-        self.take_apart(piece)
+        self.take_apart(chunk)
     }
 }
 
@@ -192,32 +192,32 @@ impl IncrementalParser {
     ///
     /// If you ignore an error and push the next chunk, the bytes between are missing. All later results are then for
     /// other bytes than yours.
-    pub fn push(&mut self, piece: &[u8]) -> Result<(), AllocError>
-        ensures ok { (t : List ℕ) → HasReceived self.old t → OnOk result (HasReceived self.new (t ++ piece.now)) }
+    pub fn push(&mut self, chunk: &[u8]) -> Result<(), AllocError>
+        ensures ok { (t : List ℕ) → HasReceived self.old t → OnOk result (HasReceived self.new (t ++ chunk.now)) }
         ensures refused { (t : List ℕ) → HasReceived self.old t → OnErr result
-            (HasReceived self.new (t ++ take (self.new.position - self.old.position) piece.now)) }
-        ensures unchanged { 2 ^ 64 ≤ self.old.position + length piece.now → self.new ≡ self.old }
-        ensures fits { OnOk result (self.old.position + length piece.now < 2 ^ 64) }
-        ensures wanted { (t : List ℕ) → HasReceived self.old t → self.old.position + length piece.now < 2 ^ 64
-            → OnErr result (MayRefuseAt (t ++ piece.now) self.new.position) }
-        ensures position { OnOk result (self.new.position ≡ self.old.position + length piece.now) }
+            (HasReceived self.new (t ++ take (self.new.position - self.old.position) chunk.now)) }
+        ensures unchanged { 2 ^ 64 ≤ self.old.position + length chunk.now → self.new ≡ self.old }
+        ensures fits { OnOk result (self.old.position + length chunk.now < 2 ^ 64) }
+        ensures wanted { (t : List ℕ) → HasReceived self.old t → self.old.position + length chunk.now < 2 ^ 64
+            → OnErr result (MayRefuseAt (t ++ chunk.now) self.new.position) }
+        ensures position { OnOk result (self.new.position ≡ self.old.position + length chunk.now) }
         ensures within { (self.old.position ≤ self.new.position)
-            × (self.new.position ≤ self.old.position + length piece.now) }
+            × (self.new.position ≤ self.old.position + length chunk.now) }
         ensures settings { self.new.settings ≡ self.old.settings }
     {
         if self
             .settled
             .document
             .position
-            .checked_add(piece.len())
+            .checked_add(chunk.len())
             .is_none()
         {
             return Err(AllocError);
         }
-        if piece.is_empty() {
+        if chunk.is_empty() {
             return Ok(());
         }
-        self.settled.take(piece)?;
+        self.settled.take(chunk)?;
         Ok(())
     }
 
@@ -307,17 +307,17 @@ impl IncrementalParser {
 /// - `OutOfMemory` if the chunks hold more than `usize::MAX` bytes
 pub fn parse_chunks(
     alloc: Global,
-    pieces: &[&[u8]],
+    chunks: &[&[u8]],
     allow_inf_nan: bool,
 ) -> Result<JsonValue<'static>, JsonError>
-    ensures parses { let t = flat_map (λ piece. piece.now) pieces.now in length t < 2 ^ 64
+    ensures parses { let t = flat_map (λ chunk. chunk.now) chunks.now in length t < 2 ^ 64
         → Parses owned_tree (past_blanks t 0 < length t) allow_inf_nan PartialMode.Off t result }
-    ensures long { 2 ^ 64 ≤ length (flat_map (λ piece. piece.now) pieces.now)
+    ensures long { 2 ^ 64 ≤ length (flat_map (λ chunk. chunk.now) chunks.now)
         → IsErrAnd result (λ e. e.error_type ≡ JsonErrorType.OutOfMemory) }
 {
     let mut incremental_parser = IncrementalParser::new(alloc, allow_inf_nan, PartialMode::Off);
-    for piece in pieces {
-        match incremental_parser.push(piece) {
+    for chunk in chunks {
+        match incremental_parser.push(chunk) {
             Ok(()) => {}
             Err(_) => {
                 return Err(JsonError {

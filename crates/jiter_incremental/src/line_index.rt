@@ -18,9 +18,9 @@ use std::marker::Model;
 /// ```
 /// let mut incremental_parser = IncrementalParser::new(alloc, false, PartialMode::Off);
 /// let mut lines = LineIndex::new(alloc);
-/// for piece in [b"[1,\n ".as_slice(), b"2,]"] {
-///     incremental_parser.push(piece)?;
-///     lines.push(piece)?;
+/// for chunk in [b"[1,\n ".as_slice(), b"2,]"] {
+///     incremental_parser.push(chunk)?;
+///     lines.push(chunk)?;
 /// }
 /// let error = incremental_parser.finish().err().ok_or("a document")?;
 /// assert_eq!(rt; lines.position(error.index), LinePosition::new(2, 4));
@@ -60,18 +60,18 @@ impl LineIndex {
     /// - `AllocError` if the number of bytes would exceed `usize::MAX`
     ///
     /// After an error no byte of the chunk is taken. If an allocation failed, push the same chunk again.
-    pub fn push(&mut self, piece: &[u8]) -> Result<(), AllocError>
-        ensures ok { (t : List ℕ) → HasPassed self.old t → OnOk result (HasPassed self.new (t ++ piece.now)) }
+    pub fn push(&mut self, chunk: &[u8]) -> Result<(), AllocError>
+        ensures ok { (t : List ℕ) → HasPassed self.old t → OnOk result (HasPassed self.new (t ++ chunk.now)) }
         ensures refused { OnErr result (self.new ≡ self.old) }
-        ensures fits { OnOk result (self.old.count + length piece.now < 2 ^ 64) }
+        ensures fits { OnOk result (self.old.count + length chunk.now < 2 ^ 64) }
         ensures wanted { OnErr result
-            ((2 ^ 64 ≤ self.old.count + length piece.now) ⊎ Contains piece.now 10) }
+            ((2 ^ 64 ≤ self.old.count + length chunk.now) ⊎ Contains chunk.now 10) }
     {
-        let Some(count) = self.count.checked_add(piece.len()) else {
+        let Some(count) = self.count.checked_add(chunk.len()) else {
             return Err(AllocError);
         };
         let before = self.feeds.len();
-        match push_feeds(&mut self.feeds, self.count, piece) {
+        match push_feeds(&mut self.feeds, self.count, chunk) {
             Ok(()) => {
                 self.count = count;
                 Ok(())
@@ -94,13 +94,13 @@ impl LineIndex {
 }
 
 // If an allocation fails, some indices are appended already: the caller removes them.
-fn push_feeds(feeds: &mut Vec<usize>, begin: usize, piece: &[u8]) -> Result<(), AllocFailed>
-    requires { begin + length piece.now < 2 ^ 64 }
-    ensures ok { OnOk result (feeds.new.items ≡ feeds.old.items ++ feeds_from begin piece.now) }
+fn push_feeds(feeds: &mut Vec<usize>, begin: usize, chunk: &[u8]) -> Result<(), AllocFailed>
+    requires { begin + length chunk.now < 2 ^ 64 }
+    ensures ok { OnOk result (feeds.new.items ≡ feeds.old.items ++ feeds_from begin chunk.now) }
     ensures refused { OnErr result (take (vec_len feeds.old) feeds.new.items ≡ feeds.old.items) }
-    ensures wanted { OnErr result (Contains piece.now 10) }
+    ensures wanted { OnErr result (Contains chunk.now 10) }
 {
-    for (offset, byte) in piece.iter().enumerate() {
+    for (offset, byte) in chunk.iter().enumerate() {
         if *byte == b'\n' {
             push(feeds, begin + offset)?;
         }

@@ -25,13 +25,13 @@ ghost use Rattle.jiter_value.specs.Value.{view};
 ghost use Rattle.jiter_steps.specs.declared.parse.Start.{Start};
 ghost use Rattle.jiter_incremental.specs.declared.partial_document.Token.{Token};
 ghost use Rattle.jiter_incremental.specs.declared.partial_value.Awaits.{Awaits};
-ghost use Rattle.jiter_incremental.specs.declared.partial_value.Went.{Went};
+ghost use Rattle.jiter_incremental.specs.declared.partial_value.Transition.{Transition};
 
 use crate::names::Name;
-use crate::partial_value::{PartialValue, Went};
+use crate::partial_value::{PartialValue, Transition};
 use jiter_scan::errors::{Fault, FaultKind, fault_at};
 use jiter_scan::memory::AllocFailed;
-use jiter_scan::partial_number::{OwnNumber, PartialNumber, Went as NumberWent};
+use jiter_scan::partial_number::{OwnNumber, PartialNumber, Went as NumberStep};
 use jiter_scan::partial_word::{PartialWord, Seen};
 use jiter_steps::blank::past_blanks;
 use jiter_steps::parse::{Literal, Start, start_of};
@@ -290,8 +290,8 @@ impl PartialDocument {
         ensures same { StaysSo self.old self.new }
     {
         match self.value.after(byte) {
-            Went::Taken => {}
-            Went::Closed(kind) => self.close(kind, byte),
+            Transition::Taken => {}
+            Transition::Closed(kind) => self.close(kind, byte),
             _ => self.trail(),
         }
     }
@@ -351,24 +351,24 @@ impl PartialDocument {
 
     // Takes bytes of the number, or the byte after it. The index of `NumberOutOfRange` is one past the digit that is
     // too many.
-    fn take_number(&mut self, piece: &[u8], at: usize) -> Result<usize, AllocFailed>
-        requires within { at < length piece.now }
+    fn take_number(&mut self, chunk: &[u8], at: usize) -> Result<usize, AllocFailed>
+        requires within { at < length chunk.now }
         requires token { IsIn self.old Token.Number }
         requires room { self.old.position + 1 < 2 ^ 64 }
-        ensures taken { IfOk result (λ n. Takes self.old self.new (slice_range piece.now at (at + n))) }
-        ensures part { IfOk result (λ n. (0 < n) × (at + n ≤ length piece.now)) }
+        ensures taken { IfOk result (λ n. Takes self.old self.new (slice_range chunk.now at (at + n))) }
+        ensures part { IfOk result (λ n. (0 < n) × (at + n ≤ length chunk.now)) }
         ensures refused { OnErr result (Stays self.old self.new) }
         ensures same { StaysSo self.old self.new }
     {
-        match self.number.next(piece[at]) {
-            NumberWent::Taken(stage) => return self.number.more(stage, piece, at),
-            NumberWent::Over => {
+        match self.number.next(chunk[at]) {
+            NumberStep::Taken(stage) => return self.number.more(stage, chunk, at),
+            NumberStep::Over => {
                 self.put_number();
-                self.after(piece[at]);
+                self.after(chunk[at]);
             }
-            NumberWent::Named => self.take_name(),
-            NumberWent::Invalid => self.refuse(FaultKind::InvalidNumber, self.position),
-            NumberWent::TooLong => self.refuse(FaultKind::NumberOutOfRange, self.position + 1),
+            NumberStep::Named => self.take_name(),
+            NumberStep::Invalid => self.refuse(FaultKind::InvalidNumber, self.position),
+            NumberStep::TooLong => self.refuse(FaultKind::NumberOutOfRange, self.position + 1),
         }
         Ok(1)
     }
@@ -395,101 +395,101 @@ impl PartialDocument {
 
     // Takes whitespace, or a byte and the token or container that it begins, if that is complete in the chunk.
     #[inline(always)]
-    fn take_other(&mut self, piece: &[u8], at: usize) -> Result<usize, AllocFailed>
-        requires within { at < length piece.now }
-        requires named { begins_decimal (slice_index piece.now at) ≡ false }
+    fn take_other(&mut self, chunk: &[u8], at: usize) -> Result<usize, AllocFailed>
+        requires within { at < length chunk.now }
+        requires named { begins_decimal (slice_index chunk.now at) ≡ false }
         requires token { IsIn self.old Token.Nothing }
-        requires room { self.old.position + (length piece.now - at) < 2 ^ 64 }
-        ensures taken { IfOk result (λ n. Takes self.old self.new (slice_range piece.now at (at + n))) }
-        ensures part { IfOk result (λ n. (0 < n) × (at + n ≤ length piece.now)) }
+        requires room { self.old.position + (length chunk.now - at) < 2 ^ 64 }
+        ensures taken { IfOk result (λ n. Takes self.old self.new (slice_range chunk.now at (at + n))) }
+        ensures part { IfOk result (λ n. (0 < n) × (at + n ≤ length chunk.now)) }
         ensures refused { OnErr result (Stays self.old self.new) }
-        ensures wanted { OnErr result (is_blank (slice_index piece.now at) ≡ false) }
+        ensures wanted { OnErr result (is_blank (slice_index chunk.now at) ≡ false) }
         ensures same { StaysSo self.old self.new }
     {
-        let end = past_blanks(piece, at);
+        let end = past_blanks(chunk, at);
         if at < end {
             return Ok(end - at);
         }
-        self.step(piece, at)
+        self.step(chunk, at)
     }
 
     // No token is unfinished. Numbers have a path of their own; it is tried first.
     #[inline(always)]
-    fn take_between(&mut self, piece: &[u8], at: usize) -> Result<usize, AllocFailed>
-        requires within { at < length piece.now }
+    fn take_between(&mut self, chunk: &[u8], at: usize) -> Result<usize, AllocFailed>
+        requires within { at < length chunk.now }
         requires token { IsIn self.old Token.Nothing }
-        requires room { self.old.position + (length piece.now - at) < 2 ^ 64 }
-        ensures taken { IfOk result (λ n. Takes self.old self.new (slice_range piece.now at (at + n))) }
-        ensures part { IfOk result (λ n. (0 < n) × (at + n ≤ length piece.now)) }
+        requires room { self.old.position + (length chunk.now - at) < 2 ^ 64 }
+        ensures taken { IfOk result (λ n. Takes self.old self.new (slice_range chunk.now at (at + n))) }
+        ensures part { IfOk result (λ n. (0 < n) × (at + n ≤ length chunk.now)) }
         ensures refused { OnErr result (Stays self.old self.new) }
-        ensures wanted { OnErr result (is_blank (slice_index piece.now at) ≡ false) }
+        ensures wanted { OnErr result (is_blank (slice_index chunk.now at) ≡ false) }
         ensures same { StaysSo self.old self.new }
     {
-        if !begins_decimal(piece[at]) {
-            return self.take_other(piece, at);
+        if !begins_decimal(chunk[at]) {
+            return self.take_other(chunk, at);
         }
-        self.step_number(piece, at)
+        self.step_number(chunk, at)
     }
 
     #[inline(always)]
-    fn take_token(&mut self, piece: &[u8], at: usize) -> Result<usize, AllocFailed>
-        requires within { at < length piece.now }
+    fn take_token(&mut self, chunk: &[u8], at: usize) -> Result<usize, AllocFailed>
+        requires within { at < length chunk.now }
         requires arrived { (t : List ℕ) × HasArrived self.old t }
         requires unset { self.old.fault ≡ None }
         requires token { ¬ (self.old.token ≡ Token.Nothing) }
-        requires room { self.old.position + (length piece.now - at) < 2 ^ 64 }
-        ensures taken { IfOk result (λ n. Takes self.old self.new (slice_range piece.now at (at + n))) }
-        ensures part { IfOk result (λ n. (0 < n) × (at + n ≤ length piece.now)) }
+        requires room { self.old.position + (length chunk.now - at) < 2 ^ 64 }
+        ensures taken { IfOk result (λ n. Takes self.old self.new (slice_range chunk.now at (at + n))) }
+        ensures part { IfOk result (λ n. (0 < n) × (at + n ≤ length chunk.now)) }
         ensures refused { OnErr result (Stays self.old self.new) }
         ensures same { StaysSo self.old self.new }
     {
         match self.token {
             Token::Nothing => unreachable!(),
-            Token::Word => self.take_word(piece[at])?,
-            Token::Number => return self.take_number(piece, at),
-            _ => return self.take_string(piece, at),
+            Token::Word => self.take_word(chunk[at])?,
+            Token::Number => return self.take_number(chunk, at),
+            _ => return self.take_string(chunk, at),
         }
         Ok(1)
     }
 
     // The caller counts the bytes afterwards.
     #[inline(always)]
-    fn turn(&mut self, piece: &[u8], at: usize) -> Result<usize, AllocFailed>
-        requires within { at < length piece.now }
+    fn turn(&mut self, chunk: &[u8], at: usize) -> Result<usize, AllocFailed>
+        requires within { at < length chunk.now }
         requires arrived { (t : List ℕ) × HasArrived self.old t }
-        requires room { self.old.position + (length piece.now - at) < 2 ^ 64 }
-        ensures taken { IfOk result (λ n. Takes self.old self.new (slice_range piece.now at (at + n))) }
-        ensures part { IfOk result (λ n. (0 < n) × (at + n ≤ length piece.now)) }
+        requires room { self.old.position + (length chunk.now - at) < 2 ^ 64 }
+        ensures taken { IfOk result (λ n. Takes self.old self.new (slice_range chunk.now at (at + n))) }
+        ensures part { IfOk result (λ n. (0 < n) × (at + n ≤ length chunk.now)) }
         ensures refused { OnErr result (Stays self.old self.new) }
         ensures wanted { (t : List ℕ) → HasArrived self.old t
-            → OnErr result (MayRefuseAt (t ++ slice_index piece.now at ∷ []) (length t)) }
+            → OnErr result (MayRefuseAt (t ++ slice_index chunk.now at ∷ []) (length t)) }
         ensures same { StaysSo self.old self.new }
     {
         if self.is_over() {
-            return Ok(piece.len() - at);
+            return Ok(chunk.len() - at);
         }
         match self.token {
-            Token::Nothing => self.take_between(piece, at),
-            _ => self.take_token(piece, at),
+            Token::Nothing => self.take_between(chunk, at),
+            _ => self.take_token(chunk, at),
         }
     }
 
     /// Takes bytes of a chunk from index `at` and returns how many, at least one. If an allocation fails, nothing is
     /// taken, and the same bytes can be taken again.
     #[inline(always)]
-    pub fn take(&mut self, piece: &[u8], at: usize) -> Result<usize, AllocFailed>
-        requires within { at < length piece.now }
+    pub fn take(&mut self, chunk: &[u8], at: usize) -> Result<usize, AllocFailed>
+        requires within { at < length chunk.now }
         requires arrived { (t : List ℕ) × HasArrived self.old t }
-        requires room { self.old.position + (length piece.now - at) < 2 ^ 64 }
+        requires room { self.old.position + (length chunk.now - at) < 2 ^ 64 }
         ensures taken { (t : List ℕ) → HasArrived self.old t
-            → IfOk result (λ n. HasArrived self.new (t ++ slice_range piece.now at (at + n))) }
-        ensures part { IfOk result (λ n. (0 < n) × (at + n ≤ length piece.now)) }
+            → IfOk result (λ n. HasArrived self.new (t ++ slice_range chunk.now at (at + n))) }
+        ensures part { IfOk result (λ n. (0 < n) × (at + n ≤ length chunk.now)) }
         ensures refused { OnErr result (Stays self.old self.new) }
         ensures wanted { (t : List ℕ) → HasArrived self.old t
-            → OnErr result (MayRefuseAt (t ++ slice_index piece.now at ∷ []) (length t)) }
+            → OnErr result (MayRefuseAt (t ++ slice_index chunk.now at ∷ []) (length t)) }
         ensures settings { self.new.settings ≡ self.old.settings }
     {
-        let count = self.turn(piece, at)?;
+        let count = self.turn(chunk, at)?;
         self.position += count;
         Ok(count)
     }
@@ -503,21 +503,21 @@ impl PartialDocument {
 
     /// Takes the bytes of a chunk. If an allocation fails, the position counts the bytes that were taken; the rest can
     /// be taken again.
-    pub fn take_all(&mut self, piece: &[u8]) -> Result<(), AllocFailed>
+    pub fn take_all(&mut self, chunk: &[u8]) -> Result<(), AllocFailed>
         requires arrived { (t : List ℕ) × HasArrived self.old t }
-        requires room { self.old.position + length piece.now < 2 ^ 64 }
-        ensures taken { (t : List ℕ) → HasArrived self.old t → OnOk result (HasArrived self.new (t ++ piece.now)) }
+        requires room { self.old.position + length chunk.now < 2 ^ 64 }
+        ensures taken { (t : List ℕ) → HasArrived self.old t → OnOk result (HasArrived self.new (t ++ chunk.now)) }
         ensures refused { (t : List ℕ) → HasArrived self.old t → OnErr result
-            (HasArrived self.new (t ++ take (self.new.position - self.old.position) piece.now)) }
+            (HasArrived self.new (t ++ take (self.new.position - self.old.position) chunk.now)) }
         ensures wanted { (t : List ℕ) → HasArrived self.old t
-            → OnErr result (MayRefuseAt (t ++ piece.now) self.new.position) }
+            → OnErr result (MayRefuseAt (t ++ chunk.now) self.new.position) }
         ensures within { (self.old.position ≤ self.new.position)
-            × (self.new.position ≤ self.old.position + length piece.now) }
+            × (self.new.position ≤ self.old.position + length chunk.now) }
         ensures settings { self.new.settings ≡ self.old.settings }
     {
         let mut at = 0;
-        while at < piece.len() {
-            let count = self.take(piece, at)?;
+        while at < chunk.len() {
+            let count = self.take(chunk, at)?;
             at += count;
         }
         Ok(())

@@ -69,7 +69,7 @@ pub enum Sign {
 
 /// What the next byte is to a value.
 #[derive(Clone, Copy, Debug)]
-pub enum Went {
+pub enum Transition {
     /// It is taken.
     Taken,
     /// A scalar begins with it.
@@ -216,14 +216,14 @@ impl PartialValue {
         ensures room { OnOk result (HasRoomInside self.new.spine.items) }
         ensures refused { OnErr result (self.new.awaits ≡ self.old.awaits) }
     {
-        make_room_inside(&mut self.spine)?;
+        make_room_inside(self.alloc, &mut self.spine)?;
         self.awaits = Awaits::Value;
         Ok(())
     }
 
     // The limit is tested where a value begins: an empty container may be one level deeper.
     #[inline(always)]
-    fn value(&mut self, byte: u8) -> Result<Went, AllocFailed>
+    fn value(&mut self, byte: u8) -> Result<Transition, AllocFailed>
         requires { (fs : List OpenFrame) × AwaitsPart self.old.spine.items fs }
         ensures goes { (fs : List OpenFrame) → AwaitsPart self.old.spine.items fs
             → IsOfKey (text_view self.old.key) fs → is_blank byte ≡ false
@@ -232,27 +232,27 @@ impl PartialValue {
         ensures refused { (s : Arrived) → IsLeft self.old s → OnErr result (IsLeft self.new s) }
     {
         if self.spine.len() > NESTING_LIMIT {
-            return Ok(Went::Wrong(FaultKind::RecursionLimitExceeded));
+            return Ok(Transition::Wrong(FaultKind::RecursionLimitExceeded));
         }
         match start_of(byte) {
             Start::Array => {
                 self.begin(ContainerKind::Array)?;
-                Ok(Went::Taken)
+                Ok(Transition::Taken)
             }
             Start::Object => {
                 self.begin(ContainerKind::Object)?;
-                Ok(Went::Taken)
+                Ok(Transition::Taken)
             }
-            Start::Nothing => Ok(Went::Wrong(FaultKind::ExpectedSomeValue)),
+            Start::Nothing => Ok(Transition::Wrong(FaultKind::ExpectedSomeValue)),
             Start::String | Start::Number | Start::Literal(_) => {
                 self.begin_scalar()?;
-                Ok(Went::Scalar)
+                Ok(Transition::Scalar)
             }
         }
     }
 
     #[inline(always)]
-    fn part(&mut self, shape: ContainerKind, byte: u8) -> Result<Went, AllocFailed>
+    fn part(&mut self, shape: ContainerKind, byte: u8) -> Result<Transition, AllocFailed>
         requires { (xs : List (PartTree shape)) × (fs : List OpenFrame)
             × (map view self.old.spine.items ≡ spine_of fs (built shape xs)) }
         ensures goes { (a : Awaits) → (xs : List (PartTree shape)) → (fs : List OpenFrame)
@@ -267,13 +267,13 @@ impl PartialValue {
             ContainerKind::Array => self.value(byte),
             ContainerKind::Object => {
                 self.awaits = Awaits::Colon;
-                Ok(Went::Key)
+                Ok(Transition::Key)
             }
         }
     }
 
     #[inline(always)]
-    fn between(&mut self, byte: u8) -> Result<Went, AllocFailed>
+    fn between(&mut self, byte: u8) -> Result<Transition, AllocFailed>
         requires inside { (h : ContainerKind) × (xs : List (PartTree h)) × (fs : List OpenFrame)
             × (map view self.old.spine.items ≡ spine_of fs (built h xs)) }
         requires before { IsBeforePart self.old.awaits }
@@ -288,9 +288,9 @@ impl PartialValue {
             Sign::Part => self.part(shape, byte),
             Sign::End => {
                 self.end();
-                Ok(Went::Taken)
+                Ok(Transition::Taken)
             }
-            Sign::Wrong(kind) => Ok(Went::Wrong(kind)),
+            Sign::Wrong(kind) => Ok(Transition::Wrong(kind)),
         }
     }
 
@@ -319,7 +319,7 @@ impl PartialValue {
         ensures same { IsSeenAs self.old self.new }
         ensures room { OnOk result (HasRoomInside self.new.spine.items) }
     {
-        make_room_inside(&mut self.spine)
+        make_room_inside(self.alloc, &mut self.spine)
     }
 
     /// Takes the opening bracket of a container, which is the value that comes next. If an allocation fails, the value
@@ -354,9 +354,9 @@ impl PartialValue {
         matches!(self.awaits, Awaits::Nothing)
     }
 
-    /// Takes the next byte, after a value, or returns what it is instead (see [`Went`]). Does not allocate.
+    /// Takes the next byte, after a value, or returns what it is instead (see [`Transition`]). Does not allocate.
     #[inline(always)]
-    pub fn after(&mut self, byte: u8) -> Went
+    pub fn after(&mut self, byte: u8) -> Transition
         requires left { (s : Arrived) × IsLeft self.old s }
         requires after { IsAfter self.old.awaits }
         ensures goes { (s : Arrived) → IsLeft self.old s → Goes self.new s byte result }
@@ -365,23 +365,23 @@ impl PartialValue {
     {
         if byte == b',' {
             if self.is_whole() {
-                return Went::Over;
+                return Transition::Over;
             }
             self.awaits = Awaits::Next;
-            return Went::Taken;
+            return Transition::Taken;
         }
         if is_blank(byte) {
-            return Went::Taken;
+            return Transition::Taken;
         }
         if self.is_whole() {
-            return Went::Over;
+            return Transition::Over;
         }
         let shape = shape_inside(&self.spine);
         self.end();
         if byte == shape.closer() {
-            Went::Taken
+            Transition::Taken
         } else {
-            Went::Closed(shape.comma_kind())
+            Transition::Closed(shape.comma_kind())
         }
     }
 
@@ -392,21 +392,21 @@ impl PartialValue {
         requires after { IsAfter self.old.awaits }
         ensures { (s : Arrived) → IsLeft self.old s → ClosesOver self.new s byte }
     {
-        while let Went::Closed(_) = self.after(byte) {}
+        while let Transition::Closed(_) = self.after(byte) {}
     }
 
     #[inline(always)]
-    fn colon(&mut self, byte: u8) -> Went
+    fn colon(&mut self, byte: u8) -> Transition
         ensures goes { (fs : List OpenFrame) → AwaitsPart self.old.spine.items fs
             → IsOfKey (text_view self.old.key) fs → is_blank byte ≡ false
             → Goes self.new (at_value Awaits.Colon fs) byte result }
         ensures closed { ClosesOne self.old self.new result }
     {
         if byte != b':' {
-            return Went::Wrong(FaultKind::ExpectedColon);
+            return Transition::Wrong(FaultKind::ExpectedColon);
         }
         self.awaits = Awaits::Value;
-        Went::Taken
+        Transition::Taken
     }
 
     /// Takes the colon after a key. Does not allocate.
@@ -419,14 +419,14 @@ impl PartialValue {
     }
 
     #[inline(always)]
-    fn turn(&mut self, byte: u8) -> Result<Went, AllocFailed>
+    fn turn(&mut self, byte: u8) -> Result<Transition, AllocFailed>
         requires { (s : Arrived) × IsLeft self.old s }
         ensures goes { (s : Arrived) → IsLeft self.old s → IfOk result (Goes self.new s byte) }
         ensures closed { IfOk result (λ went. ClosesOne self.old self.new went) }
         ensures refused { (s : Arrived) → IsLeft self.old s → OnErr result (IsLeft self.new s) }
     {
         if is_blank(byte) {
-            return Ok(Went::Taken);
+            return Ok(Transition::Taken);
         }
         match self.awaits {
             Awaits::Value => self.value(byte),
@@ -436,10 +436,10 @@ impl PartialValue {
         }
     }
 
-    /// Takes the next byte, or returns what it is instead (see [`Went`]). If an allocation fails, the value so far is
+    /// Takes the next byte, or returns what it is instead (see [`Transition`]). If an allocation fails, the value so far is
     /// unchanged.
     #[inline(always)]
-    pub fn next(&mut self, byte: u8) -> Result<Went, AllocFailed>
+    pub fn next(&mut self, byte: u8) -> Result<Transition, AllocFailed>
         requires { (s : Arrived) × IsLeft self.old s }
         ensures goes { (s : Arrived) → IsLeft self.old s → IfOk result (Goes self.new s byte) }
         ensures refused { (s : Arrived) → IsLeft self.old s → OnErr result (IsLeft self.new s) }

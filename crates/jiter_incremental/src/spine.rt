@@ -25,7 +25,7 @@ ghost use Rattle.jiter_incremental.specs.declared.partial_value.Awaits.{Awaits};
 ghost use Rattle.jiter_value.specs.declared.settings.Settings.{Settings};
 ghost use Rattle.jiter_value.specs.declared.value.JsonValue.{JsonValue as JsonValueView, out-JsonValue};
 
-use jiter_scan::memory::{AllocFailed, make_room, push_ascii};
+use jiter_scan::memory::{AllocFailed, make_room, push_ascii, with_capacity};
 use jiter_steps::parse::ContainerKind;
 use jiter_value::value::{JsonArray, JsonObject, JsonValue};
 use std::alloc::Global;
@@ -143,22 +143,38 @@ pub fn put_together<'j>(spine: &mut Vec<JsonValue<'j>>, root: &mut JsonValue<'j>
     }
 }
 
+// The first part gets capacity for one: in deep documents most containers have no other.
 #[inline(always)]
-fn widen<'j>(container: &mut JsonValue<'j>) -> Result<(), AllocFailed>
+fn make_room_after<T: Drop>(alloc: Global, parts: &mut Vec<T>) -> Result<(), AllocFailed>
+    ensures same { parts.new.items ≡ parts.old.items }
+    ensures room { OnOk result (vec_len parts.new < vec_capacity parts.new) }
+{
+    if parts.capacity() > 0 {
+        return make_room(parts);
+    }
+    *parts = with_capacity(alloc, 1)?;
+    Ok(())
+}
+
+#[inline(always)]
+fn widen<'j>(alloc: Global, container: &mut JsonValue<'j>) -> Result<(), AllocFailed>
     requires { (f : OpenFrame) × (view container.old ≡ begun f) }
     ensures same { view container.new ≡ view container.old }
     ensures room { OnOk result (IsRoomy (out-JsonValue container.new)) }
 {
     match container {
-        JsonValue::Array(items) => make_room(items),
-        JsonValue::Object(members) => make_room(members),
+        JsonValue::Array(items) => make_room_after(alloc, items),
+        JsonValue::Object(members) => make_room_after(alloc, members),
         _ => unreachable!(),
     }
 }
 
 /// Reserves capacity for one more item or member of the innermost container, if one is open.
 #[inline(always)]
-pub fn make_room_inside<'j>(spine: &mut Vec<JsonValue<'j>>) -> Result<(), AllocFailed>
+pub fn make_room_inside<'j>(
+    alloc: Global,
+    spine: &mut Vec<JsonValue<'j>>,
+) -> Result<(), AllocFailed>
     requires { (fs : List OpenFrame) × AwaitsPart spine.old.items fs }
     ensures same { map view spine.new.items ≡ map view spine.old.items }
     ensures room { OnOk result (HasRoomInside spine.new.items) }
@@ -168,7 +184,7 @@ pub fn make_room_inside<'j>(spine: &mut Vec<JsonValue<'j>>) -> Result<(), AllocF
     if depth == 0 {
         return Ok(());
     }
-    widen(&mut spine[depth - 1])
+    widen(alloc, &mut spine[depth - 1])
 }
 
 // A member takes its key from `key`.
@@ -240,7 +256,7 @@ pub fn open_container<'j>(
         × (root.new ≡ root.old) × (key.new ≡ key.old)) }
 {
     make_room(spine)?;
-    make_room_inside(spine)?;
+    make_room_inside(alloc, spine)?;
     put(spine, root, key, JsonValue::Null);
     spine.push_reserved(empty(alloc, shape));
     Ok(())

@@ -20,12 +20,12 @@ ghost use Rattle.jiter_incremental.specs.Spine.{HasRoomInside, OpenFrame};
 ghost use Rattle.jiter_value.specs.Value.{view};
 ghost use Rattle.jiter_incremental.specs.declared.partial_document.Token.{Token};
 ghost use Rattle.jiter_incremental.specs.declared.partial_value.Awaits.{Awaits};
-ghost use Rattle.jiter_incremental.specs.declared.partial_value.Went.{Went};
+ghost use Rattle.jiter_incremental.specs.declared.partial_value.Transition.{Transition};
 
 use crate::document_strings::text_value;
 use crate::names::literal_value;
 use crate::partial_document::{PartialDocument, Token, begins_decimal};
-use crate::partial_value::Went;
+use crate::partial_value::Transition;
 use crate::spine::empty;
 use jiter_scan::memory::{AllocFailed, copy_text};
 use jiter_scan::number_within::{ShortWithin, number_within, short_within};
@@ -77,16 +77,16 @@ fn float_value(alloc: Global, bytes: &[u8]) -> Result<JsonValue<'static>, AllocF
 }
 
 #[inline(always)]
-fn closes_at(piece: &[u8], at: usize, shape: ContainerKind) -> bool
-    ensures { result ≡ true → slice_get piece.now at ≡ Some (closer_of shape) }
+fn closes_at(chunk: &[u8], at: usize, shape: ContainerKind) -> bool
+    ensures { result ≡ true → slice_get chunk.now at ≡ Some (closer_of shape) }
 {
-    at < piece.len() && piece[at] == shape.closer()
+    at < chunk.len() && chunk[at] == shape.closer()
 }
 
 impl PartialDocument {
     // Lets the value take the byte, if the byte begins no token. `follow` does the rest.
     #[inline(always)]
-    fn look(&mut self, byte: u8) -> Result<Went, AllocFailed>
+    fn look(&mut self, byte: u8) -> Result<Transition, AllocFailed>
         requires token { IsIn self.old Token.Nothing }
         ensures met { (t : List ℕ) → HasArrived self.old t → IfOk result (Meets byte self.new t) }
         ensures refused { OnErr result (Stays self.old self.new) }
@@ -98,36 +98,36 @@ impl PartialDocument {
     }
 
     // Takes a byte, given what `look` returned for it.
-    fn follow(&mut self, went: Went, byte: u8)
+    fn follow(&mut self, went: Transition, byte: u8)
         requires met { (t : List ℕ) × Meets byte self.old t went }
-        requires named { went ≡ Went.Scalar → begins_decimal byte ≡ false }
+        requires named { went ≡ Transition.Scalar → begins_decimal byte ≡ false }
         requires unset { self.old.fault ≡ None }
         ensures taken { (t : List ℕ) → Meets byte self.old t went → HasTakenIn anything self.new (t ++ byte ∷ []) }
         ensures same { StaysSo self.old self.new }
     {
         match went {
-            Went::Taken => {}
-            Went::Scalar => self.begin_scalar(byte),
-            Went::Key => self.begin_string(Token::Key),
-            Went::Closed(kind) => self.close(kind, byte),
-            Went::Wrong(kind) => self.refuse(kind, self.position),
-            Went::Over => self.trail(),
+            Transition::Taken => {}
+            Transition::Scalar => self.begin_scalar(byte),
+            Transition::Key => self.begin_string(Token::Key),
+            Transition::Closed(kind) => self.close(kind, byte),
+            Transition::Wrong(kind) => self.refuse(kind, self.position),
+            Transition::Over => self.trail(),
         }
     }
 
     // The slow path: takes one byte. After a bracket, comma or colon it also takes the whitespace that follows.
-    fn step_byte(&mut self, piece: &[u8], at: usize) -> Result<usize, AllocFailed>
-        requires within { at < length piece.now }
-        requires named { begins_decimal (slice_index piece.now at) ≡ false }
+    fn step_byte(&mut self, chunk: &[u8], at: usize) -> Result<usize, AllocFailed>
+        requires within { at < length chunk.now }
+        requires named { begins_decimal (slice_index chunk.now at) ≡ false }
         requires token { IsIn self.old Token.Nothing }
-        ensures taken { IfOk result (λ n. Takes self.old self.new (slice_range piece.now at (at + n))) }
-        ensures part { IfOk result (λ n. (0 < n) × (at + n ≤ length piece.now)) }
+        ensures taken { IfOk result (λ n. Takes self.old self.new (slice_range chunk.now at (at + n))) }
+        ensures part { IfOk result (λ n. (0 < n) × (at + n ≤ length chunk.now)) }
         ensures refused { OnErr result (Stays self.old self.new) }
         ensures same { StaysSo self.old self.new }
     {
-        let byte = piece[at];
+        let byte = chunk[at];
         match self.look(byte)? {
-            Went::Taken => Ok(past_blanks(piece, at + 1) - at),
+            Transition::Taken => Ok(past_blanks(chunk, at + 1) - at),
             went => {
                 self.follow(went, byte);
                 Ok(1)
@@ -137,35 +137,35 @@ impl PartialDocument {
 
     // The number isn't part of the document yet, so a failed allocation changes nothing.
     #[inline(always)]
-    fn hold(&mut self, piece: &[u8], at: usize, stage: Stage, end: usize) -> Result<(), AllocFailed>
-        requires begun { BeginsThere piece.now at stage end }
+    fn hold(&mut self, chunk: &[u8], at: usize, stage: Stage, end: usize) -> Result<(), AllocFailed>
+        requires begun { BeginsThere chunk.now at stage end }
         requires token { IsIn self.old Token.Nothing }
-        ensures held { OnOk result (HoldsNumber self.new.number (slice_range piece.now at end)) }
+        ensures held { OnOk result (HoldsNumber self.new.number (slice_range chunk.now at end)) }
         ensures stays { Stays self.old self.new }
         ensures token { IsIn self.new Token.Nothing }
         ensures same { StaysSo self.old self.new }
     {
         self.number.clear();
-        self.number.begin(piece, at, stage, end)
+        self.number.begin(chunk, at, stage, end)
     }
 
     // The slow path, for a number that may be truncated or invalid, or where no value is expected. The bytes are stored
     // first: that can fail.
     #[inline(never)]
-    fn begin_number(&mut self, piece: &[u8], at: usize) -> Result<usize, AllocFailed>
-        requires within { at < length piece.now }
-        requires begins { begins_decimal (slice_index piece.now at) ≡ true }
+    fn begin_number(&mut self, chunk: &[u8], at: usize) -> Result<usize, AllocFailed>
+        requires within { at < length chunk.now }
+        requires begins { begins_decimal (slice_index chunk.now at) ≡ true }
         requires token { IsIn self.old Token.Nothing }
-        ensures taken { IfOk result (λ n. Takes self.old self.new (slice_range piece.now at (at + n))) }
-        ensures part { IfOk result (λ n. (0 < n) × (at + n ≤ length piece.now)) }
+        ensures taken { IfOk result (λ n. Takes self.old self.new (slice_range chunk.now at (at + n))) }
+        ensures part { IfOk result (λ n. (0 < n) × (at + n ≤ length chunk.now)) }
         ensures refused { OnErr result (Stays self.old self.new) }
         ensures same { StaysSo self.old self.new }
     {
-        let (stage, end) = begun_at(piece, at);
-        self.hold(piece, at, stage, end)?;
-        let byte = piece[at];
+        let (stage, end) = begun_at(chunk, at);
+        self.hold(chunk, at, stage, end)?;
+        let byte = chunk[at];
         match self.look(byte)? {
-            Went::Scalar => {
+            Transition::Scalar => {
                 self.begin_token(Token::Number);
                 Ok(end - at)
             }
@@ -178,7 +178,7 @@ impl PartialDocument {
 
     // The caller counts the scalar's bytes. They are counted here only so that an error has the index of this byte.
     #[inline(never)]
-    fn end_before(&mut self, went: Went, bytes: usize, byte: u8)
+    fn end_before(&mut self, went: Transition, bytes: usize, byte: u8)
         requires met { (t : List ℕ) × MeetsAfter bytes byte self.old t went }
         requires which { IsEnding went }
         requires room { self.old.position + bytes < 2 ^ 64 }
@@ -193,22 +193,22 @@ impl PartialDocument {
 
     // Takes the byte after the value too, and the whitespace after a comma or bracket. Returns the number of bytes.
     #[inline(always)]
-    fn put_ended(&mut self, piece: &[u8], at: usize, value: JsonValue<'static>, end: usize) -> usize
-        requires within { (at < end) × (end < length piece.now) }
+    fn put_ended(&mut self, chunk: &[u8], at: usize, value: JsonValue<'static>, end: usize) -> usize
+        requires within { (at < end) × (end < length chunk.now) }
         requires ends { (t : List ℕ) × (fs : List OpenFrame)
-            × EndsBefore self.old t (slice_range piece.now at end) (slice_index piece.now end) fs (view value) }
-        requires room { self.old.position + (length piece.now - at) < 2 ^ 64 }
+            × EndsBefore self.old t (slice_range chunk.now at end) (slice_index chunk.now end) fs (view value) }
+        requires room { self.old.position + (length chunk.now - at) < 2 ^ 64 }
         ensures taken { (t : List ℕ) → (fs : List OpenFrame)
-            → EndsBefore self.old t (slice_range piece.now at end) (slice_index piece.now end) fs (view value.entry)
-            → HasTakenIn anything self.new (t ++ slice_range piece.now at (at + result)) }
-        ensures part { (0 < result) × (at + result ≤ length piece.now) }
+            → EndsBefore self.old t (slice_range chunk.now at end) (slice_index chunk.now end) fs (view value.entry)
+            → HasTakenIn anything self.new (t ++ slice_range chunk.now at (at + result)) }
+        ensures part { (0 < result) × (at + result ≤ length chunk.now) }
         ensures same { StaysSo self.old self.new }
     {
         self.put(value);
-        match self.value.after(piece[end]) {
-            Went::Taken => past_blanks(piece, end + 1) - at,
+        match self.value.after(chunk[end]) {
+            Transition::Taken => past_blanks(chunk, end + 1) - at,
             went => {
-                self.end_before(went, end - at, piece[end]);
+                self.end_before(went, end - at, chunk[end]);
                 end + 1 - at
             }
         }
@@ -216,17 +216,17 @@ impl PartialDocument {
 
     // Takes the byte after the value too, if the chunk has it. Returns the number of bytes.
     #[inline(always)]
-    fn put_whole(&mut self, piece: &[u8], at: usize, value: JsonValue<'static>, end: usize) -> usize
-        requires scalar { IsScalarWithin piece.now at (view value) end }
-        requires begins { (t : List ℕ) × (fs : List OpenFrame) × BeginsHere (slice_index piece.now at) self.old t fs }
-        requires room { self.old.position + (length piece.now - at) < 2 ^ 64 }
-        ensures taken { (t : List ℕ) → (fs : List OpenFrame) → BeginsHere (slice_index piece.now at) self.old t fs
-            → HasTakenIn anything self.new (t ++ slice_range piece.now at (at + result)) }
-        ensures part { (0 < result) × (at + result ≤ length piece.now) }
+    fn put_whole(&mut self, chunk: &[u8], at: usize, value: JsonValue<'static>, end: usize) -> usize
+        requires scalar { IsScalarWithin chunk.now at (view value) end }
+        requires begins { (t : List ℕ) × (fs : List OpenFrame) × BeginsHere (slice_index chunk.now at) self.old t fs }
+        requires room { self.old.position + (length chunk.now - at) < 2 ^ 64 }
+        ensures taken { (t : List ℕ) → (fs : List OpenFrame) → BeginsHere (slice_index chunk.now at) self.old t fs
+            → HasTakenIn anything self.new (t ++ slice_range chunk.now at (at + result)) }
+        ensures part { (0 < result) × (at + result ≤ length chunk.now) }
         ensures same { StaysSo self.old self.new }
     {
-        if end < piece.len() {
-            return self.put_ended(piece, at, value, end);
+        if end < chunk.len() {
+            return self.put_ended(chunk, at, value, end);
         }
         self.put(value);
         end - at
@@ -234,20 +234,20 @@ impl PartialDocument {
 
     // Takes the colon after a key and the whitespace after it. Returns the number of bytes: 0 if `at` has no colon.
     #[inline(always)]
-    fn colon_after(&mut self, piece: &[u8], at: usize) -> usize
-        requires within { at ≤ length piece.now }
+    fn colon_after(&mut self, chunk: &[u8], at: usize) -> usize
+        requires within { at ≤ length chunk.now }
         requires read { (t : List ℕ) × HasTakenIn anything self.old t }
         requires token { self.old.token ≡ Token.Nothing }
         requires unset { self.old.fault ≡ None }
         requires awaits { self.old.value.awaits ≡ Awaits.Colon }
         ensures taken { (t : List ℕ) → HasTakenIn anything self.old t
-            → HasTakenIn anything self.new (t ++ slice_range piece.now at (at + result)) }
-        ensures part { at + result ≤ length piece.now }
+            → HasTakenIn anything self.new (t ++ slice_range chunk.now at (at + result)) }
+        ensures part { at + result ≤ length chunk.now }
         ensures same { StaysSo self.old self.new }
     {
-        if at < piece.len() && piece[at] == b':' {
+        if at < chunk.len() && chunk[at] == b':' {
             self.value.pass_colon();
-            return past_blanks(piece, at + 1) - at;
+            return past_blanks(chunk, at + 1) - at;
         }
         0
     }
@@ -281,7 +281,7 @@ impl PartialDocument {
     #[inline(always)]
     fn whole_number(
         &mut self,
-        piece: &[u8],
+        chunk: &[u8],
         at: usize,
         value: JsonValue<'static>,
         end: usize,
@@ -289,65 +289,65 @@ impl PartialDocument {
         requires token { IsIn self.old Token.Nothing }
         requires awaited { AwaitsValue self.old.value }
         requires space { HasRoomInside self.old.value.spine.items }
-        requires number { IsNumberWithin piece.now at (view value) end }
-        requires room { self.old.position + (length piece.now - at) < 2 ^ 64 }
-        ensures taken { Takes self.old self.new (slice_range piece.now at (at + result)) }
-        ensures part { (0 < result) × (at + result ≤ length piece.now) }
+        requires number { IsNumberWithin chunk.now at (view value) end }
+        requires room { self.old.position + (length chunk.now - at) < 2 ^ 64 }
+        ensures taken { Takes self.old self.new (slice_range chunk.now at (at + result)) }
+        ensures part { (0 < result) × (at + result ≤ length chunk.now) }
         ensures same { StaysSo self.old self.new }
     {
         self.begin_value();
-        self.put_ended(piece, at, value, end)
+        self.put_ended(chunk, at, value, end)
     }
 
     // The number may be long, or truncated by the chunk.
     #[inline(never)]
-    fn step_long_number(&mut self, piece: &[u8], at: usize) -> Result<usize, AllocFailed>
-        requires within { at < length piece.now }
-        requires begins { begins_decimal (slice_index piece.now at) ≡ true }
+    fn step_long_number(&mut self, chunk: &[u8], at: usize) -> Result<usize, AllocFailed>
+        requires within { at < length chunk.now }
+        requires begins { begins_decimal (slice_index chunk.now at) ≡ true }
         requires token { IsIn self.old Token.Nothing }
         requires awaited { AwaitsValue self.old.value }
         requires space { HasRoomInside self.old.value.spine.items }
-        requires room { self.old.position + (length piece.now - at) < 2 ^ 64 }
-        ensures taken { IfOk result (λ n. Takes self.old self.new (slice_range piece.now at (at + n))) }
-        ensures part { IfOk result (λ n. (0 < n) × (at + n ≤ length piece.now)) }
+        requires room { self.old.position + (length chunk.now - at) < 2 ^ 64 }
+        ensures taken { IfOk result (λ n. Takes self.old self.new (slice_range chunk.now at (at + n))) }
+        ensures part { IfOk result (λ n. (0 < n) × (at + n ≤ length chunk.now)) }
         ensures refused { OnErr result (Stays self.old self.new) }
         ensures same { StaysSo self.old self.new }
     {
-        if let Some((number, end)) = number_within(piece, at) {
+        if let Some((number, end)) = number_within(chunk, at) {
             let value = number_value(self.alloc, number)?;
-            return Ok(self.whole_number(piece, at, value, end));
+            return Ok(self.whole_number(chunk, at, value, end));
         }
-        self.begin_number(piece, at)
+        self.begin_number(chunk, at)
     }
 
     // Capacity for the value is reserved first, so storing it does not allocate.
     #[inline(always)]
-    pub(crate) fn step_number(&mut self, piece: &[u8], at: usize) -> Result<usize, AllocFailed>
-        requires within { at < length piece.now }
-        requires begins { begins_decimal (slice_index piece.now at) ≡ true }
+    pub(crate) fn step_number(&mut self, chunk: &[u8], at: usize) -> Result<usize, AllocFailed>
+        requires within { at < length chunk.now }
+        requires begins { begins_decimal (slice_index chunk.now at) ≡ true }
         requires token { IsIn self.old Token.Nothing }
-        requires room { self.old.position + (length piece.now - at) < 2 ^ 64 }
-        ensures taken { IfOk result (λ n. Takes self.old self.new (slice_range piece.now at (at + n))) }
-        ensures part { IfOk result (λ n. (0 < n) × (at + n ≤ length piece.now)) }
+        requires room { self.old.position + (length chunk.now - at) < 2 ^ 64 }
+        ensures taken { IfOk result (λ n. Takes self.old self.new (slice_range chunk.now at (at + n))) }
+        ensures part { IfOk result (λ n. (0 < n) × (at + n ≤ length chunk.now)) }
         ensures refused { OnErr result (Stays self.old self.new) }
         ensures same { StaysSo self.old self.new }
     {
         if !self.value.awaits_value() {
-            return self.begin_number(piece, at);
+            return self.begin_number(chunk, at);
         }
         self.make_room()?;
-        if piece.len() - at < SHORT_REACH {
-            return self.step_long_number(piece, at);
+        if chunk.len() - at < SHORT_REACH {
+            return self.step_long_number(chunk, at);
         }
-        match short_within(piece, at) {
+        match short_within(chunk, at) {
             ShortWithin::Int(number, end) => {
-                Ok(self.whole_number(piece, at, int_value(number), end))
+                Ok(self.whole_number(chunk, at, int_value(number), end))
             }
             ShortWithin::Float(end) => {
-                let value = float_value(self.alloc, &piece[at..end])?;
-                Ok(self.whole_number(piece, at, value, end))
+                let value = float_value(self.alloc, &chunk[at..end])?;
+                Ok(self.whole_number(chunk, at, value, end))
             }
-            ShortWithin::Other => self.step_long_number(piece, at),
+            ShortWithin::Other => self.step_long_number(chunk, at),
         }
     }
 
@@ -356,59 +356,59 @@ impl PartialDocument {
     #[inline(always)]
     fn text_there(
         &mut self,
-        piece: &[u8],
+        chunk: &[u8],
         at: usize,
     ) -> Result<Option<(String, usize)>, AllocFailed>
-        requires within { at < length piece.now }
+        requires within { at < length chunk.now }
         requires token { IsIn self.old Token.Nothing }
-        ensures text { IfOk result (λ found. IfSome found (λ x. IsTextWithin piece.now at (string_bytes x.0) x.1)) }
+        ensures text { IfOk result (λ found. IfSome found (λ x. IsTextWithin chunk.now at (string_bytes x.0) x.1)) }
         ensures stays { Stays self.old self.new }
         ensures token { IsIn self.new Token.Nothing }
         ensures same { StaysSo self.old self.new }
     {
-        text_within(self.alloc, &mut self.tape, piece, at)
+        text_within(self.alloc, &mut self.tape, chunk, at)
     }
 
     // A truncated string or key, and an invalid one, takes the slow path.
     #[inline(always)]
-    fn step_text(&mut self, piece: &[u8], at: usize) -> Result<usize, AllocFailed>
-        requires within { at < length piece.now }
-        requires named { begins_decimal (slice_index piece.now at) ≡ false }
+    fn step_text(&mut self, chunk: &[u8], at: usize) -> Result<usize, AllocFailed>
+        requires within { at < length chunk.now }
+        requires named { begins_decimal (slice_index chunk.now at) ≡ false }
         requires token { IsIn self.old Token.Nothing }
-        requires room { self.old.position + (length piece.now - at) < 2 ^ 64 }
-        ensures taken { IfOk result (λ n. Takes self.old self.new (slice_range piece.now at (at + n))) }
-        ensures part { IfOk result (λ n. (0 < n) × (at + n ≤ length piece.now)) }
+        requires room { self.old.position + (length chunk.now - at) < 2 ^ 64 }
+        ensures taken { IfOk result (λ n. Takes self.old self.new (slice_range chunk.now at (at + n))) }
+        ensures part { IfOk result (λ n. (0 < n) × (at + n ≤ length chunk.now)) }
         ensures refused { OnErr result (Stays self.old self.new) }
         ensures same { StaysSo self.old self.new }
     {
-        match self.text_there(piece, at)? {
-            Some((text, end)) => self.whole_text(piece, at, text, end),
-            None => self.step_byte(piece, at),
+        match self.text_there(chunk, at)? {
+            Some((text, end)) => self.whole_text(chunk, at, text, end),
+            None => self.step_byte(chunk, at),
         }
     }
 
     #[inline(always)]
     fn whole_text(
         &mut self,
-        piece: &[u8],
+        chunk: &[u8],
         at: usize,
         text: String,
         end: usize,
     ) -> Result<usize, AllocFailed>
         requires token { IsIn self.old Token.Nothing }
-        requires text { IsTextWithin piece.now at (string_bytes text) end }
-        requires room { self.old.position + (length piece.now - at) < 2 ^ 64 }
-        ensures taken { IfOk result (λ n. Takes self.old self.new (slice_range piece.now at (at + n))) }
-        ensures part { IfOk result (λ n. (0 < n) × (at + n ≤ length piece.now)) }
+        requires text { IsTextWithin chunk.now at (string_bytes text) end }
+        requires room { self.old.position + (length chunk.now - at) < 2 ^ 64 }
+        ensures taken { IfOk result (λ n. Takes self.old self.new (slice_range chunk.now at (at + n))) }
+        ensures part { IfOk result (λ n. (0 < n) × (at + n ≤ length chunk.now)) }
         ensures refused { OnErr result (Stays self.old self.new) }
         ensures same { StaysSo self.old self.new }
     {
-        let byte = piece[at];
+        let byte = chunk[at];
         match self.look(byte)? {
-            Went::Scalar => Ok(self.put_whole(piece, at, text_value(text), end)),
-            Went::Key => {
+            Transition::Scalar => Ok(self.put_whole(chunk, at, text_value(text), end)),
+            Transition::Key => {
                 self.end_key(text);
-                Ok(end - at + self.colon_after(piece, end))
+                Ok(end - at + self.colon_after(chunk, end))
             }
             went => {
                 self.follow(went, byte);
@@ -421,50 +421,50 @@ impl PartialDocument {
     #[inline(always)]
     fn whole_value(
         &mut self,
-        piece: &[u8],
+        chunk: &[u8],
         at: usize,
         value: JsonValue<'static>,
         end: usize,
     ) -> Result<usize, AllocFailed>
         requires token { IsIn self.old Token.Nothing }
         requires awaited { AwaitsValue self.old.value }
-        requires begins { BeginsItem (slice_index piece.now at) }
-        requires value { IsScalarWithin piece.now at (view value) end }
-        requires room { self.old.position + (length piece.now - at) < 2 ^ 64 }
-        ensures taken { IfOk result (λ n. Takes self.old self.new (slice_range piece.now at (at + n))) }
-        ensures part { IfOk result (λ n. (0 < n) × (at + n ≤ length piece.now)) }
+        requires begins { BeginsItem (slice_index chunk.now at) }
+        requires value { IsScalarWithin chunk.now at (view value) end }
+        requires room { self.old.position + (length chunk.now - at) < 2 ^ 64 }
+        ensures taken { IfOk result (λ n. Takes self.old self.new (slice_range chunk.now at (at + n))) }
+        ensures part { IfOk result (λ n. (0 < n) × (at + n ≤ length chunk.now)) }
         ensures refused { OnErr result (Stays self.old self.new) }
         ensures same { StaysSo self.old self.new }
     {
         self.make_room()?;
         self.begin_value();
-        Ok(self.put_whole(piece, at, value, end))
+        Ok(self.put_whole(chunk, at, value, end))
     }
 
     // A truncated literal, and an invalid one, takes the slow path.
     #[inline(always)]
     fn step_literal(
         &mut self,
-        piece: &[u8],
+        chunk: &[u8],
         at: usize,
         literal: Literal,
     ) -> Result<usize, AllocFailed>
-        requires within { at < length piece.now }
-        requires begins { start_of (slice_index piece.now at) ≡ Start.Literal literal }
-        requires named { begins_decimal (slice_index piece.now at) ≡ false }
+        requires within { at < length chunk.now }
+        requires begins { start_of (slice_index chunk.now at) ≡ Start.Literal literal }
+        requires named { begins_decimal (slice_index chunk.now at) ≡ false }
         requires token { IsIn self.old Token.Nothing }
-        requires room { self.old.position + (length piece.now - at) < 2 ^ 64 }
-        ensures taken { IfOk result (λ n. Takes self.old self.new (slice_range piece.now at (at + n))) }
-        ensures part { IfOk result (λ n. (0 < n) × (at + n ≤ length piece.now)) }
+        requires room { self.old.position + (length chunk.now - at) < 2 ^ 64 }
+        ensures taken { IfOk result (λ n. Takes self.old self.new (slice_range chunk.now at (at + n))) }
+        ensures part { IfOk result (λ n. (0 < n) × (at + n ≤ length chunk.now)) }
         ensures refused { OnErr result (Stays self.old self.new) }
         ensures same { StaysSo self.old self.new }
     {
         if !self.value.awaits_value() {
-            return self.step_byte(piece, at);
+            return self.step_byte(chunk, at);
         }
-        match fast_literal_end(piece, at, literal) {
-            Some(end) => self.whole_value(piece, at, literal_value(literal), end),
-            None => self.step_byte(piece, at),
+        match fast_literal_end(chunk, at, literal) {
+            Some(end) => self.whole_value(chunk, at, literal_value(literal), end),
+            None => self.step_byte(chunk, at),
         }
     }
 
@@ -472,49 +472,49 @@ impl PartialDocument {
     #[inline(always)]
     fn step_opening(
         &mut self,
-        piece: &[u8],
+        chunk: &[u8],
         at: usize,
         shape: ContainerKind,
     ) -> Result<usize, AllocFailed>
-        requires within { at < length piece.now }
-        requires begins { start_of (slice_index piece.now at) ≡ opening shape }
-        requires named { begins_decimal (slice_index piece.now at) ≡ false }
+        requires within { at < length chunk.now }
+        requires begins { start_of (slice_index chunk.now at) ≡ opening shape }
+        requires named { begins_decimal (slice_index chunk.now at) ≡ false }
         requires token { IsIn self.old Token.Nothing }
-        requires room { self.old.position + (length piece.now - at) < 2 ^ 64 }
-        ensures taken { IfOk result (λ n. Takes self.old self.new (slice_range piece.now at (at + n))) }
-        ensures part { IfOk result (λ n. (0 < n) × (at + n ≤ length piece.now)) }
+        requires room { self.old.position + (length chunk.now - at) < 2 ^ 64 }
+        ensures taken { IfOk result (λ n. Takes self.old self.new (slice_range chunk.now at (at + n))) }
+        ensures part { IfOk result (λ n. (0 < n) × (at + n ≤ length chunk.now)) }
         ensures refused { OnErr result (Stays self.old self.new) }
         ensures same { StaysSo self.old self.new }
     {
         if !self.value.awaits_value() {
-            return self.step_byte(piece, at);
+            return self.step_byte(chunk, at);
         }
-        if closes_at(piece, at + 1, shape) {
+        if closes_at(chunk, at + 1, shape) {
             let closed: JsonValue<'static> = empty(self.alloc, shape);
-            return self.whole_value(piece, at, closed, at + 2);
+            return self.whole_value(chunk, at, closed, at + 2);
         }
         self.value.begin_container(shape)?;
-        Ok(past_blanks(piece, at + 1) - at)
+        Ok(past_blanks(chunk, at + 1) - at)
     }
 
     // Decimal numbers have a path of their own: `step_number`.
     #[inline(always)]
-    pub(crate) fn step(&mut self, piece: &[u8], at: usize) -> Result<usize, AllocFailed>
-        requires within { at < length piece.now }
-        requires named { begins_decimal (slice_index piece.now at) ≡ false }
+    pub(crate) fn step(&mut self, chunk: &[u8], at: usize) -> Result<usize, AllocFailed>
+        requires within { at < length chunk.now }
+        requires named { begins_decimal (slice_index chunk.now at) ≡ false }
         requires token { IsIn self.old Token.Nothing }
-        requires room { self.old.position + (length piece.now - at) < 2 ^ 64 }
-        ensures taken { IfOk result (λ n. Takes self.old self.new (slice_range piece.now at (at + n))) }
-        ensures part { IfOk result (λ n. (0 < n) × (at + n ≤ length piece.now)) }
+        requires room { self.old.position + (length chunk.now - at) < 2 ^ 64 }
+        ensures taken { IfOk result (λ n. Takes self.old self.new (slice_range chunk.now at (at + n))) }
+        ensures part { IfOk result (λ n. (0 < n) × (at + n ≤ length chunk.now)) }
         ensures refused { OnErr result (Stays self.old self.new) }
         ensures same { StaysSo self.old self.new }
     {
-        match start_of(piece[at]) {
-            Start::String => self.step_text(piece, at),
-            Start::Literal(literal) => self.step_literal(piece, at, literal),
-            Start::Array => self.step_opening(piece, at, ContainerKind::Array),
-            Start::Object => self.step_opening(piece, at, ContainerKind::Object),
-            _ => self.step_byte(piece, at),
+        match start_of(chunk[at]) {
+            Start::String => self.step_text(chunk, at),
+            Start::Literal(literal) => self.step_literal(chunk, at, literal),
+            Start::Array => self.step_opening(chunk, at, ContainerKind::Array),
+            Start::Object => self.step_opening(chunk, at, ContainerKind::Object),
+            _ => self.step_byte(chunk, at),
         }
     }
 }

@@ -1,4 +1,4 @@
--- Blanks of a document that arrives in pieces: a run of them is taken at once, and before the first byte that is none
+-- Blanks of a document that arrives in chunks: a run of them is taken at once, and before the first byte that is none
 -- no memory is wanted.
 use Rattle.std.proofs.Common.{◌≡◌, ◌≢◌, ℕ, zero, suc, ◌+◌, ◌-◌, ◌<◌, ◌≤◌, true, false, List, [], ◌∷◌, ◌++◌, length, take, drop}
 use Rattle.std.proofs.Common.{◌⊎◌, get_or, inl, inr, refl, sym, ap, ◌∙◌, subst, arith, append_assoc, length-append}
@@ -63,15 +63,15 @@ module _ (d : PartialDocument) (t : List ℕ) (h : HasTakenIn anything d t) (uns
       let bound = past_blanks-bound s i le in
       blanks-taken n (omega arith) (λ k from to. run_end-passes is_blank s i k from (omega arith))
 
--- After bytes of a piece that were taken the blanks are taken too.
-pub blanks-after : (d : PartialDocument) (piece : List ℕ) (at e r : ℕ) (t : List ℕ) → at ≤ e → e ≤ length piece
-    → d.fault ≡ None → d.token ≡ token.Nothing → at + r ≡ past_blanks piece e
-    → HasTakenIn anything d (t ++ slice_range piece at e) → HasTakenIn anything d (t ++ slice_range piece at (at + r))
-blanks-after d piece at e r t le within unset none is h =
-    let n = past_blanks piece e - e in
-    let all : e + n ≡ past_blanks piece e = omega (arith, past_blanks-after piece e) in
-    two-parts d piece at e n r t le (is ∙ sym all)
-    (run-taken d (t ++ slice_range piece at e) h unset none piece e n all within)
+-- After bytes of a chunk that were taken the blanks are taken too.
+pub blanks-after : (d : PartialDocument) (chunk : List ℕ) (at e r : ℕ) (t : List ℕ) → at ≤ e → e ≤ length chunk
+    → d.fault ≡ None → d.token ≡ token.Nothing → at + r ≡ past_blanks chunk e
+    → HasTakenIn anything d (t ++ slice_range chunk at e) → HasTakenIn anything d (t ++ slice_range chunk at (at + r))
+blanks-after d chunk at e r t le within unset none is h =
+    let n = past_blanks chunk e - e in
+    let all : e + n ≡ past_blanks chunk e = omega (arith, past_blanks-after chunk e) in
+    two-parts d chunk at e n r t le (is ∙ sym all)
+    (run-taken d (t ++ slice_range chunk at e) h unset none chunk e n all within)
 
 -- a byte that is no blank is not passed
 blank-stops : (s : List ℕ) (i c : ℕ) → slice_get s i ≡ Some c → is_blank c ≡ false → past_blanks s 0 ≤ i
@@ -174,16 +174,16 @@ pub if-refused : {T E P : Type 0} (r : Result T E) → P → OnErr r P
 if-refused (Ok x) p = tt
 if-refused (Err e) p = p
 
--- where a byte of a piece comes next
-pub refuse-inside : (t piece : List ℕ) (at i : ℕ) → at < length piece → i ≡ length (t ++ take at piece)
-    → MayRefuseAt ((t ++ take at piece) ++ get_or piece at 0 ∷ []) (length (t ++ take at piece))
-    → MayRefuseAt (t ++ piece) i
-refuse-inside t piece at i lt place h =
-    let u = t ++ take at piece in
-    let c = get_or piece at 0 in
-    let rest = drop (at + 1) piece in
-    let parts : (u ++ c ∷ []) ++ rest ≡ t ++ piece =
-    ap (λ w. w ++ rest) (append_assoc t (take at piece) (c ∷ []) ∙ ap (λ w. t ++ w) (sym (take_more piece at 0 lt)))
-    ∙ append_assoc t (take (at + 1) piece) rest
-    ∙ ap (λ w. t ++ w) (take-append-drop (at + 1) piece) in
+-- where a byte of a chunk comes next
+pub refuse-inside : (t chunk : List ℕ) (at i : ℕ) → at < length chunk → i ≡ length (t ++ take at chunk)
+    → MayRefuseAt ((t ++ take at chunk) ++ get_or chunk at 0 ∷ []) (length (t ++ take at chunk))
+    → MayRefuseAt (t ++ chunk) i
+refuse-inside t chunk at i lt place h =
+    let u = t ++ take at chunk in
+    let c = get_or chunk at 0 in
+    let rest = drop (at + 1) chunk in
+    let parts : (u ++ c ∷ []) ++ rest ≡ t ++ chunk =
+    ap (λ w. w ++ rest) (append_assoc t (take at chunk) (c ∷ []) ∙ ap (λ w. t ++ w) (sym (take_more chunk at 0 lt)))
+    ∙ append_assoc t (take (at + 1) chunk) rest
+    ∙ ap (λ w. t ++ w) (take-append-drop (at + 1) chunk) in
     subst (λ w. MayRefuseAt w i) parts (rw place (refuse-on (u ++ c ∷ []) rest (length u) h))

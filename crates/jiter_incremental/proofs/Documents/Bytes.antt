@@ -15,13 +15,13 @@ use Rattle.jiter_incremental.specs.declared.partial_document.PartialDocument.{Pa
 use Rattle.jiter_incremental.specs.declared.partial_document.Token.TheVariants as token
 use Rattle.jiter_incremental.specs.declared.partial_value.Awaits.TheVariants as awaits
 use Rattle.jiter_incremental.specs.declared.partial_value.PartialValue.{PartialValue}
-use Rattle.jiter_incremental.specs.declared.partial_value.Went.{Went}
-use Rattle.jiter_incremental.specs.declared.partial_value.Went.TheVariants as went
+use Rattle.jiter_incremental.specs.declared.partial_value.Transition.{Transition}
+use Rattle.jiter_incremental.specs.declared.partial_value.Transition.TheVariants as went
 use Rattle.jiter_incremental.proofs.Documents.{begins-here, between-before, known-before, moved, stands-at, taken-between, takes-byte}
 use Rattle.jiter_incremental.proofs.Documents.{value-here}
 
 -- the container that was closed
-closes : (old new : PartialValue) (w : Went) → ClosesOne old new w → IsClosed new w
+closes : (old new : PartialValue) (w : Transition) → ClosesOne old new w → IsClosed new w
 closes old new (went.Closed k) h = h.0
 closes old new went.Taken h = tt
 closes old new went.Scalar h = tt
@@ -31,7 +31,7 @@ closes old new went.Over h = tt
 
 -- What is told of the byte is right.
 pub meets : (c : ℕ) (d : PartialDocument) (v : PartialValue) (t : List ℕ) → HasArrived d t → d.fault ≡ None
-    → d.token ≡ token.Nothing → (r : Result Went AllocFailed)
+    → d.token ≡ token.Nothing → (r : Result Transition AllocFailed)
     → ((s : Arrived) → IsLeft d.value s → IfOk r (Goes v s c)) → IfOk r (ClosesOne d.value v)
     → IfOk r (Meets c (record d { value = v }) t)
 meets c d v t h unset none (Ok w) goes one =
@@ -45,7 +45,7 @@ meets c d v t h unset none (Ok w) goes one =
 meets c d v t h unset none (Err e) goes one = tt
 
 -- After a value that was put, what is told of it is right, once the bytes of that are counted.
-pub meets-after : (c : ℕ) (d : PartialDocument) (v : PartialValue) (j : ℕ) (t : List ℕ) (w : Went)
+pub meets-after : (c : ℕ) (d : PartialDocument) (v : PartialValue) (j : ℕ) (t : List ℕ) (w : Transition)
     → HasTakenIn (with_byte c) d t → d.fault ≡ None → d.token ≡ token.Nothing → j ≡ length t
     → ((s : Arrived) → IsLeft d.value s → Goes v s c w) → ClosesOne d.value v w
     → Meets c (record d { value = v; position = j }) t w
@@ -68,20 +68,20 @@ begins-value c d v t h unset none item begins =
     (g.frames, value-here d v c t b.state b.known unset h.position item g)
 
 -- It is taken,
-pub meets-taken : (c : ℕ) (d : PartialDocument) (t : List ℕ) (w : Went) → Meets c d t w → w ≡ went.Taken
+pub meets-taken : (c : ℕ) (d : PartialDocument) (t : List ℕ) (w : Transition) → Meets c d t w → w ≡ went.Taken
     → HasTakenIn anything d (t ++ c ∷ [])
 meets-taken c d t w m is =
     takes-byte d d.value c t m.state m.stands.known m.stands.token (subst (Goes d.value m.state c) is m.goes)
 
 -- or a scalar begins with it,
-pub meets-scalar : (c : ℕ) (d : PartialDocument) (t : List ℕ) (w : Went) → Meets c d t w → w ≡ went.Scalar
+pub meets-scalar : (c : ℕ) (d : PartialDocument) (t : List ℕ) (w : Transition) → Meets c d t w → w ≡ went.Scalar
     → (fs : List OpenFrame) × BeginsHere c d t fs
 meets-scalar c d t w m is =
     let goes = subst (Goes d.value m.state c) is m.goes in
     (goes.frames, begins-here d d.value c t m.state m.stands.known m.stands.unset m.stands.position goes)
 
 -- or a key.
-pub meets-key : (c : ℕ) (d : PartialDocument) (t : List ℕ) (w : Went) → Meets c d t w → w ≡ went.Key
+pub meets-key : (c : ℕ) (d : PartialDocument) (t : List ℕ) (w : Transition) → Meets c d t w → w ≡ went.Key
     → (s : Arrived) × StandsAt c d t s × BeginsKey d.value s c
 meets-key c d t w m is = (m.state, m.stands, subst (Goes d.value m.state c) is m.goes)
 
@@ -97,28 +97,28 @@ put-before d e v puts t w c fs h =
     puts (with_byte h.first) next t w fs (length t) h.begins.known follows h.begins.unset h.begins.left h.reads
 
 -- It is taken alone.
-pub one-byte : (e : PartialDocument) (piece : List ℕ) (at : ℕ) (t : List ℕ) → at < length piece
-    → HasTakenIn anything e (t ++ get_or piece at 0 ∷ []) → HasTakenIn anything e (t ++ slice_range piece at (at + 1))
-one-byte e piece at t within h =
+pub one-byte : (e : PartialDocument) (chunk : List ℕ) (at : ℕ) (t : List ℕ) → at < length chunk
+    → HasTakenIn anything e (t ++ get_or chunk at 0 ∷ []) → HasTakenIn anything e (t ++ slice_range chunk at (at + 1))
+one-byte e chunk at t within h =
     subst (λ w. HasTakenIn anything e (t ++ w))
-    (sym (slice-one piece at (get_or piece at 0) (slice_get-get_or piece at 0 within))) h
+    (sym (slice-one chunk at (get_or chunk at 0) (slice_get-get_or chunk at 0 within))) h
 
--- A scalar that ends within a piece: it is followed by what comes then,
-module _ (piece : List ℕ) (at : ℕ) (v : Tree) (e : ℕ) (h : IsScalarWithin piece at v e) where
+-- A scalar that ends within a chunk: it is followed by what comes then,
+module _ (chunk : List ℕ) (at : ℕ) (v : Tree) (e : ℕ) (h : IsScalarWithin chunk at v e) where
   abbrev first : ℕ
-  first = get_or piece at 0
+  first = get_or chunk at 0
 
   abbrev bytes : List ℕ
-  bytes = slice_range piece at e
+  bytes = slice_range chunk at e
 
-  scalar-bytes : bytes ≡ first ∷ slice_range piece (at + 1) e
+  scalar-bytes : bytes ≡ first ∷ slice_range chunk (at + 1) e
   scalar-bytes =
-      slice_range-split piece at (at + 1) (omega arith) e (omega (arith, h.begins))
-      ∙ ap (λ w. w ++ slice_range piece (at + 1) e)
-      (slice-one piece at first (slice_get-get_or piece at 0 (omega (arith, h.begins, h.within))))
+      slice_range-split chunk at (at + 1) (omega arith) e (omega (arith, h.begins))
+      ∙ ap (λ w. w ++ slice_range chunk (at + 1) e)
+      (slice-one chunk at first (slice_get-get_or chunk at 0 (omega (arith, h.begins, h.within))))
 
   pub scalar-follows : Follows (with_byte first) bytes anything
-  scalar-follows u comes = (slice_range piece (at + 1) e ++ u, ap (λ w. w ++ u) scalar-bytes)
+  scalar-follows u comes = (slice_range chunk (at + 1) e ++ u, ap (λ w. w ++ u) scalar-bytes)
 
   pub scalar-read : (d : PartialDocument) (t : List ℕ) (depth : ℕ) → depth ≤ nesting_limit
       → IsReadAs d anything (t ++ bytes) depth (length t) v
@@ -129,7 +129,7 @@ module _ (piece : List ℕ) (at : ℕ) (v : Tree) (e : ℕ) (h : IsScalarWithin 
       → EndsBefore d t bytes c fs v
   scalar-ends d t fs c here = record {
     first = first;
-    rest = slice_range piece (at + 1) e;
+    rest = slice_range chunk (at + 1) e;
     is = scalar-bytes;
     begins = here;
     reads = λ p u reading comes. h.reads p t u (length fs) here.low;
@@ -143,11 +143,11 @@ takes-here c d v t h unset none passes =
     let b = taken-between anything d t h unset none in
     takes-byte d v c t b.state (known-before c d t (between_tokens b.state) b.known) none (passes b.state b.left)
 
--- Bytes of a piece are taken, and those after them.
-pub two-parts : (d : PartialDocument) (piece : List ℕ) (at e n k : ℕ) (t : List ℕ) → at ≤ e → at + k ≡ e + n
-    → HasTakenIn anything d ((t ++ slice_range piece at e) ++ slice_range piece e (e + n))
-    → HasTakenIn anything d (t ++ slice_range piece at (at + k))
-two-parts d piece at e n k t le is h =
-    let whole : slice_range piece at (at + k) ≡ slice_range piece at e ++ slice_range piece e (e + n) =
-    ap (slice_range piece at) is ∙ slice_range-split piece at e le (e + n) (omega arith) in
-    subst (HasTakenIn anything d) (append_assoc t (slice_range piece at e) (slice_range piece e (e + n)) ∙ ap (λ w. t ++ w) (sym whole)) h
+-- Bytes of a chunk are taken, and those after them.
+pub two-parts : (d : PartialDocument) (chunk : List ℕ) (at e n k : ℕ) (t : List ℕ) → at ≤ e → at + k ≡ e + n
+    → HasTakenIn anything d ((t ++ slice_range chunk at e) ++ slice_range chunk e (e + n))
+    → HasTakenIn anything d (t ++ slice_range chunk at (at + k))
+two-parts d chunk at e n k t le is h =
+    let whole : slice_range chunk at (at + k) ≡ slice_range chunk at e ++ slice_range chunk e (e + n) =
+    ap (slice_range chunk at) is ∙ slice_range-split chunk at e le (e + n) (omega arith) in
+    subst (HasTakenIn anything d) (append_assoc t (slice_range chunk at e) (slice_range chunk e (e + n)) ∙ ap (λ w. t ++ w) (sym whole)) h

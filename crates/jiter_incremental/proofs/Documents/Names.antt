@@ -1,4 +1,4 @@
--- The name of a float after a minus, in a document that arrives in pieces.
+-- The name of a float after a minus, in a document that arrives in chunks.
 use Rattle.std.proofs.Common.{◌≡◌, ℕ, ◌+◌, ◌==◌, true, false, List, [], ◌∷◌, ◌++◌, length, refl, sym, subst, ap, ◌∙◌}
 use Rattle.std.proofs.Common.{arith, append_assoc, codes, drop}
 use Rattle.std.specs.Prelude.{slice_get, Option, Some, None}

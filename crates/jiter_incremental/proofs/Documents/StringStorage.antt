@@ -1,4 +1,4 @@
--- A string or a key of a document that arrives, which lies whole in a piece.
+-- A string or a key of a document that arrives, which lies whole in a chunk.
 use Rattle.std.proofs.Common.{◌≡◌, ℕ, ◌+◌, ◌<◌, List, ◌∷◌, ◌++◌, length, get_or, refl, ap, ◌∙◌, arith}
 use Rattle.std.proofs.Common.{Bool, false, length-append}
 use Rattle.std.proofs.lemmas.Option.{slice_get-get_or}
@@ -17,21 +17,21 @@ use Rattle.jiter_incremental.specs.PartialDocument.{Follows, IsScalarWithin, Sta
 use Rattle.jiter_incremental.specs.PartialValue.{text_of}
 use Rattle.jiter_incremental.specs.declared.partial_document.PartialDocument.{PartialDocument}
 
-module _ (piece : List ℕ) (at : ℕ) (text : List ℕ) (e : ℕ) (h : IsTextWithin piece at text e) where
+module _ (chunk : List ℕ) (at : ℕ) (text : List ℕ) (e : ℕ) (h : IsTextWithin chunk at text e) where
   abbrev bytes : List ℕ
-  bytes = slice_range piece at e
+  bytes = slice_range chunk at e
 
   abbrev it : Text
   it = record { owned = h.owned; bytes = text }
 
-  bytes-are : bytes ≡ get_or piece at 0 ∷ slice_range piece (at + 1) e
+  bytes-are : bytes ≡ get_or chunk at 0 ∷ slice_range chunk (at + 1) e
   bytes-are =
-      slice_range-split piece at (at + 1) (omega arith) e (omega (arith, h.within.0))
-      ∙ ap (λ w. w ++ slice_range piece (at + 1) e)
-      (slice-one piece at (get_or piece at 0) (slice_get-get_or piece at 0 (omega (arith, h.within.0, h.within.1))))
+      slice_range-split chunk at (at + 1) (omega arith) e (omega (arith, h.within.0))
+      ∙ ap (λ w. w ++ slice_range chunk (at + 1) e)
+      (slice-one chunk at (get_or chunk at 0) (slice_get-get_or chunk at 0 (omega (arith, h.within.0, h.within.1))))
 
-  pub text-follows : Follows (with_byte (get_or piece at 0)) bytes anything
-  text-follows u comes = (slice_range piece (at + 1) e ++ u, ap (λ w. w ++ u) bytes-are)
+  pub text-follows : Follows (with_byte (get_or chunk at 0)) bytes anything
+  text-follows u comes = (slice_range chunk (at + 1) e ++ u, ap (λ w. w ++ u) bytes-are)
 
   pub text-some : (t : List ℕ) → length t < length (t ++ bytes)
   text-some t = omega (arith, length-append t bytes, ap (λ w. length w) bytes-are)
@@ -58,7 +58,7 @@ module _ (piece : List ℕ) (at : ℕ) (text : List ℕ) (e : ℕ) (h : IsTextWi
         key-done p (all u) (length t) (quoted u) (length (t ++ bytes)) it (reads u false)
 
   -- and as a value.
-  pub text-scalar : IsScalarWithin piece at (string (text_of text)) e
+  pub text-scalar : IsScalarWithin chunk at (string (text_of text)) e
   text-scalar = record {
     begins = omega (arith, h.within.0);
     within = h.within.1;

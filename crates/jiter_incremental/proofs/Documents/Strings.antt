@@ -1,4 +1,4 @@
--- What the bytes of a string or a key make of a document that arrives in pieces.
+-- What the bytes of a string or a key make of a document that arrives in chunks.
 use Rattle.std.proofs.Common.{◌≡◌, ℕ, ◌+◌, ◌-◌, ◌<◌, ◌≤◌, inl, inr, Bool, true, false, List, [], ◌∷◌, ◌++◌}
 use Rattle.std.proofs.Common.{get_or, length, refl, sym, ap, subst, ◌∙◌, arith, append_assoc, append-nil, length-append, map}
 use Rattle.std.proofs.Math.Seq.{get_or-append_seam}
@@ -507,21 +507,21 @@ module _ (d : PartialDocument) (k : IsOfString d.token) (unset : d.fault ≡ Non
   string-in = is-held d t k o held
 
   -- Where a byte of it is wrong it is refused.
-  module _ (s : PartialString) (piece : List ℕ) (at back : ℕ) (kind : FaultKind) (there : at < length piece)
-      (goes : (w : List ℕ) → HasTaken d.string w → Goes s w piece at (went.Wrong kind back)) where
+  module _ (s : PartialString) (chunk : List ℕ) (at back : ℕ) (kind : FaultKind) (there : at < length chunk)
+      (goes : (w : List ℕ) → HasTaken d.string w → Goes s w chunk at (went.Wrong kind back)) where
     pub wrong-low : back ≤ d.position
     wrong-low =
         let g = goes string-in.rest string-in.taken_so in
         omega (arith, g.0, size d.string t (begin_of o) string-in, h.position)
 
     abbrev c : ℕ
-    c = get_or piece at 0
+    c = get_or chunk at 0
 
-    here : slice_get piece at ≡ Some c
-    here = slice_get-get_or piece at 0 there
+    here : slice_get chunk at ≡ Some c
+    here = slice_get-get_or chunk at 0 there
 
-    one : slice_range piece at (at + 1) ≡ c ∷ []
-    one = slice-one piece at c here
+    one : slice_range chunk at (at + 1) ≡ c ∷ []
+    one = slice-one chunk at c here
 
     wrong-content : (form : Form) (T u : List ℕ) → T ≡ t ++ c ∷ u
         → content_at form T (begin_of o + 1) ≡ failed (fault_kind kind) (d.position - back)
@@ -534,7 +534,7 @@ module _ (d : PartialDocument) (k : IsOfString d.token) (unset : d.fault ≡ Non
         (next-byte d.string t b string-in T u c text ∙ sym here) form
         ∙ ap (failed (fault_kind kind)) place
 
-    pub wrong-refused : IsRefused d anything (t ++ slice_range piece at (at + 1)) (fault_kind kind) (d.position - back)
+    pub wrong-refused : IsRefused d anything (t ++ slice_range chunk at (at + 1)) (fault_kind kind) (d.position - back)
     wrong-refused =
         let text = λ (u : List ℕ). append_assoc t (c ∷ []) u in
         let T = λ (u : List ℕ). (t ++ c ∷ []) ++ u in
@@ -718,8 +718,8 @@ module _ (d : PartialDocument) (k : IsOfString d.token) (unset : d.fault ≡ Non
               (sym (noted-reading p r)) (form-closed true is o held (on u) u (on-is u)))
 
 -- At its quote the string is whole, and the document is in it still.
-module _ (d : PartialDocument) (s : PartialString) (piece : List ℕ) (at : ℕ)
-    (goes : (w : List ℕ) → HasTaken d.string w → Goes s w piece at went.Quote) where
+module _ (d : PartialDocument) (s : PartialString) (chunk : List ℕ) (at : ℕ)
+    (goes : (w : List ℕ) → HasTaken d.string w → Goes s w chunk at went.Quote) where
   quote-arrived : (t : List ℕ) → IsOfString d.token → d.fault ≡ None → HasArrived d t → HasArrived (with_string d s) t
   quote-arrived t k unset h = record {
     read = taken-same d s t k unset (λ w x. (goes w x).0) h.read;
@@ -730,7 +730,7 @@ module _ (d : PartialDocument) (s : PartialString) (piece : List ℕ) (at : ℕ)
   quote-in (inl x) = inl ((x.0.0, quote-arrived x.0.0 (inl x.2) x.1 x.0.1), x.1, x.2)
   quote-in (inr x) = inr ((x.0.0, quote-arrived x.0.0 (inr x.2) x.1 x.0.1), x.1, x.2)
 
-  quote-at : IsInString d → (s.escape ≡ None) × (slice_get piece at ≡ Some 34)
+  quote-at : IsInString d → (s.escape ≡ None) × (slice_get chunk at ≡ Some 34)
   quote-at inside =
       let a = arrived-in d inside in
       let k = of-string d inside in
@@ -742,7 +742,7 @@ module _ (d : PartialDocument) (s : PartialString) (piece : List ℕ) (at : ℕ)
   quote-whole inside = (quote-at inside).0
 
   pub quote-takes : IsInString d → (new : PartialDocument) → Takes (with_string d s) new (34 ∷ [])
-      → Takes d new (slice_range piece at (at + 1))
+      → Takes d new (slice_range chunk at (at + 1))
   quote-takes inside new takes = λ t h.
-      subst (λ w. HasTakenIn anything new (t ++ w)) (sym (slice-one piece at 34 (quote-at inside).1))
+      subst (λ w. HasTakenIn anything new (t ++ w)) (sym (slice-one chunk at 34 (quote-at inside).1))
       (takes t (quote-arrived t (of-string d inside) (unset-in d inside) h))

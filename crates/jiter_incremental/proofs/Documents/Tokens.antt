@@ -1,4 +1,4 @@
--- The tokens of a document that arrives in pieces: how they begin, go on, end and fail, whatever comes after them.
+-- The tokens of a document that arrives in chunks: how they begin, go on, end and fail, whatever comes after them.
 use Rattle.std.proofs.Common.{◌≡◌, ◌⊎◌, inl, inr, ℕ, ◌+◌, ◌-◌, ◌<◌, ◌≤◌, ◌==◌, Bool, true, false, List, [], ◌∷◌, ◌++◌}
 use Rattle.std.proofs.Common.{length, take, drop, get_or, refl, sym, subst, ap, ◌∙◌, arith, append_assoc, length-append}
 use Rattle.std.proofs.Common.{slice_range, codes, map}
@@ -39,7 +39,7 @@ use Rattle.jiter_steps.specs.declared.parse.Literal.{Literal}
 use Rattle.jiter_steps.specs.declared.parse.Literal.TheVariants as literal
 use Rattle.jiter_steps.specs.declared.parse.Start.{Start}
 use Rattle.jiter_steps.specs.declared.parse.Start.TheVariants as start
-use Rattle.jiter_incremental.proofs.Pieces.{range-long}
+use Rattle.jiter_incremental.proofs.Chunks.{range-long}
 use Rattle.jiter_incremental.specs.Arrived.{Arrived, at_value, owned}
 use Rattle.jiter_incremental.specs.Names.{name_bytes, name_extent, name_start, name_tree, name_word}
 use Rattle.jiter_incremental.specs.PartialDocument.{EndsBefore, IsNumberWithin}
@@ -746,7 +746,7 @@ module _ (d : PartialDocument) (t : List ℕ) (x : Unfinished d t token.Number) 
     room = x.room;
   }
 
--- ---- a number that lies whole in a piece, with the byte after it
+-- ---- a number that lies whole in a chunk, with the byte after it
 
 pub decimal-starts : (c : ℕ) → begins_decimal c ≡ true → start_of c ≡ start.Number
 decimal-starts c h = grind (arith, nat_tests, h)
@@ -754,32 +754,32 @@ decimal-starts c h = grind (arith, nat_tests, h)
 pub decimal-item : (c : ℕ) → begins_decimal c ≡ true → BeginsItem c
 decimal-item c h = (grind (arith, nat_tests, h), grind (arith, nat_tests, h))
 
--- the bytes of a piece from a place on begin with the one there
-pub range-first : (piece : List ℕ) (at e : ℕ) → at < e → e ≤ length piece
-    → slice_range piece at e ≡ get_or piece at 0 ∷ slice_range piece (at + 1) e
-range-first piece at e lt le =
-    slice_range-split piece at (at + 1) (omega arith) e (omega arith)
-    ∙ ap (λ w. w ++ slice_range piece (at + 1) e)
-    (slice-one piece at (get_or piece at 0) (slice_get-get_or piece at 0 (omega arith)))
+-- the bytes of a chunk from a place on begin with the one there
+pub range-first : (chunk : List ℕ) (at e : ℕ) → at < e → e ≤ length chunk
+    → slice_range chunk at e ≡ get_or chunk at 0 ∷ slice_range chunk (at + 1) e
+range-first chunk at e lt le =
+    slice_range-split chunk at (at + 1) (omega arith) e (omega arith)
+    ∙ ap (λ w. w ++ slice_range chunk (at + 1) e)
+    (slice-one chunk at (get_or chunk at 0) (slice_get-get_or chunk at 0 (omega arith)))
 
-module _ (d : PartialDocument) (t : List ℕ) (fs : List OpenFrame) (piece : List ℕ) (at : ℕ) (v : Tree) (e : ℕ)
-    (here : BeginsHere (get_or piece at 0) d t fs) (h : IsNumberWithin piece at v e) where
+module _ (d : PartialDocument) (t : List ℕ) (fs : List OpenFrame) (chunk : List ℕ) (at : ℕ) (v : Tree) (e : ℕ)
+    (here : BeginsHere (get_or chunk at 0) d t fs) (h : IsNumberWithin chunk at v e) where
   abbrev first : ℕ
-  first = get_or piece at 0
+  first = get_or chunk at 0
 
   abbrev bytes : List ℕ
-  bytes = slice_range piece at e
+  bytes = slice_range chunk at e
 
-  bytes-are : bytes ≡ first ∷ slice_range piece (at + 1) e
-  bytes-are = range-first piece at e (omega (arith, h.ends.begins)) (omega (arith, h.ends.within))
+  bytes-are : bytes ≡ first ∷ slice_range chunk (at + 1) e
+  bytes-are = range-first chunk at e (omega (arith, h.ends.begins)) (omega (arith, h.ends.within))
 
   bytes-long : length bytes ≡ e - at
   bytes-long =
       let end : at + (e - at) ≡ e = omega (arith, h.ends.begins) in
-      ap (λ k. length (slice_range piece at k)) (sym end)
-      ∙ range-long piece at (e - at) (omega (arith, h.ends.begins, h.ends.within))
+      ap (λ k. length (slice_range chunk at k)) (sym end)
+      ∙ range-long chunk at (e - at) (omega (arith, h.ends.begins, h.ends.within))
 
-  read-within : (p : Settings) (u : List ℕ) → Comes (with_byte (get_or piece e 0)) u
+  read-within : (p : Settings) (u : List ℕ) → Comes (with_byte (get_or chunk e 0)) u
       → value_in (rules_as owned p) ((t ++ bytes) ++ u) (length fs) (length t) ≡ done v (length (t ++ bytes))
   read-within p u comes =
       let all = (t ++ bytes) ++ u in
@@ -787,11 +787,11 @@ module _ (d : PartialDocument) (t : List ℕ) (fs : List OpenFrame) (piece : Lis
       let count : b + length bytes ≡ b + (e - at) = omega (arith, bytes-long) in
       let stands = held-stands t bytes (t ++ bytes) b refl refl u in
       let place : length (t ++ bytes) ≡ b + (e - at) = omega (arith, length-append t bytes, bytes-long) in
-      let after : slice_get all (b + (e - at)) ≡ Some (get_or piece e 0) =
+      let after : slice_get all (b + (e - at)) ≡ Some (get_or chunk e 0) =
       ap (λ w. slice_get ((t ++ bytes) ++ w) (b + (e - at))) comes.1
-      ∙ ap (slice_get ((t ++ bytes) ++ get_or piece e 0 ∷ comes.0)) (sym place)
-      ∙ stands-last (t ++ bytes) comes.0 (get_or piece e 0) in
-      let same = after ∙ sym (slice_get-get_or piece e 0 h.ends.within) in
+      ∙ ap (slice_get ((t ++ bytes) ++ get_or chunk e 0 ∷ comes.0)) (sym place)
+      ∙ stands-last (t ++ bytes) comes.0 (get_or chunk e 0) in
+      let same = after ∙ sym (slice_get-get_or chunk e 0 h.ends.within) in
       let standing : Stands all b (b + (e - at)) bytes = subst (λ k. Stands all b k bytes) count stands in
       let begun = subst (λ w. Stands all b (b + length bytes) w) bytes-are stands in
       let is : own_number bytes ≡ v =
@@ -800,24 +800,24 @@ module _ (d : PartialDocument) (t : List ℕ) (fs : List OpenFrame) (piece : Lis
       (h.ends.reads p.allow_inf_nan all b standing same) (sym (slice-stands all b (b + (e - at)) bytes standing))
       ∙ ap (λ x. done x (b + (e - at))) is ∙ ap (done v) (sym place)
 
-  pub number-within-ends : EndsBefore d t bytes (get_or piece e 0) fs v
+  pub number-within-ends : EndsBefore d t bytes (get_or chunk e 0) fs v
   number-within-ends = record {
     first = first;
-    rest = slice_range piece (at + 1) e;
+    rest = slice_range chunk (at + 1) e;
     is = bytes-are;
     begins = here;
     reads = λ p u reading comes. read-within p u comes;
   }
 
--- the bytes of a piece to before a place, and the one there
-pub range-more : (piece : List ℕ) (at e : ℕ) → at ≤ e → e < length piece
-    → slice_range piece at e ++ get_or piece e 0 ∷ [] ≡ slice_range piece at (e + 1)
-range-more piece at e le h =
+-- the bytes of a chunk to before a place, and the one there
+pub range-more : (chunk : List ℕ) (at e : ℕ) → at ≤ e → e < length chunk
+    → slice_range chunk at e ++ get_or chunk e 0 ∷ [] ≡ slice_range chunk at (e + 1)
+range-more chunk at e le h =
     sym
-    (slice_range-split piece at e le (e + 1) (omega arith)
-    ∙ ap (λ w. slice_range piece at e ++ w) (slice-one piece e (get_or piece e 0) (slice_get-get_or piece e 0 h)))
+    (slice_range-split chunk at e le (e + 1) (omega arith)
+    ∙ ap (λ w. slice_range chunk at e ++ w) (slice-one chunk e (get_or chunk e 0) (slice_get-get_or chunk e 0 h)))
 
-pub range-after : (t piece : List ℕ) (at e : ℕ) → at ≤ e → e < length piece
-    → (t ++ slice_range piece at e) ++ get_or piece e 0 ∷ [] ≡ t ++ slice_range piece at (e + 1)
-range-after t piece at e le h =
-    append_assoc t (slice_range piece at e) (get_or piece e 0 ∷ []) ∙ ap (λ w. t ++ w) (range-more piece at e le h)
+pub range-after : (t chunk : List ℕ) (at e : ℕ) → at ≤ e → e < length chunk
+    → (t ++ slice_range chunk at e) ++ get_or chunk e 0 ∷ [] ≡ t ++ slice_range chunk at (e + 1)
+range-after t chunk at e le h =
+    append_assoc t (slice_range chunk at e) (get_or chunk e 0 ∷ []) ∙ ap (λ w. t ++ w) (range-more chunk at e le h)

@@ -3,11 +3,11 @@ use Rattle.std.specs.List.{flat_map}
 use Rattle.jiter_incremental.specs.IncrementalParser.{HasReceived}
 use Rattle.jiter_incremental.proofs.incremental_parser.parse_chunks.Given as goal
 
--- the pieces before this one have been received
-abbrev pub invariant-loop-piece : goal.invariant-loop-piece
-invariant-loop-piece l =
+-- the chunks before this one have been received
+abbrev pub invariant-loop-chunk : goal.invariant-loop-chunk
+invariant-loop-chunk l =
     record {
-      received : HasReceived l.incremental_parser (flat_map (λ piece. piece.now) (take l.piece-index l.pieces));
+      received : HasReceived l.incremental_parser (flat_map (λ chunk. chunk.now) (take l.chunk-index l.chunks));
       names : l.incremental_parser.settings.allow_inf_nan ≡ l.allow_inf_nan;
       fits : l.incremental_parser.position < 2 ^ 64;
     }

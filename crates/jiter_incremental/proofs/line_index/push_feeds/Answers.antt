@@ -5,10 +5,10 @@ use Rattle.jiter_incremental.proofs.line_index.push_feeds.Goals.{then-byte-eq10+
 pub loop-offset-preserved : goal.loop-offset-preserved
 loop-offset-preserved c =
     let i = c.loop-offset.invariant in
-    let piece = c.args.piece.now in
+    let chunk = c.args.chunk.now in
     elim c.if-byte-eq10.branch [
-      | then-byte-eq10+in_ok-push w ↦ rw w.feeds-is (rw w.in_ok-push.ensures.ok (feed-noted c.args.begin piece c.loop-offset.offset
+      | then-byte-eq10+in_ok-push w ↦ rw w.feeds-is (rw w.in_ok-push.ensures.ok (feed-noted c.args.begin chunk c.loop-offset.offset
           c.loop-offset-test.true _ _ i w.if-byte-eq10.true))
       | else-byte-eq10 w ↦ rw w.feeds-is
-          (no-feed c.args.begin piece c.loop-offset.offset c.loop-offset-test.true _ _ i w.if-byte-eq10.false)
+          (no-feed c.args.begin chunk c.loop-offset.offset c.loop-offset-test.true _ _ i w.if-byte-eq10.false)
     ]

@@ -15,7 +15,7 @@ append_text-requires-clause-text c =
     let r = c.requires in text-held c.args.self.now r.received.0 r.received.1 r.growing c.if-self.true
 
 pub append_text-requires-clause-ascii : goal.append_text-requires-clause-ascii
-append_text-requires-clause-ascii c = ascii-of c.args.piece.now c.requires.plain
+append_text-requires-clause-ascii c = ascii-of c.args.chunk.now c.requires.plain
 
 pub add_plain-requires-clause-even : goal.add_plain-requires-clause-even
 add_plain-requires-clause-even c = (c.requires.received.1.growing c.requires.growing).2
@@ -30,7 +30,7 @@ pub returns-clause-ok : goal.returns-clause-ok
 returns-clause-ok c = λ t h.
     let s = c.args.self.now in
     let d = s.document in
-    let v = c.args.piece.now in
+    let v = c.args.chunk.now in
     let grows = c.requires.growing in
     let went : HasReceived (received (with_end (counted_on c.if-self.self (length v)))) (t ++ v) =
     elim c.if-self.branch [

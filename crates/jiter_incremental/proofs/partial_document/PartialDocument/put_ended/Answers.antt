@@ -7,14 +7,14 @@ use Rattle.jiter_incremental.proofs.Documents.Blanks.{blanks-after}
 use Rattle.jiter_incremental.proofs.Documents.Bytes.{meets-after, put-before}
 use Rattle.jiter_incremental.proofs.Documents.Tokens.{range-after}
 use Rattle.jiter_incremental.proofs.Documents.{taken-between, takes-byte}
-use Rattle.jiter_incremental.proofs.Pieces.{range-long}
+use Rattle.jiter_incremental.proofs.Chunks.{range-long}
 use Rattle.jiter_incremental.proofs.partial_document.PartialDocument.put_ended.Goals as goal
 
 pub after-requires : goal.after-requires
 after-requires c =
     let new = c.put.new.self in
-    let byte = get_or c.args.piece.now c.args.end 0 in
-    let w = slice_range c.args.piece.now c.args.at c.args.end in
+    let byte = get_or c.args.chunk.now c.args.end 0 in
+    let w = slice_range c.args.chunk.now c.args.at c.args.end in
     let r = c.requires.ends in
     let put = put-before c.args.self.now new (view c.args.value) c.put.ensures.put r.0 w byte r.1 r.2 in
     let unset = c.put.ensures.fault ∙ r.2.begins.unset in
@@ -24,18 +24,18 @@ after-requires c =
 pub end_before-requires : goal.end_before-requires
 end_before-requires c =
     let new = c.put.new.self in
-    let piece = c.args.piece.now in
+    let chunk = c.args.chunk.now in
     let at = c.args.at in
     let end = c.args.end in
-    let byte = get_or piece end 0 in
-    let w = slice_range piece at end in
+    let byte = get_or chunk end 0 in
+    let w = slice_range chunk at end in
     let r = c.requires.ends in
     let put = put-before c.args.self.now new (view c.args.value) c.put.ensures.put r.0 w byte r.1 r.2 in
     let unset = c.put.ensures.fault ∙ r.2.begins.unset in
     let is : at + (end - at) ≡ end = omega (arith, c.requires.within.0) in
     let long =
-    ap (λ k. length (slice_range piece at k)) (sym is)
-    ∙ range-long piece at (end - at) (omega (arith, c.requires.within.0, c.requires.within.1)) in
+    ap (λ k. length (slice_range chunk at k)) (sym is)
+    ∙ range-long chunk at (end - at) (omega (arith, c.requires.within.0, c.requires.within.1)) in
     let place : new.position + (end - at) ≡ length (r.0 ++ w) =
     omega (arith, length-append r.0 w, long, r.2.begins.position, c.put.ensures.same.1) in
     let meets = meets-after byte new c.after.new.self (new.position + (end - at)) (r.0 ++ w) c.after.result put unset
@@ -49,11 +49,11 @@ end_before-requires c =
 pub returns-in-Taken-clause-taken : goal.returns-in-Taken-clause-taken
 returns-in-Taken-clause-taken c = λ t fs ends.
     let new = c.put.new.self in
-    let piece = c.args.piece.now in
+    let chunk = c.args.chunk.now in
     let at = c.args.at in
     let end = c.args.end in
-    let byte = get_or piece end 0 in
-    let w = slice_range piece at end in
+    let byte = get_or chunk end 0 in
+    let w = slice_range chunk at end in
     let v = c.after.new.self in
     let put = put-before c.args.self.now new (view c.args.value) c.put.ensures.put t w byte fs ends in
     let unset = c.put.ensures.fault ∙ ends.begins.unset in
@@ -64,30 +64,30 @@ returns-in-Taken-clause-taken c = λ t fs ends.
     let before = c.requires.within.0 in
     let inside = c.requires.within.1 in
     let past = c.past_blanks.ensures in
-    blanks-after e piece at (end + 1) (c.past_blanks.result - at) t (omega (arith, before)) (omega (arith, inside)) unset
+    blanks-after e chunk at (end + 1) (c.past_blanks.result - at) t (omega (arith, before)) (omega (arith, inside)) unset
     c.put.ensures.token (omega (arith, past.value, past.after, before))
-    (subst (HasTakenIn anything e) (range-after t piece at end (omega (arith, before)) inside) taken)
+    (subst (HasTakenIn anything e) (range-after t chunk at end (omega (arith, before)) inside) taken)
 
 pub returns-in_default-clause-taken : goal.returns-in_default-clause-taken
 returns-in_default-clause-taken c = λ t fs ends.
     let new = c.put.new.self in
-    let piece = c.args.piece.now in
+    let chunk = c.args.chunk.now in
     let at = c.args.at in
     let end = c.args.end in
-    let byte = get_or piece end 0 in
-    let w = slice_range piece at end in
+    let byte = get_or chunk end 0 in
+    let w = slice_range chunk at end in
     let put = put-before c.args.self.now new (view c.args.value) c.put.ensures.put t w byte fs ends in
     let unset = c.put.ensures.fault ∙ ends.begins.unset in
     let before = c.requires.within.0 in
     let inside = c.requires.within.1 in
     let is : at + (end - at) ≡ end = omega (arith, before) in
     let long =
-    ap (λ k. length (slice_range piece at k)) (sym is) ∙ range-long piece at (end - at) (omega (arith, before, inside)) in
+    ap (λ k. length (slice_range chunk at k)) (sym is) ∙ range-long chunk at (end - at) (omega (arith, before, inside)) in
     let place : new.position + (end - at) ≡ length (t ++ w) =
     omega (arith, length-append t w, long, ends.begins.position, c.put.ensures.same.1) in
     let all : at + (end + 1 - at) ≡ end + 1 = omega (arith, before) in
     subst (HasTakenIn anything c.end_before.new.self)
-    (range-after t piece at end (omega (arith, before)) inside ∙ ap (λ k. t ++ slice_range piece at k) (sym all))
+    (range-after t chunk at end (omega (arith, before)) inside ∙ ap (λ k. t ++ slice_range chunk at k) (sym all))
     (c.end_before.ensures.taken (t ++ w)
     (meets-after byte new c.after.new.self (new.position + (end - at)) (t ++ w) c.after.result put unset
     c.put.ensures.token place c.after.ensures.goes c.after.ensures.one))

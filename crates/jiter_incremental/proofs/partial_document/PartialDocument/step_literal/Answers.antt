@@ -5,13 +5,13 @@ use Rattle.jiter_incremental.proofs.partial_document.PartialDocument.step_litera
 
 pub whole_value-requires-clause-begins : goal.whole_value-requires-clause-begins
 whole_value-requires-clause-begins c =
-    literal-item (get_or c.args.piece.now c.args.at 0) c.args.literal c.requires.begins
+    literal-item (get_or c.args.chunk.now c.args.at 0) c.args.literal c.requires.begins
 
 pub whole_value-requires-clause-value : goal.whole_value-requires-clause-value
 whole_value-requires-clause-value c =
-    let piece = c.args.piece.now in
+    let chunk = c.args.chunk.now in
     let at = c.args.at in
     let e = c.in-Some.end in
     let found = c.in-Some.ensures in
-    subst (λ v. IsScalarWithin piece at v e) (sym c.literal_value.ensures)
-    (literal-scalar piece at c.args.literal e c.requires.begins found.value found.within.0 found.within.1)
+    subst (λ v. IsScalarWithin chunk at v e) (sym c.literal_value.ensures)
+    (literal-scalar chunk at c.args.literal e c.requires.begins found.value found.within.0 found.within.1)

@@ -13,7 +13,7 @@ returns-in_ok-value-in-Float-clause-taken c = λ t arrived.
 pub returns-in-Other-clause-taken : goal.returns-in-Other-clause-taken
 returns-in-Other-clause-taken c =
     taken-after c.args.self.now c.make_room.new.self c.step_long_number-in-Other.new.self
-    (λ n. slice_range c.args.piece.now c.args.at (c.args.at + n)) c.step_long_number-in-Other.result
+    (λ n. slice_range c.args.chunk.now c.args.at (c.args.at + n)) c.step_long_number-in-Other.result
     c.make_room.ensures.stays c.step_long_number-in-Other.ensures.taken
 
 pub returns-in-Other-clause-refused : goal.returns-in-Other-clause-refused
@@ -21,13 +21,13 @@ returns-in-Other-clause-refused c =
     refused-after c.args.self.now c.make_room.new.self c.step_long_number-in-Other.new.self c.step_long_number-in-Other.result
     c.make_room.ensures.stays c.step_long_number-in-Other.ensures.refused
 
-pub returns-then-piece-at-lt-SHORT_REACH-clause-taken : goal.returns-then-piece-at-lt-SHORT_REACH-clause-taken
-returns-then-piece-at-lt-SHORT_REACH-clause-taken c =
+pub returns-then-chunk-at-lt-SHORT_REACH-clause-taken : goal.returns-then-chunk-at-lt-SHORT_REACH-clause-taken
+returns-then-chunk-at-lt-SHORT_REACH-clause-taken c =
     taken-after c.args.self.now c.make_room.new.self c.step_long_number.new.self
-    (λ n. slice_range c.args.piece.now c.args.at (c.args.at + n)) c.step_long_number.result
+    (λ n. slice_range c.args.chunk.now c.args.at (c.args.at + n)) c.step_long_number.result
     c.make_room.ensures.stays c.step_long_number.ensures.taken
 
-pub returns-then-piece-at-lt-SHORT_REACH-clause-refused : goal.returns-then-piece-at-lt-SHORT_REACH-clause-refused
-returns-then-piece-at-lt-SHORT_REACH-clause-refused c =
+pub returns-then-chunk-at-lt-SHORT_REACH-clause-refused : goal.returns-then-chunk-at-lt-SHORT_REACH-clause-refused
+returns-then-chunk-at-lt-SHORT_REACH-clause-refused c =
     refused-after c.args.self.now c.make_room.new.self c.step_long_number.new.self c.step_long_number.result
     c.make_room.ensures.stays c.step_long_number.ensures.refused

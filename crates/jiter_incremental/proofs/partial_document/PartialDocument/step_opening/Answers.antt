@@ -8,14 +8,14 @@ use Rattle.jiter_incremental.proofs.partial_document.PartialDocument.step_openin
 
 pub whole_value-requires-clause-begins : goal.whole_value-requires-clause-begins
 whole_value-requires-clause-begins c =
-    opening-item c.args.piece.now c.args.at c.args.shape c.requires.begins (c.closes_at.ensures c.if-closes_at.true)
+    opening-item c.args.chunk.now c.args.at c.args.shape c.requires.begins (c.closes_at.ensures c.if-closes_at.true)
 
 pub whole_value-requires-clause-value : goal.whole_value-requires-clause-value
 whole_value-requires-clause-value c =
-    let piece = c.args.piece.now in
+    let chunk = c.args.chunk.now in
     let at = c.args.at in
-    subst (λ v. IsScalarWithin piece at v (at + 2)) (sym c.empty-closed.ensures)
-    (empty-scalar piece at c.args.shape c.requires.begins (c.closes_at.ensures c.if-closes_at.true))
+    subst (λ v. IsScalarWithin chunk at v (at + 2)) (sym c.empty-closed.ensures)
+    (empty-scalar chunk at c.args.shape c.requires.begins (c.closes_at.ensures c.if-closes_at.true))
 
 pub begin_container-requires : goal.begin_container-requires
 begin_container-requires c =
@@ -26,9 +26,9 @@ begin_container-requires c =
 pub returns-clause-taken : goal.returns-clause-taken
 returns-clause-taken c = λ t arrived.
     let d = c.args.self.now in
-    let piece = c.args.piece.now in
+    let chunk = c.args.chunk.now in
     let at = c.args.at in
-    let byte = get_or piece at 0 in
+    let byte = get_or chunk at 0 in
     let is = c.requires.token in
     let b = between-before byte d t arrived is.1 is.2 in
     let v = c.begin_container.new.self in
@@ -36,5 +36,5 @@ returns-clause-taken c = λ t arrived.
     let taken = takes-byte d v byte t b.state b.known is.2
     (c.in_ok-begin_container.ensures.taken b.state byte b.left c.requires.begins) in
     let past = c.past_blanks.ensures in
-    blanks-after e piece at (at + 1) (c.past_blanks.result - at) t (omega arith) (omega (arith, c.requires.within)) is.1
-    is.2 (omega (arith, past.value, past.after)) (one-byte e piece at t c.requires.within taken)
+    blanks-after e chunk at (at + 1) (c.past_blanks.result - at) t (omega arith) (omega (arith, c.requires.within)) is.1
+    is.2 (omega (arith, past.value, past.after)) (one-byte e chunk at t c.requires.within taken)

@@ -6,4 +6,4 @@ use Rattle.jiter_incremental.proofs.partial_document.PartialDocument.take_betwee
 pub returns-clause-wanted : goal.returns-clause-wanted
 returns-clause-wanted c =
     if-refused c.step_number.result
-    (decimal-item (get_or c.args.piece.now c.args.at 0) (sym c.begins_decimal.ensures ∙ c.if-not-begins_decimal.false)).0
+    (decimal-item (get_or c.args.chunk.now c.args.at 0) (sym c.begins_decimal.ensures ∙ c.if-not-begins_decimal.false)).0

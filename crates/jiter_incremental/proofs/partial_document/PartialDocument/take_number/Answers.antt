@@ -17,13 +17,13 @@ pub returns-in-Taken-clause-taken : goal.returns-in-Taken-clause-taken
 returns-in-Taken-clause-taken c =
     let d = c.args.self.now in
     let m = c.more.new.self in
-    let piece = c.args.piece.now in
+    let chunk = c.args.chunk.now in
     let at = c.args.at in
     let is = c.requires.token in
     IfOk-weaker c.more.result
-    (λ n. (w : List ℕ) → HoldsNumber d.number w → HoldsNumber m (w ++ slice_range piece at (at + n)))
-    (λ n. Takes d (record d { number = m }) (slice_range piece at (at + n)))
-    (λ n held t h. number-takes d m t (slice_range piece at (at + n)) h is.1 is.2 held)
+    (λ n. (w : List ℕ) → HoldsNumber d.number w → HoldsNumber m (w ++ slice_range chunk at (at + n)))
+    (λ n. Takes d (record d { number = m }) (slice_range chunk at (at + n)))
+    (λ n held t h. number-takes d m t (slice_range chunk at (at + n)) h is.1 is.2 held)
     c.more.ensures.held
 
 pub returns-in-Taken-clause-refused : goal.returns-in-Taken-clause-refused
@@ -37,7 +37,7 @@ returns-in-Taken-clause-refused c =
 pub after-requires-clause-read : goal.after-requires-clause-read
 after-requires-clause-read c =
     let d = c.args.self.now in
-    let byte = get_or c.args.piece.now c.args.at 0 in
+    let byte = get_or c.args.chunk.now c.args.at 0 in
     let is = c.requires.token in
     let t = is.0.0 in
     let x = number-open d t is.0.1 is.1 is.2 in (
@@ -49,10 +49,10 @@ after-requires-clause-read c =
 pub returns-in-Over-clause-taken : goal.returns-in-Over-clause-taken
 returns-in-Over-clause-taken c = λ t h.
     let d = c.args.self.now in
-    let byte = get_or c.args.piece.now c.args.at 0 in
+    let byte = get_or c.args.chunk.now c.args.at 0 in
     let is = c.requires.token in
     let x = number-open d t h is.1 is.2 in
-    one-byte c.after.new.self c.args.piece.now c.args.at t c.requires.within
+    one-byte c.after.new.self c.args.chunk.now c.args.at t c.requires.within
     (c.after.ensures.taken t
     (c.put_number.ensures.put byte t x.frames x.begin x.known is.1 x.left
     (number-ends d t x byte (subst (Leads d.number.stage byte) c.in-Over.is c.next.ensures.leads)))
@@ -62,11 +62,11 @@ returns-in-Over-clause-taken c = λ t h.
 pub returns-in-Named-clause-taken : goal.returns-in-Named-clause-taken
 returns-in-Named-clause-taken c = λ t h.
     let d = c.args.self.now in
-    let byte = get_or c.args.piece.now c.args.at 0 in
+    let byte = get_or c.args.chunk.now c.args.at 0 in
     let is = c.requires.token in
     let x = number-open d t h is.1 is.2 in
     let fits = subst (Fits d.number.stage byte) c.in-Named.is c.next.ensures.fits in
-    one-byte c.take_name.new.self c.args.piece.now c.args.at t c.requires.within
+    one-byte c.take_name.new.self c.args.chunk.now c.args.at t c.requires.within
     (subst (λ b. HasTakenIn anything c.take_name.new.self (t ++ b ∷ [])) (sym fits.1)
     (c.take_name.ensures.taken t x.frames x.begin x.known h.position
     (number-minus d t x byte (minus-alone d.number x.bytes x.held.0 fits.0))))
@@ -75,10 +75,10 @@ returns-in-Named-clause-taken c = λ t h.
 pub returns-in-Invalid-clause-taken : goal.returns-in-Invalid-clause-taken
 returns-in-Invalid-clause-taken c = λ t h.
     let d = c.args.self.now in
-    let byte = get_or c.args.piece.now c.args.at 0 in
+    let byte = get_or c.args.chunk.now c.args.at 0 in
     let is = c.requires.token in
     let x = number-open d t h is.1 is.2 in
-    one-byte c.refuse.new.self c.args.piece.now c.args.at t c.requires.within
+    one-byte c.refuse.new.self c.args.chunk.now c.args.at t c.requires.within
     (c.refuse.ensures.refused anything anything t (byte ∷ []) (in_scalar x.frames x.begin) x.known (λ u comes. tt)
     (number-refused d t x byte went.Invalid invalid_number d.position refl
     (subst (Leads d.number.stage byte) c.in-Invalid.is c.next.ensures.leads)
@@ -88,10 +88,10 @@ returns-in-Invalid-clause-taken c = λ t h.
 pub returns-in-TooLong-clause-taken : goal.returns-in-TooLong-clause-taken
 returns-in-TooLong-clause-taken c = λ t h.
     let d = c.args.self.now in
-    let byte = get_or c.args.piece.now c.args.at 0 in
+    let byte = get_or c.args.chunk.now c.args.at 0 in
     let is = c.requires.token in
     let x = number-open d t h is.1 is.2 in
-    one-byte c.refuse-in-TooLong.new.self c.args.piece.now c.args.at t c.requires.within
+    one-byte c.refuse-in-TooLong.new.self c.args.chunk.now c.args.at t c.requires.within
     (c.refuse-in-TooLong.ensures.refused anything anything t (byte ∷ []) (in_scalar x.frames x.begin) x.known
     (λ u comes. tt)
     (number-refused d t x byte went.TooLong number_out_of_range (d.position + 1) refl

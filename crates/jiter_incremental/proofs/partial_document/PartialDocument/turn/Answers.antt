@@ -10,11 +10,11 @@ returns-then-is_over-clause-taken c = λ t h.
 
 pub returns-in-Nothing-clause-wanted : goal.returns-in-Nothing-clause-wanted
 returns-in-Nothing-clause-wanted c = λ t h.
-    on_err_weaker c.take_between.result (refuse-here t (get_or c.args.piece.now c.args.at 0))
+    on_err_weaker c.take_between.result (refuse-here t (get_or c.args.chunk.now c.args.at 0))
     c.take_between.ensures.wanted
 
 pub returns-in_default-clause-wanted : goal.returns-in_default-clause-wanted
 returns-in_default-clause-wanted c = λ t h.
     if-refused c.take_token.result
-    (refuse-in c.args.self.now t (get_or c.args.piece.now c.args.at 0) h (c.is_over.ensures.unset c.if-is_over.false)
+    (refuse-in c.args.self.now t (get_or c.args.chunk.now c.args.at 0) h (c.is_over.ensures.unset c.if-is_over.false)
     c.in_default.not-Nothing)

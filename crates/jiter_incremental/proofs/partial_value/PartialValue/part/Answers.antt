@@ -1,7 +1,7 @@
 use Rattle.std.proofs.Common.{Ok, refl, subst, sym}
 use Rattle.jiter_steps.specs.declared.parse.ContainerKind.TheVariants as shape
 use Rattle.jiter_incremental.specs.declared.partial_value.Awaits.TheVariants as awaits
-use Rattle.jiter_incremental.specs.declared.partial_value.Went.TheVariants as went
+use Rattle.jiter_incremental.specs.declared.partial_value.Transition.TheVariants as went
 use Rattle.jiter_incremental.proofs.OpenValues.{between-awaits, begins-key, item-part, PartGoes}
 use Rattle.jiter_incremental.proofs.partial_value.PartialValue.part.Goals as goal
 
