@@ -11,15 +11,6 @@ use crate::memory::{AllocFailed, lengthen};
 use crate::simd::{highs, stops};
 use std::simd::prelude::*;
 
-// Adds at least 256 bytes.
-fn double(tape: &mut Vec<u8>) -> Result<(), AllocFailed>
-    ensures room { OnOk result (vec_len tape.old + 32 ≤ vec_len tape.new) }
-    ensures kept { OnOk result (take (vec_len tape.old) tape.new.items ≡ tape.old.items) }
-{
-    let more = tape.len().max(256);
-    lengthen(tape, more)
-}
-
 /// Makes the tape long enough for `bytes` more after the first `count`, and 32 free ones.
 pub(crate) fn make_room(tape: &mut Vec<u8>, count: usize, bytes: usize) -> Result<(), AllocFailed>
     requires prefix { count ≤ vec_len tape.old }
@@ -28,7 +19,8 @@ pub(crate) fn make_room(tape: &mut Vec<u8>, count: usize, bytes: usize) -> Resul
     ensures kept { OnOk result (take count tape.new.items ≡ take count tape.old.items) }
 {
     while tape.len() - count < bytes + 32 {
-        double(tape)?;
+        let more = tape.len().max(256);
+        lengthen(tape, more)?;
     }
     Ok(())
 }
