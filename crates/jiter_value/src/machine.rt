@@ -71,7 +71,7 @@ fn begin<'j>(reading: &mut Reading<'j>, bytes: &'j [u8]) -> bool
     ensures state { result ≡ true → reading.new.state ≡ reading.old.state }
     ensures settings { reading.new.settings ≡ reading.old.settings }
 {
-    let mut parser = Parser::new(bytes);
+    let mut parser = Parser { bytes, index: 0 };
     let first = parser.value_first();
     reading.at = parser.index;
     match first {

@@ -38,15 +38,6 @@ pub struct Borrowing<'s> {
     pub bytes: &'s [u8],
 }
 
-// Borrows the text once more from its index, for the lifetime of the value. Its UTF-8 isn't tested again.
-#[inline(always)]
-fn lend<'s>(bytes: &'s [u8], from: usize, text: &str) -> &'s str
-    requires { LieAt bytes.now from text.now }
-    ensures { result.now ≡ text.now }
-{
-    utf8_text(&bytes[from..from + text.len()])
-}
-
 impl<'s> StringStorage<'s> for Borrowing<'s> {
     ghost of = { λ b t. b.bytes.now ≡ t };
 
@@ -57,7 +48,11 @@ impl<'s> StringStorage<'s> for Borrowing<'s> {
     #[inline(always)]
     fn keep(self, _bytes: &[u8], from: usize, text: CowStr<'_>) -> Result<CowStr<'s>, AllocFailed> {
         match text {
-            CowStr::Borrowed(lent) => Ok(CowStr::Borrowed(lend(self.bytes, from, lent))),
+            // Borrowed once more, for the lifetime of the value. Its UTF-8 isn't tested again.
+            CowStr::Borrowed(lent) => {
+                let again = utf8_text(&self.bytes[from..from + lent.len()]);
+                Ok(CowStr::Borrowed(again))
+            }
             CowStr::Owned(owned) => Ok(CowStr::Owned(owned)),
         }
     }

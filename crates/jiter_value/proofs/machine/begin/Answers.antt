@@ -8,29 +8,23 @@ pub returns-in-Ok-clause-begun : goal.returns-in-Ok-clause-begun
 returns-in-Ok-clause-begun c = λ _.
     let r = c.args.reading.now in
     let t = c.args.bytes.now in
-    let n = c.new-parser.ensures in
     let u = c.requires in
     let i = c.value_first-first.new.self.index in
-    let same = ap (λ b. b.now) n.same in
-    let at = value-begins-at t i (rw (n.begin, same) at c.in-Ok.ensures.value) in
-    let lt = rw same at c.in-Ok.ensures.inside in
+    let at = value-begins-at t i c.in-Ok.ensures.value in
+    let lt = c.in-Ok.ensures.inside in
     rw (u.2, at) (begins-at-value lent ⊥ r.settings t r.stacks i u.0 lt, tt, u.3)
 
 pub returns-in-Err-clause-over : goal.returns-in-Err-clause-over
 returns-in-Err-clause-over c = λ _.
     let r = c.args.reading.now in
     let t = c.args.bytes.now in
-    let n = c.new-parser.ensures in
     let f = c.in-Err.fault in
-    let i = c.value_first-first.new.self.index in
-    let same = ap (λ b. b.now) n.same in (
-      answer-none (rules_as lent r.settings) r.settings.mode t (fault_kind f.kind) f.index i
-          (rw (n.begin, same) at c.in-Err.ensures.value),
+    let i = c.value_first-first.new.self.index in (
+      answer-none (rules_as lent r.settings) r.settings.mode t (fault_kind f.kind) f.index i c.in-Err.ensures.value,
       omega (
         arith,
         c.value_first-first.new.self.within,
         ap (λ b. length b.now) c.in-Err.ensures.moves.same,
-        ap length same,
       ),
       tt,
       tt,
