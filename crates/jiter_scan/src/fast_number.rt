@@ -188,19 +188,18 @@ pub(crate) fn padded_number_at(bytes: &[u8], at: usize) -> FastNumber
     }
 }
 
-// The last bytes of the input are read with zeros after them.
+// The last bytes of the input are read with zeros after them. Returns an integer's magnitude and the index after it, or
+// the index 0. Both are in registers.
 #[cold]
 #[inline(never)]
-fn last_number_at(bytes: &[u8], at: usize) -> FastNumber
+fn last_integer_at(bytes: &[u8], at: usize) -> (u64, usize)
     requires within { at ≤ length bytes.now }
     requires last { length bytes.now < at + 16 }
-    ensures { IsFastNumber bytes.now at result }
+    ensures { 0 < result.1 → IsPlainInteger bytes.now at result.0 result.1 }
 {
     match padded_number_at(&chunk_at(bytes, at), 0) {
-        FastNumber::Int(magnitude, count) if count <= bytes.len() - at => {
-            FastNumber::Int(magnitude, at + count)
-        }
-        _ => FastNumber::Other,
+        FastNumber::Int(magnitude, count) if count <= bytes.len() - at => (magnitude, at + count),
+        _ => (0, 0),
     }
 }
 
@@ -211,7 +210,10 @@ pub fn fast_number_at(bytes: &[u8], at: usize) -> FastNumber
     ensures { IsFastNumber bytes.now at result }
 {
     if bytes.len() - at < REACH {
-        return last_number_at(bytes, at);
+        return match last_integer_at(bytes, at) {
+            (_, 0) => FastNumber::Other,
+            (magnitude, end) => FastNumber::Int(magnitude, end),
+        };
     }
     padded_number_at(bytes, at)
 }

@@ -287,26 +287,10 @@ pub fn take_error<'j>(stacks: &mut Stacks<'j>) -> ReadError
     mem::replace(&mut stacks.error, no_error())
 }
 
-// A placeholder: it is replaced when an error stops the reading.
-fn no_error() -> ReadError {
+/// Returns a placeholder: it is replaced when an error stops the reading.
+pub fn no_error() -> ReadError {
     ReadError::Fault(Fault {
         kind: FaultKind::ExpectedSomeValue,
         index: 0,
     })
-}
-
-impl<'j> Stacks<'j> {
-    /// Creates empty stacks, for one document.
-    pub fn new(alloc: Global) -> Stacks<'j>
-        ensures { IsCleared result }
-    {
-        Stacks {
-            items: Vec::new(alloc),
-            members: Vec::new(alloc),
-            nest: SmallVec::new(alloc),
-            root: JsonValue::Null,
-            error: no_error(),
-            reused: false,
-        }
-    }
 }

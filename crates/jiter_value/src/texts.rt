@@ -7,7 +7,7 @@ ghost use Rattle.jiter_value.specs.Settings.{Keeping, each, lent, lent_unique};
 ghost use Rattle.jiter_value.specs.StringStorage.{IsLentAt, LieAt};
 
 use crate::copies::own_cow;
-use jiter_scan::memory::{AllocFailed, copy_text};
+use jiter_scan::memory::AllocFailed;
 use jiter_scan::text::utf8_text;
 use std::alloc::Global;
 use std::borrow::CowStr;
@@ -119,21 +119,4 @@ pub fn keep_lent<'s, T: StringStorage<'s>>(
     ensures memory { OnErr result T.wants }
 {
     texts.keep(bytes, from, CowStr::Borrowed(text))
-}
-
-/// Returns a decoded text as the value keeps it: an owned copy, made by one allocation of its exact length.
-#[inline(always)]
-pub fn keep_decoded<'s, T: StringStorage<'s>>(
-    alloc: Global,
-    texts: T,
-    bytes: &[u8],
-    from: usize,
-    decoded: &str,
-) -> Result<CowStr<'s>, AllocFailed>
-    requires { T.of texts bytes.now }
-    ensures { IfOk result (λ kept.
-        text_view kept ≡ T.made.text (record { owned = true; bytes = decoded.now })) }
-{
-    let own = copy_text(alloc, decoded)?;
-    texts.keep(bytes, from, CowStr::Owned(own))
 }

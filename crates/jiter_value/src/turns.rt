@@ -15,7 +15,7 @@ ghost use Rattle.jiter_value.specs.Value.{view, MayGrowBy};
 ghost use Rattle.jiter_value.specs.declared.stacks.Stacks.{Stacks as StacksView};
 
 use crate::settings::Settings;
-use crate::stacks::{Slot, Stacks, State, no_memory, reserve, take_error, take_root};
+use crate::stacks::{Slot, Stacks, State, no_error, no_memory, reserve, take_error, take_root};
 use crate::texts::StringStorage;
 use crate::turns::containers::{after_value, begin};
 use crate::turns::fast::{Plain, fast_put_key, fast_put_scalar};
@@ -23,6 +23,7 @@ use crate::turns::general::{slow_key, slow_scalar};
 use crate::value::JsonValue;
 use jiter_steps::parse::{ContainerKind, NESTING_LIMIT, Parser};
 use jiter_steps::read_error::ReadError;
+use smallvec::SmallVec;
 use std::alloc::Global;
 
 pub(crate) mod containers;
@@ -197,7 +198,14 @@ impl<'s> Reading<'s> {
             state: State::Root,
             at: 0,
             tape: Vec::new(alloc),
-            stacks: Stacks::new(alloc),
+            stacks: Stacks {
+                items: Vec::new(alloc),
+                members: Vec::new(alloc),
+                nest: SmallVec::new(alloc),
+                root: JsonValue::Null,
+                error: no_error(),
+                reused: false,
+            },
         }
     }
 

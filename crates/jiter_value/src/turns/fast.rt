@@ -16,12 +16,13 @@ ghost use Rattle.jiter_value.specs.Turns.{IsAtValue, IsPutAt, IsKeyAt, IsRefused
 ghost use Rattle.jiter_value.specs.Value.{view, MayGrowBy};
 
 use crate::stacks::{Slot, Stacks, put_reserved};
-use crate::texts::{StringStorage, keep_decoded, keep_lent};
+use crate::texts::{StringStorage, keep_lent};
 use crate::turns::Reading;
 use crate::turns::general::push_key;
+use crate::turns::scalar::literal_value;
 use crate::value::JsonValue;
-use jiter_scan::fast_number::{FastNumber, fast_number_at};
-use jiter_scan::memory::AllocFailed;
+use jiter_scan::fast_number::{FastNumber, fast_number_at, signed};
+use jiter_scan::memory::{AllocFailed, copy_text};
 use jiter_scan::number_extent::minus_end;
 use jiter_scan::simd::scan_string;
 use jiter_scan::text::{ascii_text, utf8_text};
@@ -118,11 +119,15 @@ fn put_decoded_text<'s, T: StringStorage<'s>>(
     match decode_to(tape, bytes, at, false) {
         Ok((count, end)) => {
             let decoded = utf8_text(&tape.as_slice()[..count]);
-            match keep_decoded(alloc, texts, bytes, at + 1, decoded) {
-                Ok(text) => {
-                    put_reserved(stacks, slot, JsonValue::Str(text));
-                    (end, Plain::Put)
-                }
+            // An owned copy, made by one allocation of its exact length.
+            match copy_text(alloc, decoded) {
+                Ok(own) => match texts.keep(bytes, at + 1, CowStr::Owned(own)) {
+                    Ok(text) => {
+                        put_reserved(stacks, slot, JsonValue::Str(text));
+                        (end, Plain::Put)
+                    }
+                    Err(refused) => refused_at(stacks, refused, at),
+                },
                 Err(refused) => refused_at(stacks, refused, at),
             }
         }
@@ -174,15 +179,6 @@ fn fast_put_text<'s, T: StringStorage<'s>>(
     }
 }
 
-#[inline(always)]
-fn signed<'s>(magnitude: u64, negative: bool) -> JsonValue<'s>
-    requires { magnitude < 2 ^ 63 }
-    ensures { view result ≡ int (if negative then minus_of magnitude else pos magnitude) }
-{
-    let number = magnitude as i64;
-    JsonValue::Int(if negative { 0 - number } else { number })
-}
-
 // Puts a short number. Returns the index after it.
 #[inline(always)]
 fn fast_put_number<'s, T: StringStorage<'s>>(
@@ -205,7 +201,7 @@ fn fast_put_number<'s, T: StringStorage<'s>>(
     let from = minus_end(bytes, at);
     match fast_number_at(bytes, from) {
         FastNumber::Int(magnitude, end) => {
-            put_reserved(stacks, slot, signed(magnitude, from > at));
+            put_reserved(stacks, slot, JsonValue::Int(signed(magnitude, from > at)));
             (end, Plain::Put)
         }
         FastNumber::Float(end) => {
@@ -242,11 +238,7 @@ fn fast_put_literal<'s, T: StringStorage<'s>>(
     let Some(end) = fast_literal_end(bytes, at, literal) else {
         return (at, Plain::Other);
     };
-    match literal {
-        Literal::Null => put_reserved(stacks, slot, JsonValue::Null),
-        Literal::True => put_reserved(stacks, slot, JsonValue::Bool(true)),
-        Literal::False => put_reserved(stacks, slot, JsonValue::Bool(false)),
-    }
+    put_reserved(stacks, slot, literal_value(literal));
     (end, Plain::Put)
 }
 
