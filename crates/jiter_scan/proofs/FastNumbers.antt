@@ -5,10 +5,12 @@ use Rattle.std.specs.Prelude.{slice_get, Option, Some, None}
 use Rattle.std.specs.List.{prefix_len}
 use Rattle.std.proofs.lemmas.Bool.{cases_lt}
 use Rattle.std.proofs.lemmas.Bool.Decides.{nat_tests}
-use Rattle.std.proofs.lemmas.List.{length-take}
-use Rattle.std.proofs.lemmas.Option.{slice_get-get_or, slice_get_within}
+use Rattle.std.proofs.lemmas.List.{length-take, get_or-take, get_or-drop}
+use Rattle.std.proofs.lemmas.Option.{slice_get-get_or, slice_get_past, slice_get_within}
 use Rattle.jiter_scan.specs.Digits.{is_digit, digit_run_end}
 use Rattle.jiter_scan.specs.Number.{IsDigits}
+use Rattle.jiter_scan.specs.NumberDecoder.{magnitude_of}
+use Rattle.jiter_scan.specs.FastNumber.{IsAlone, IsPlainInteger}
 use Rattle.jiter_scan.specs.NumberReading.{extent_then, int_part_at, fraction_at, exponent_at, decimal_at}
 use Rattle.jiter_scan.specs.NumberReading.{fraction_from}
 use Rattle.jiter_scan.specs.NumberReading.{exponent_from, digits_from, power_from, is_float_sign}
@@ -20,7 +22,7 @@ use Rattle.jiter_scan.proofs.Magnitudes.{slice_range-count}
 use Rattle.jiter_scan.proofs.NumberComplete.{int_part_at-complete}
 use Rattle.jiter_scan.proofs.NumberExtents.{decimal_at-tail, tail-parts}
 use Rattle.jiter_scan.proofs.NumberSound.{digits-sound, power-sound, exponent_at-sound}
-use Rattle.jiter_scan.proofs.Runs.{run_end-passes, run_end-stops, NoDigit}
+use Rattle.jiter_scan.proofs.Runs.{run_end-passes, run_end-stops, run_end-within, NoDigit}
 use Rattle.jiter_scan.proofs.Standing.{stands-slice, stands-length, stands-within, stands-append}
 
 module _ (t : List ℕ) where
@@ -70,6 +72,12 @@ module _ (t : List ℕ) where
       by (inl one) = let none : e - (i + 1) ≡ 0 = omega arith in inl (ap (λ n. take n (drop (i + 1) t)) none)
       by (inr other) = inr other
 
+  -- a zero alone, or another digit first
+  pub first-alone : (i n : ℕ) → ((get_or t i 0 ≡ 48) × (n ≡ 1)) ⊎ (get_or t i 0 ≢ 48)
+      → (i + n ≡ i + 1) ⊎ (get_or t i 0 ≢ 48)
+  first-alone i n (inl zero) = let one = zero.1 in inl (ap (λ k. i + k) one)
+  first-alone i n (inr other) = inr other
+
   -- the integer part that is counted in a chunk
   module _ (chunk : List ℕ) (i n : ℕ) (counted : n ≡ digit_run_end chunk 0) (few : n ≤ 15) (reach : i + 16 ≤ length t)
       (prefix : (m : ℕ) → m ≤ 16 → i + m ≤ length t → take m chunk ≡ slice_range t i (i + m)) where
@@ -81,10 +89,7 @@ module _ (t : List ℕ) where
     pub int_part_at-counted : 0 < n → ((get_or t i 0 ≡ 48) × (n ≡ 1)) ⊎ (get_or t i 0 ≢ 48)
         → int_part_at t i ≡ taken tt (i + n)
     int_part_at-counted some first =
-        int_part_at-run i (i + n) digits-counted (omega arith) (omega arith) (omega arith) (by first) where
-          by : ((get_or t i 0 ≡ 48) × (n ≡ 1)) ⊎ (get_or t i 0 ≢ 48) → (i + n ≡ i + 1) ⊎ (get_or t i 0 ≢ 48)
-          by (inl zero) = let one = zero.1 in inl (ap (λ k. i + k) one)
-          by (inr other) = inr other
+        int_part_at-run i (i + n) digits-counted (omega arith) (omega arith) (omega arith) (first-alone i n first)
 
   -- digits that end in the second chunk
   pub digits-in_two : (back : List ℕ) (i n : ℕ) → n ≡ digit_run_end back 0 → n ≤ 15 → i + 32 ≤ length t
@@ -93,15 +98,6 @@ module _ (t : List ℕ) where
   digits-in_two back i n counted few reach prefix run =
       sym (run_end-on is_digit t i 16 run (omega arith))
       ∙ digits-counted back (i + 16) n counted few (omega arith) prefix
-
-  -- the integer part that is fewer digits than are looked at
-  pub int_part_at-near : (i e : ℕ) → digit_run_end t i ≡ e → e ≤ length t → length t ≤ i + 16 → i < e
-      → ((get_or t i 0 ≡ 48) × (e - i ≡ 1)) ⊎ (get_or t i 0 ≢ 48) → int_part_at t i ≡ taken tt e
-  int_part_at-near i e run within near some first = int_part_at-run i e run some within (omega arith) (by first)
-    where
-      by : ((get_or t i 0 ≡ 48) × (e - i ≡ 1)) ⊎ (get_or t i 0 ≢ 48) → (e ≡ i + 1) ⊎ (get_or t i 0 ≢ 48)
-      by (inl zero) = let one = zero.1 in inl (omega arith)
-      by (inr other) = inr other
 
   -- one digit or more
   digits_from-run : (i e : ℕ) → digit_run_end t i ≡ e → i < e → i < length t
@@ -155,6 +151,57 @@ module _ (t : List ℕ) where
   decimal_at-over i e int_part none =
       decimal_at-tail t i e e int_part
       (tail-parts t e e e (ap (fraction_from t e) none) (ap (exponent_from t e) none))
+
+  -- an integer in a chunk of the last bytes is one in the text
+  module _ (chunk : List ℕ) (i m e : ℕ) (found : IsPlainInteger chunk 0 m e) (alone : IsAlone chunk 0 e)
+      (within : i + e ≤ length t) (last : length t < i + 16)
+      (prefix : (n : ℕ) → n ≤ 16 → i + n ≤ length t → take n chunk ≡ slice_range t i (i + n)) where
+    same : (n : ℕ) → i + n < length t → get_or chunk n 0 ≡ get_or t (i + n) 0
+    same n inside =
+        sym (get_or-take (n + 1) chunk n 0 (omega arith))
+        ∙ ap (λ xs. get_or xs n 0) (prefix (n + 1) (omega arith) (omega arith) ∙ slice_range-count t i (n + 1))
+        ∙ get_or-take (n + 1) (drop i t) n 0 (omega arith)
+        ∙ get_or-drop i t n 0
+
+    run : digit_run_end t i ≡ i + e
+    run = elim (cases_lt (i + e) (length t)) [
+      | inl inside ↦ run_end-counted chunk i e (sym alone.run) (prefix e (omega arith) (omega arith))
+          (prefix (e + 1) (omega arith) (omega arith))
+      | inr over ↦ let digits = digits-of_chunk chunk i e (omega (arith, alone.run)) (prefix e (omega arith)
+          (omega arith)) in
+          omega (arith, run_end-within is_digit t i (omega arith))
+    ]
+
+    first : (i + e ≡ i + 1) ⊎ (get_or t i 0 ≢ 48)
+    first =
+        let here : i + 0 ≡ i = omega arith in
+        elim alone.first [
+          | inl one ↦ inl (ap (λ k. i + k) one)
+          | inr other ↦ inr (λ zero. other (same 0 (omega (arith, found.some)) ∙ ap (λ k. get_or t k 0) here ∙ zero))
+        ]
+
+    int_part : int_part_at t i ≡ taken tt (i + e)
+    int_part = int_part_at-run i (i + e) run (omega (arith, found.some)) within (omega arith) first
+
+    decimal : decimal_at t i ≡ taken tt (i + e)
+    decimal = elim (cases_lt (i + e) (length t)) [
+      | inl inside ↦ decimal_at-int_part i (i + e) (get_or t (i + e) 0) int_part
+          (slice_get-get_or t (i + e) 0 inside) (ap is_float_sign (sym (same e inside)) ∙ alone.next)
+      | inr over ↦ decimal_at-over i (i + e) int_part (slice_get_past t (i + e) over)
+    ]
+
+    pub integer-last : IsPlainInteger t i m (i + e)
+    integer-last =
+        let all : e - 0 ≡ e = omega arith in
+        record {
+          int_part = int_part;
+          decimal = decimal;
+          magnitude = found.magnitude
+              ∙ ap magnitude_of (ap (λ k. take k chunk) all ∙ prefix e (omega arith) within);
+          small = found.small;
+          some = omega (arith, found.some);
+          within = within;
+        }
 
   -- a point or an exponent takes a byte or more
   pub tail-place : (i e c : ℕ) → slice_get t i ≡ Some c → is_float_sign c ≡ true

@@ -9,9 +9,9 @@ ghost use Rattle.jiter_scan.specs.NumberDecoder.{magnitude_of};
 ghost use Rattle.jiter_scan.specs.NumberReading.{extent_then, digits_from, fraction_at, power_from, exponent_at};
 ghost use Rattle.jiter_scan.specs.NumberReading.{is_float_sign};
 ghost use Rattle.jiter_scan.specs.Scanned.{taken};
-ghost use Rattle.jiter_scan.specs.FastNumber.{IsPlainInteger, IsFastNumber};
+ghost use Rattle.jiter_scan.specs.FastNumber.{IsPlainInteger, IsFastNumber, IsIntAlone};
 
-use crate::decimal::{digit_count, digit_word, full_chunk_at, is_digit};
+use crate::decimal::{chunk_at, digit_count, digit_word, full_chunk_at, is_digit};
 use crate::number_decoder::{digits_magnitude, is_float_sign};
 
 // How many bytes, from a number's first digit on, the fast path reads first.
@@ -24,7 +24,7 @@ pub enum FastNumber {
     Int(u64, usize),
     /// A number with a point or an exponent: the index after it.
     Float(usize),
-    /// Anything else, for the slow path: a long number, one near the end of the input, or an error.
+    /// Anything else, for the slow path: a long number, a float near the end of the input, or an error.
     Other,
 }
 
@@ -144,7 +144,8 @@ fn fast_float_end(bytes: &[u8], at: usize) -> Option<usize>
 fn two_chunks_at(bytes: &[u8], at: usize) -> FastNumber
     requires within { at + 16 ≤ length bytes.now }
     requires digits { at + 16 ≤ digit_run_end bytes.now at }
-    ensures { IsFastNumber bytes.now at result }
+    ensures number { IsFastNumber bytes.now at result }
+    ensures alone { IsIntAlone bytes.now at result }
 {
     if bytes.len() - at < 32 {
         return FastNumber::Other;
@@ -166,7 +167,8 @@ fn two_chunks_at(bytes: &[u8], at: usize) -> FastNumber
 #[inline(always)]
 pub(crate) fn padded_number_at(bytes: &[u8], at: usize) -> FastNumber
     requires { at + 16 ≤ length bytes.now }
-    ensures { IsFastNumber bytes.now at result }
+    ensures number { IsFastNumber bytes.now at result }
+    ensures alone { IsIntAlone bytes.now at result }
 {
     let chunk = full_chunk_at(bytes, at);
     let count = digit_count(chunk);
@@ -186,6 +188,21 @@ pub(crate) fn padded_number_at(bytes: &[u8], at: usize) -> FastNumber
     }
 }
 
+// The last bytes of the input are read with zeros after them. Returns an integer's magnitude and the index after it, or
+// the index 0. Both are in registers.
+#[cold]
+#[inline(never)]
+fn last_integer_at(bytes: &[u8], at: usize) -> (u64, usize)
+    requires within { at ≤ length bytes.now }
+    requires last { length bytes.now < at + 16 }
+    ensures { 0 < result.1 → IsPlainInteger bytes.now at result.0 result.1 }
+{
+    match padded_number_at(&chunk_at(bytes, at), 0) {
+        FastNumber::Int(magnitude, count) if count <= bytes.len() - at => (magnitude, at + count),
+        _ => (0, 0),
+    }
+}
+
 /// Returns the number whose first digit is at `at`, if it is short. Its minus, if it has one, is before `at`.
 #[inline(always)]
 pub fn fast_number_at(bytes: &[u8], at: usize) -> FastNumber
@@ -193,7 +210,10 @@ pub fn fast_number_at(bytes: &[u8], at: usize) -> FastNumber
     ensures { IsFastNumber bytes.now at result }
 {
     if bytes.len() - at < REACH {
-        return FastNumber::Other;
+        return match last_integer_at(bytes, at) {
+            (_, 0) => FastNumber::Other,
+            (magnitude, end) => FastNumber::Int(magnitude, end),
+        };
     }
     padded_number_at(bytes, at)
 }

@@ -11,28 +11,6 @@ use crate::memory::{AllocFailed, lengthen};
 use crate::simd::{highs, stops};
 use std::simd::prelude::*;
 
-// Adds at least 256 bytes.
-fn double(tape: &mut Vec<u8>) -> Result<(), AllocFailed>
-    ensures room { OnOk result (vec_len tape.old + 32 ≤ vec_len tape.new) }
-    ensures kept { OnOk result (take (vec_len tape.old) tape.new.items ≡ tape.old.items) }
-{
-    let more = tape.len().max(256);
-    lengthen(tape, more)
-}
-
-/// Makes the tape long enough for `bytes` more after the first `count`, and 32 free ones.
-pub(crate) fn make_room(tape: &mut Vec<u8>, count: usize, bytes: usize) -> Result<(), AllocFailed>
-    requires prefix { count ≤ vec_len tape.old }
-    requires size { bytes < 2 ^ 63 }
-    ensures room { OnOk result (count + bytes + 32 ≤ vec_len tape.new) }
-    ensures kept { OnOk result (take count tape.new.items ≡ take count tape.old.items) }
-{
-    while tape.len() - count < bytes + 32 {
-        double(tape)?;
-    }
-    Ok(())
-}
-
 /// Writes bytes after the first `count` of the tape, which grows if it must. Returns how many bytes count then; at
 /// least 32 free ones follow.
 #[inline(always)]
@@ -45,7 +23,10 @@ pub(crate) fn put_slice(
     ensures text { IfOk result (λ n. take n tape.new.items ≡ take count tape.old.items ++ bytes.now) }
     ensures room { IfOk result (λ n. n + 32 ≤ vec_len tape.new) }
 {
-    make_room(tape, count, bytes.len())?;
+    while tape.len() - count < bytes.len() + 32 {
+        let more = tape.len().max(256);
+        lengthen(tape, more)?;
+    }
     let end = count + bytes.len();
     tape.as_mut_slice()[count..end].copy_from_slice(bytes);
     Ok(end)

@@ -1,8 +1,8 @@
 -- The views of containers.
-use Rattle.std.proofs.Common.{◌≡◌, Bool, List, [], ◌∷◌, map, refl, ap, ◌∙◌, rules, Vec}
+use Rattle.std.proofs.Common.{◌≡◌, ℤ, Bool, List, [], ◌∷◌, map, refl, ap, ◌∙◌, rules, Vec}
 use Rattle.std.specs.declared.alloc.Global.{Global}
 use Rattle.std.specs.declared.borrow.CowStr.{CowStr}
-use Rattle.jiter_steps.specs.Tree.{null, boolean, float, string, array, object, member, items_of, members_of}
+use Rattle.jiter_steps.specs.Tree.{null, boolean, int, float, string, array, object, member, items_of, members_of}
 use Rattle.jiter_steps.specs.StringDecoder.{text_view}
 use Rattle.jiter_value.specs.Value.{view, member_views}
 use Rattle.jiter_value.specs.Stacks.{member_view}
@@ -28,6 +28,9 @@ view_null = search (rules, the_lemmas)
 
 pub view_bool : (b : Bool) → view (value.Bool b) ≡ boolean b
 view_bool b = search (rules, the_lemmas)
+
+pub view_int : (z : ℤ) → view (Int z) ≡ int z
+view_int z = search (rules, the_lemmas)
 
 pub view_float : (s : CowStr Global) → view (Float s) ≡ float (text_view s)
 view_float s = search (rules, the_lemmas)

@@ -235,6 +235,13 @@ abbrev pub empty_tree : ContainerKind → Tree
 empty_tree shape.Array = array (items_of [])
 empty_tree shape.Object = object (members_of [])
 
+-- the same parts, open containers and value, perhaps with more capacity for items
+pub record HoldsSame (old new : Stacks) : Type 0 where
+  pub items : new.items.items ≡ old.items.items
+  pub members : new.members ≡ old.members
+  pub nest : new.nest ≡ old.nest
+  pub root : new.root ≡ old.root
+
 -- a value that is awaited can go where it belongs without a request for memory
 abbrev pub HasRoom : Stacks → Slot → Type 0
 HasRoom s a = a ≡ slot.Item → vec_len s.items < vec_capacity s.items

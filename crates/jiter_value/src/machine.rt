@@ -10,7 +10,9 @@ use crate::stacks::{State, drop_root, take_error, take_root};
 use crate::texts::Borrowing;
 use crate::turns::{AnyKey, Reading};
 use crate::value::JsonValue;
+use jiter_scan::errors::{FaultKind, fault_at};
 use jiter_scan::{JsonError, PartialMode};
+use jiter_steps::blank::past_blanks;
 use jiter_steps::parse::Parser;
 use jiter_steps::read_error::ReadError;
 use std::alloc::Global;
@@ -71,17 +73,14 @@ fn begin<'j>(reading: &mut Reading<'j>, bytes: &'j [u8]) -> bool
     ensures state { result ≡ true → reading.new.state ≡ reading.old.state }
     ensures settings { reading.new.settings ≡ reading.old.settings }
 {
-    let mut parser = Parser::new(bytes);
-    let first = parser.value_first();
-    reading.at = parser.index;
-    match first {
-        Ok(()) => true,
-        Err(fault) => {
-            reading.stacks.error = ReadError::Fault(fault);
-            reading.state = State::GivenUp;
-            false
-        }
+    reading.at = past_blanks(bytes, 0);
+    if reading.at < bytes.len() {
+        return true;
     }
+    let fault = fault_at(FaultKind::EofWhileParsingValue, reading.at);
+    reading.stacks.error = ReadError::Fault(fault);
+    reading.state = State::GivenUp;
+    false
 }
 
 // The result of a reading that has ended.

@@ -11,7 +11,7 @@ ghost use Rattle.jiter_value.specs.Size.{size, value_size, inside_size, after_si
 ghost use Rattle.jiter_value.specs.Settings.{Keeping};
 ghost use Rattle.jiter_value.specs.Scratch.{HoldsNothing, IsCleared};
 ghost use Rattle.jiter_value.specs.Stacks.{Member, member_view, resume_with, after, container_ends, Stands};
-ghost use Rattle.jiter_value.specs.Stacks.{StandsInside, HasRoom, LeavesKeys, without_root};
+ghost use Rattle.jiter_value.specs.Stacks.{StandsInside, HasRoom, HoldsSame, LeavesKeys, without_root};
 ghost use Rattle.jiter_value.specs.declared.settings.Settings.{Settings as SettingsView};
 ghost use Rattle.jiter_value.specs.declared.value.JsonValue.{JsonValue as JsonValueView};
 ghost use Rattle.jiter_value.specs.declared.value.JsonValue.TheVariants.{Int};
@@ -136,15 +136,16 @@ fn take_parts<T: Drop>(
     split_off(parts, container.base)
 }
 
-/// Returns whether the expected value can be put into its slot without an allocation.
+/// Reserves capacity for the expected value in its slot. Only an item may need an allocation.
 #[inline(always)]
-pub fn has_room<'j>(stacks: &Stacks<'j>, slot: Slot) -> bool
-    ensures room { IsTrue result → HasRoom stacks.now slot }
-    ensures full { result ≡ false → slot ≡ Slot.Item }
+pub fn reserve<'j>(stacks: &mut Stacks<'j>, slot: Slot) -> Result<(), AllocFailed>
+    ensures same { HoldsSame stacks.old stacks.new }
+    ensures room { OnOk result (HasRoom stacks.new slot) }
+    ensures full { OnErr result (slot ≡ Slot.Item) }
 {
     match slot {
-        Slot::Item => stacks.items.len() < stacks.items.capacity(),
-        _ => true,
+        Slot::Item if stacks.items.len() == stacks.items.capacity() => make_room(&mut stacks.items),
+        _ => Ok(()),
     }
 }
 
@@ -181,9 +182,7 @@ pub fn put<'j>(stacks: &mut Stacks<'j>, slot: Slot, value: JsonValue<'j>) -> Res
     ensures keys { OnOk result (LeavesKeys stacks.old.members.items stacks.new.members.items) }
     ensures refused { OnErr result (slot ≢ Slot.Root) }
 {
-    if !has_room(stacks, slot) {
-        make_room(&mut stacks.items)?;
-    }
+    reserve(stacks, slot)?;
     put_reserved(stacks, slot, value);
     Ok(())
 }
@@ -288,26 +287,10 @@ pub fn take_error<'j>(stacks: &mut Stacks<'j>) -> ReadError
     mem::replace(&mut stacks.error, no_error())
 }
 
-// A placeholder: it is replaced when an error stops the reading.
-fn no_error() -> ReadError {
+/// Returns a placeholder: it is replaced when an error stops the reading.
+pub fn no_error() -> ReadError {
     ReadError::Fault(Fault {
         kind: FaultKind::ExpectedSomeValue,
         index: 0,
     })
-}
-
-impl<'j> Stacks<'j> {
-    /// Creates empty stacks, for one document.
-    pub fn new(alloc: Global) -> Stacks<'j>
-        ensures { IsCleared result }
-    {
-        Stacks {
-            items: Vec::new(alloc),
-            members: Vec::new(alloc),
-            nest: SmallVec::new(alloc),
-            root: JsonValue::Null,
-            error: no_error(),
-            reused: false,
-        }
-    }
 }

@@ -7,7 +7,7 @@ ghost use Rattle.jiter_value.specs.Settings.{Keeping, each, lent, lent_unique};
 ghost use Rattle.jiter_value.specs.StringStorage.{IsLentAt, LieAt};
 
 use crate::copies::own_cow;
-use jiter_scan::memory::{AllocFailed, copy_text};
+use jiter_scan::memory::AllocFailed;
 use jiter_scan::text::utf8_text;
 use std::alloc::Global;
 use std::borrow::CowStr;
@@ -38,15 +38,6 @@ pub struct Borrowing<'s> {
     pub bytes: &'s [u8],
 }
 
-// Borrows the text once more from its index, for the lifetime of the value. Its UTF-8 isn't tested again.
-#[inline(always)]
-fn lend<'s>(bytes: &'s [u8], from: usize, text: &str) -> &'s str
-    requires { LieAt bytes.now from text.now }
-    ensures { result.now ≡ text.now }
-{
-    utf8_text(&bytes[from..from + text.len()])
-}
-
 impl<'s> StringStorage<'s> for Borrowing<'s> {
     ghost of = { λ b t. b.bytes.now ≡ t };
 
@@ -57,7 +48,11 @@ impl<'s> StringStorage<'s> for Borrowing<'s> {
     #[inline(always)]
     fn keep(self, _bytes: &[u8], from: usize, text: CowStr<'_>) -> Result<CowStr<'s>, AllocFailed> {
         match text {
-            CowStr::Borrowed(lent) => Ok(CowStr::Borrowed(lend(self.bytes, from, lent))),
+            // Borrowed once more, for the lifetime of the value. Its UTF-8 isn't tested again.
+            CowStr::Borrowed(lent) => {
+                let again = utf8_text(&self.bytes[from..from + lent.len()]);
+                Ok(CowStr::Borrowed(again))
+            }
             CowStr::Owned(owned) => Ok(CowStr::Owned(owned)),
         }
     }
@@ -124,21 +119,4 @@ pub fn keep_lent<'s, T: StringStorage<'s>>(
     ensures memory { OnErr result T.wants }
 {
     texts.keep(bytes, from, CowStr::Borrowed(text))
-}
-
-/// Returns a decoded text as the value keeps it: an owned copy, made by one allocation of its exact length.
-#[inline(always)]
-pub fn keep_decoded<'s, T: StringStorage<'s>>(
-    alloc: Global,
-    texts: T,
-    bytes: &[u8],
-    from: usize,
-    decoded: &str,
-) -> Result<CowStr<'s>, AllocFailed>
-    requires { T.of texts bytes.now }
-    ensures { IfOk result (λ kept.
-        text_view kept ≡ T.made.text (record { owned = true; bytes = decoded.now })) }
-{
-    let own = copy_text(alloc, decoded)?;
-    texts.keep(bytes, from, CowStr::Owned(own))
 }

@@ -15,7 +15,7 @@ ghost use Rattle.jiter_value.specs.Value.{view, MayGrowBy};
 ghost use Rattle.jiter_value.specs.declared.stacks.Stacks.{Stacks as StacksView};
 
 use crate::settings::Settings;
-use crate::stacks::{Slot, Stacks, State, take_error, take_root};
+use crate::stacks::{Slot, Stacks, State, no_error, no_memory, reserve, take_error, take_root};
 use crate::texts::StringStorage;
 use crate::turns::containers::{after_value, begin};
 use crate::turns::fast::{Plain, fast_put_key, fast_put_scalar};
@@ -23,6 +23,7 @@ use crate::turns::general::{slow_key, slow_scalar};
 use crate::value::JsonValue;
 use jiter_steps::parse::{ContainerKind, NESTING_LIMIT, Parser};
 use jiter_steps::read_error::ReadError;
+use smallvec::SmallVec;
 use std::alloc::Global;
 
 pub(crate) mod containers;
@@ -53,17 +54,21 @@ fn value_turn<'s, T: StringStorage<'s>>(
     ensures settings { reading.new.settings ≡ reading.old.settings }
 {
     match bytes[at] {
-        b'[' => begin::<T>(reading, bytes, at, slot, ContainerKind::Array),
-        b'{' => begin::<T>(reading, bytes, at, slot, ContainerKind::Object),
-        _ => match fast_put_scalar(reading, texts, bytes, at, slot) {
-            (end, Plain::Put) => after_value::<T>(reading, bytes, end, slot),
-            (end, Plain::AllocFailed) => (end, State::GivenUp),
-            (_, Plain::Other) => { slow_scalar(reading, texts, bytes, at, slot) }
-        },
+        b'[' => return begin::<T>(reading, bytes, at, slot, ContainerKind::Array),
+        b'{' => return begin::<T>(reading, bytes, at, slot, ContainerKind::Object),
+        _ => {}
+    }
+    if let Err(refused) = reserve(&mut reading.stacks, slot) {
+        return no_memory(&mut reading.stacks, refused, at);
+    }
+    match fast_put_scalar(reading, texts, bytes, at, slot) {
+        (end, Plain::Put) => after_value::<T>(reading, bytes, end, slot),
+        (end, Plain::AllocFailed) => (end, State::GivenUp),
+        (_, Plain::Other) => { slow_scalar(reading, texts, bytes, at, slot) }
     }
 }
 
-// One turn at a key: the fast path if the stack has capacity and the key is plain, otherwise the slow path.
+// One turn at a key: the fast path if the key is plain, otherwise the slow path.
 #[inline(always)]
 fn key_turn<'s, T: StringStorage<'s>>(
     reading: &mut Reading<'s>,
@@ -83,9 +88,7 @@ fn key_turn<'s, T: StringStorage<'s>>(
         (KeepsKeys T.made bytes.now reading.old.stacks.members.items State.Key at reading.new.stacks.members.items) }
     ensures settings { reading.new.settings ≡ reading.old.settings }
 {
-    if reading.stacks.members.len() < reading.stacks.members.capacity()
-        && reading.stacks.nest.len() <= NESTING_LIMIT
-    {
+    if reading.stacks.nest.len() <= NESTING_LIMIT {
         match fast_put_key(texts, &mut reading.stacks, bytes, at) {
             (next, Plain::Put) => return (next, State::Member),
             (next, Plain::AllocFailed) => return (next, State::GivenUp),
@@ -195,7 +198,14 @@ impl<'s> Reading<'s> {
             state: State::Root,
             at: 0,
             tape: Vec::new(alloc),
-            stacks: Stacks::new(alloc),
+            stacks: Stacks {
+                items: Vec::new(alloc),
+                members: Vec::new(alloc),
+                nest: SmallVec::new(alloc),
+                root: JsonValue::Null,
+                error: no_error(),
+                reused: false,
+            },
         }
     }
 

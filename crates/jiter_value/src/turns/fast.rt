@@ -1,6 +1,6 @@
-//! The fast path: scalars and keys that one look shows, if their stack has the capacity. All results stay in registers.
+//! The fast path: scalars and keys that one look shows. All results stay in registers.
 ghost use Rattle.std.specs.Prelude.{◌≡◌, ◌+◌, ◌^◌, ◌≤◌, ◌<◌, ◌⊎◌, length, pos, slice_get, slice_index, Some};
-ghost use Rattle.std.specs.Prelude.{if◌then◌else◌, vec_len, vec_capacity};
+ghost use Rattle.std.specs.Prelude.{if◌then◌else◌};
 ghost use Rattle.jiter_scan.specs.Ascii as ascii;
 ghost use Rattle.jiter_scan.specs.Number.{minus_of};
 ghost use Rattle.jiter_scan.specs.Scan.{scan_stop};
@@ -15,12 +15,14 @@ ghost use Rattle.jiter_value.specs.declared.stacks.State.TheVariants as state;
 ghost use Rattle.jiter_value.specs.Turns.{IsAtValue, IsPutAt, IsKeyAt, IsRefusedAt};
 ghost use Rattle.jiter_value.specs.Value.{view, MayGrowBy};
 
-use crate::stacks::{Slot, Stacks, has_room, put_reserved};
-use crate::texts::{StringStorage, keep_decoded, keep_lent};
+use crate::stacks::{Slot, Stacks, put_reserved};
+use crate::texts::{StringStorage, keep_lent};
 use crate::turns::Reading;
+use crate::turns::general::push_key;
+use crate::turns::scalar::literal_value;
 use crate::value::JsonValue;
-use jiter_scan::fast_number::{FastNumber, fast_number_at};
-use jiter_scan::memory::AllocFailed;
+use jiter_scan::fast_number::{FastNumber, fast_number_at, signed};
+use jiter_scan::memory::{AllocFailed, copy_text};
 use jiter_scan::number_extent::minus_end;
 use jiter_scan::simd::scan_string;
 use jiter_scan::text::{ascii_text, utf8_text};
@@ -29,15 +31,16 @@ use jiter_steps::fast::{
 };
 use jiter_steps::parse::Literal;
 use jiter_steps::read_error::ReadError;
-use jiter_steps::string_decoder::decode_whole;
+use jiter_steps::string_decoder::decode_to;
 use std::alloc::Global;
+use std::borrow::CowStr;
 
 /// What the fast path did at a scalar or a key.
 #[derive(Clone, Copy, Debug)]
 pub enum Plain {
     /// Put it onto its stack.
     Put,
-    /// Left it to the slow path, because it isn't plain or there is no capacity. The stacks are unchanged.
+    /// Left it to the slow path, because it isn't plain. The stacks are unchanged.
     Other,
     /// Stopped the reading, because an allocation for its text failed.
     AllocFailed,
@@ -113,19 +116,23 @@ fn put_decoded_text<'s, T: StringStorage<'s>>(
     ensures refused { result.1 ≡ Plain.AllocFailed → IsRefusedAt bytes.now at stacks.new result.0 }
     ensures keys { result.1 ≡ Plain.Put → LeavesKeys stacks.old.members.items stacks.new.members.items }
 {
-    match decode_whole(tape, bytes, at) {
+    match decode_to(tape, bytes, at, false) {
         Ok((count, end)) => {
             let decoded = utf8_text(&tape.as_slice()[..count]);
-            match keep_decoded(alloc, texts, bytes, at + 1, decoded) {
-                Ok(text) => {
-                    put_reserved(stacks, slot, JsonValue::Str(text));
-                    (end, Plain::Put)
-                }
+            // An owned copy, made by one allocation of its exact length.
+            match copy_text(alloc, decoded) {
+                Ok(own) => match texts.keep(bytes, at + 1, CowStr::Owned(own)) {
+                    Ok(text) => {
+                        put_reserved(stacks, slot, JsonValue::Str(text));
+                        (end, Plain::Put)
+                    }
+                    Err(refused) => refused_at(stacks, refused, at),
+                },
                 Err(refused) => refused_at(stacks, refused, at),
             }
         }
-        Err(Some(refused)) => refused_at(stacks, refused, at),
-        Err(None) => (at, Plain::Other),
+        Err(ReadError::Memory(refused)) => refused_at(stacks, refused, at),
+        Err(ReadError::Fault(_)) => (at, Plain::Other),
     }
 }
 
@@ -172,15 +179,6 @@ fn fast_put_text<'s, T: StringStorage<'s>>(
     }
 }
 
-#[inline(always)]
-fn signed<'s>(magnitude: u64, negative: bool) -> JsonValue<'s>
-    requires { magnitude < 2 ^ 63 }
-    ensures { view result ≡ int (if negative then minus_of magnitude else pos magnitude) }
-{
-    let number = magnitude as i64;
-    JsonValue::Int(if negative { 0 - number } else { number })
-}
-
 // Puts a short number. Returns the index after it.
 #[inline(always)]
 fn fast_put_number<'s, T: StringStorage<'s>>(
@@ -203,7 +201,7 @@ fn fast_put_number<'s, T: StringStorage<'s>>(
     let from = minus_end(bytes, at);
     match fast_number_at(bytes, from) {
         FastNumber::Int(magnitude, end) => {
-            put_reserved(stacks, slot, signed(magnitude, from > at));
+            put_reserved(stacks, slot, JsonValue::Int(signed(magnitude, from > at)));
             (end, Plain::Put)
         }
         FastNumber::Float(end) => {
@@ -240,15 +238,11 @@ fn fast_put_literal<'s, T: StringStorage<'s>>(
     let Some(end) = fast_literal_end(bytes, at, literal) else {
         return (at, Plain::Other);
     };
-    match literal {
-        Literal::Null => put_reserved(stacks, slot, JsonValue::Null),
-        Literal::True => put_reserved(stacks, slot, JsonValue::Bool(true)),
-        Literal::False => put_reserved(stacks, slot, JsonValue::Bool(false)),
-    }
+    put_reserved(stacks, slot, literal_value(literal));
     (end, Plain::Put)
 }
 
-/// Puts a plain scalar or any complete string into its slot, if there is capacity. Returns the index after it.
+/// Puts a plain scalar or any complete string into its slot. Returns the index after it.
 #[inline(always)]
 pub fn fast_put_scalar<'s, T: StringStorage<'s>>(
     reading: &mut Reading<'s>,
@@ -259,6 +253,7 @@ pub fn fast_put_scalar<'s, T: StringStorage<'s>>(
 ) -> (usize, Plain)
     requires texts { T.of texts bytes.now }
     requires at_value { IsAtValue bytes.now reading.old.stacks slot at }
+    requires room { HasRoom reading.old.stacks slot }
     ensures put { result.1 ≡ Plain.Put → IsPutAt T.made bytes.now reading.old.stacks at slot reading.new.stacks result.0 }
     ensures other { result.1 ≡ Plain.Other → reading.new.stacks ≡ reading.old.stacks }
     ensures refused { result.1 ≡ Plain.AllocFailed → IsRefusedAt bytes.now at reading.new.stacks result.0 }
@@ -266,9 +261,6 @@ pub fn fast_put_scalar<'s, T: StringStorage<'s>>(
     ensures keys { result.1 ≡ Plain.Put → LeavesKeys reading.old.stacks.members.items reading.new.stacks.members.items }
     ensures settings { reading.new.settings ≡ reading.old.settings }
 {
-    if !has_room(&reading.stacks, slot) {
-        return (at, Plain::Other);
-    }
     match bytes[at] {
         b'"' => fast_put_text(
             reading.alloc,
@@ -298,7 +290,6 @@ pub fn fast_put_key<'s, T: StringStorage<'s>>(
     requires texts { T.of texts bytes.now }
     requires stands { StandsAtKey stacks.old }
     requires few { length stacks.old.nest.items ≤ nesting_limit }
-    requires room { vec_len stacks.old.members < vec_capacity stacks.old.members }
     requires within { at < length bytes.now }
     requires free { IsFree T.made bytes.now stacks.old at }
     ensures put { result.1 ≡ Plain.Put → IsKeyAt T.made bytes.now stacks.old at stacks.new result.0 }
@@ -313,11 +304,9 @@ pub fn fast_put_key<'s, T: StringStorage<'s>>(
     let Some(next) = fast_colon(bytes, to + 1) else {
         return (at, Plain::Other);
     };
-    match keep_lent(texts, bytes, at + 1, ascii_text(&bytes[at + 1..to])) {
-        Ok(key) => {
-            stacks.members.push_reserved((key, JsonValue::Int(0)));
-            (next, Plain::Put)
-        }
+    let key = CowStr::Borrowed(ascii_text(&bytes[at + 1..to]));
+    match push_key(texts, &mut stacks.members, bytes, at + 1, key) {
+        Ok(()) => (next, Plain::Put),
         Err(refused) => refused_at(stacks, refused, next),
     }
 }

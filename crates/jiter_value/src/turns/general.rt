@@ -137,10 +137,10 @@ pub fn slow_scalar<'s, T: StringStorage<'s>>(
     }
 }
 
-// Pushes a key, whose bytes begin at `from`, with the integer 0 as a placeholder for its value. All bytes of the
-// placeholder are written at once.
+/// Pushes a key, whose bytes begin at `from`, with the integer 0 as a placeholder for its value. All bytes of the
+/// placeholder are written at once.
 #[inline(always)]
-fn push_key<'s, T: StringStorage<'s>>(
+pub fn push_key<'s, T: StringStorage<'s>>(
     texts: T,
     members: &mut Vec<(CowStr<'s>, JsonValue<'s>)>,
     bytes: &[u8],
@@ -154,7 +154,9 @@ fn push_key<'s, T: StringStorage<'s>>(
         × (members.new.items ≡ members.old.items ++ (kept, Int (pos 0)) ∷ [])) }
 {
     let kept = texts.keep(bytes, from, key)?;
-    make_room(members)?;
+    if members.len() == members.capacity() {
+        make_room(members)?;
+    }
     members.push_reserved((kept, JsonValue::Int(0)));
     Ok(())
 }

@@ -23,8 +23,9 @@ use jiter_steps::parse::{Literal, Parser, Start, start_of};
 use jiter_steps::read_error::ReadError;
 use std::alloc::Global;
 
+/// Returns the literal's value.
 #[inline(always)]
-fn literal_value<'s>(literal: Literal) -> JsonValue<'s>
+pub fn literal_value<'s>(literal: Literal) -> JsonValue<'s>
     ensures value { view result ≡ literal_tree literal }
     ensures one { size (view result) ≡ 1 }
 {

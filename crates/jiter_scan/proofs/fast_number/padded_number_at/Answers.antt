@@ -7,14 +7,14 @@ use Rattle.jiter_scan.proofs.Magnitudes.{decimal_of-few, magnitude_of-short}
 use Rattle.jiter_scan.proofs.NumberExtents.{decimal_at-tail}
 use Rattle.jiter_scan.proofs.NumberValues.{number_value-tail}
 use Rattle.jiter_scan.proofs.FastNumbers.{digits-counted, digits-of_chunk, int_part_at-counted, decimal_at-int_part}
-use Rattle.jiter_scan.proofs.FastNumbers.{tail-place}
+use Rattle.jiter_scan.proofs.FastNumbers.{first-alone, tail-place}
 use Rattle.jiter_scan.proofs.fast_number.padded_number_at.Goals as goal
 use Rattle.jiter_scan.proofs.fast_number.padded_number_at.Goals.{then-count-eq0-via-then-count-eq0}
 use Rattle.jiter_scan.proofs.fast_number.padded_number_at.Goals.{then-count-eq0-via-else-count-eq0+then-count-ne1}
 use Rattle.jiter_scan.proofs.fast_number.padded_number_at.Goals.{then-bytes-at-eq48, else-bytes-at-eq48}
 
-pub returns-then-not-goes_on : goal.returns-then-not-goes_on
-returns-then-not-goes_on c =
+pub returns-then-not-goes_on-clause-number : goal.returns-then-not-goes_on-clause-number
+returns-then-not-goes_on-clause-number c =
     let t = c.args.bytes.now in
     let i = c.args.at in
     let chunk = c.full_chunk_at-chunk in
@@ -37,8 +37,20 @@ returns-then-not-goes_on c =
       within = omega arith;
     }
 
-pub returns-in-Some : goal.returns-in-Some
-returns-in-Some c =
+pub returns-then-not-goes_on-clause-alone : goal.returns-then-not-goes_on-clause-alone
+returns-then-not-goes_on-clause-alone c =
+    let t = c.args.bytes.now in
+    let i = c.args.at in
+    let n = c.digit_count-count.result in
+    record {
+      run = digits-counted t c.full_chunk_at-chunk.result i n c.digit_count-count.ensures (omega arith) (omega arith)
+          c.full_chunk_at-chunk.ensures;
+      first = first-alone t i n c.if-count-ne1.either;
+      next = sym c.goes_on.ensures ∙ c.if-not-goes_on.true;
+    }
+
+pub returns-in-Some-clause-number : goal.returns-in-Some-clause-number
+returns-in-Some-clause-number c =
     let t = c.args.bytes.now in
     let i = c.args.at in
     let chunk = c.full_chunk_at-chunk in
@@ -57,8 +69,8 @@ returns-in-Some c =
       within = place.1;
     }
 
-pub returns-then-count-eq0 : goal.returns-then-count-eq0
-returns-then-count-eq0 c h =
+pub returns-then-count-eq0-clause-number : goal.returns-then-count-eq0-clause-number
+returns-then-count-eq0-clause-number c h =
     let chunk = c.full_chunk_at-chunk in
     let run = digits-counted c.args.bytes.now chunk.result c.args.at c.digit_count-count.result
     c.digit_count-count.ensures (omega arith) (omega (arith, h.reach)) chunk.ensures in
@@ -70,8 +82,8 @@ returns-then-count-eq0 c h =
       ]
     ]
 
-pub returns-in-None : goal.returns-in-None
-returns-in-None c h =
+pub returns-in-None-clause-number : goal.returns-in-None-clause-number
+returns-in-None-clause-number c h =
     let t = c.args.bytes.now in
     let i = c.args.at in
     let chunk = c.full_chunk_at-chunk in

@@ -12,8 +12,8 @@ digits_magnitude-magnitude-requires-clause-digits c =
     (omega arith) (omega arith) c.full_chunk_at-back.ensures c.requires.digits in
     (omega arith, omega arith)
 
-pub returns : goal.returns
-returns c =
+pub returns-clause-number : goal.returns-clause-number
+returns-clause-number c =
     let t = c.args.bytes.now in
     let i = c.args.at in
     let n = c.digit_count-more.result in
@@ -31,4 +31,14 @@ returns c =
       small = omega (arith, few, c.digits_magnitude-magnitude.ensures);
       some = omega arith;
       within = omega arith;
+    }
+
+pub returns-clause-alone : goal.returns-clause-alone
+returns-clause-alone c =
+    let run = digits-in_two c.args.bytes.now c.full_chunk_at-back.result c.args.at c.digit_count-more.result
+    c.digit_count-more.ensures (omega arith) (omega arith) c.full_chunk_at-back.ensures c.requires.digits in
+    record {
+      run = run;
+      first = inr (λ zero. omega arith);
+      next = sym c.goes_on.ensures ∙ c.if-goes_on.false;
     }

@@ -18,8 +18,8 @@ returns-then-ends_number c =
     let kept : to_z w64 (of_z w64 c.signed.result) ≡ c.signed.result = grind (arith, to_z-of_z) in
     subst (λ n. EndsWithin piece at (integer n) e) (sym (kept ∙ c.signed.ensures))
     (ends-within piece at (integer z) e
-    (short-signed piece false at e from m c.minus_end-from.ensures.minus c.in-Int.ensures)
-    (omega (arith, c.in-Int.ensures.some, c.minus_end-from.ensures.place.0)) (c.ends_number.ensures c.if-ends_number.true))
+    (short-signed piece false at e from m c.minus_end-from.ensures.minus c.in-Int.ensures.number)
+    (omega (arith, c.in-Int.ensures.number.some, c.minus_end-from.ensures.place.0)) (c.ends_number.ensures c.if-ends_number.true))
 
 pub returns-then-ends_number-2 : goal.returns-then-ends_number-2
 returns-then-ends_number-2 c =
@@ -28,8 +28,8 @@ returns-then-ends_number-2 c =
     let from = c.minus_end-from.result in
     let minus = c.minus_end-from.ensures.minus in
     let e = c.in-Float.end in (
-      ends-within piece at (float (slice_range piece at e)) e (short-signed_float piece false at e from minus c.in-Float.ensures)
-          (omega (arith, c.in-Float.ensures.some, c.minus_end-from.ensures.place.0))
+      ends-within piece at (float (slice_range piece at e)) e (short-signed_float piece false at e from minus c.in-Float.ensures.number)
+          (omega (arith, c.in-Float.ensures.number.some, c.minus_end-from.ensures.place.0))
           (c.ends_number-in-Float.ensures c.if-ends_number-2.true),
-      IsAscii-decimal piece at from e minus c.in-Float.ensures.decimal,
+      IsAscii-decimal piece at from e minus c.in-Float.ensures.number.decimal,
     )

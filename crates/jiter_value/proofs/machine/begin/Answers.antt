@@ -1,37 +1,31 @@
-use Rattle.std.proofs.Common.{ap, length, arith}
-use Rattle.jiter_scan.specs.Kind.{fault_kind}
+use Rattle.std.proofs.Common.{refl, ap, ◌∙◌, sym, arith}
+use Rattle.std.specs.Prelude.{slice_get}
+use Rattle.std.proofs.lemmas.Option.{slice_get_past}
+use Rattle.jiter_steps.specs.Step.{value_first}
+use Rattle.jiter_scan.specs.Kind.{eof_value}
 use Rattle.jiter_value.specs.Settings.{lent, rules_as}
-use Rattle.jiter_value.proofs.WholeTextAnswers.{answer-none, begins-at-value, value-begins-at}
+use Rattle.jiter_value.proofs.WholeTextAnswers.{answer-none, begins-at-value}
 use Rattle.jiter_value.proofs.machine.begin.Goals as goal
 
-pub returns-in-Ok-clause-begun : goal.returns-in-Ok-clause-begun
-returns-in-Ok-clause-begun c = λ _.
+pub returns-then-reading-bytes-clause-begun : goal.returns-then-reading-bytes-clause-begun
+returns-then-reading-bytes-clause-begun c = λ _.
     let r = c.args.reading.now in
     let t = c.args.bytes.now in
-    let n = c.new-parser.ensures in
     let u = c.requires in
-    let i = c.value_first-first.new.self.index in
-    let same = ap (λ b. b.now) n.same in
-    let at = value-begins-at t i (rw (n.begin, same) at c.in-Ok.ensures.value) in
-    let lt = rw same at c.in-Ok.ensures.inside in
-    rw (u.2, at) (begins-at-value lent ⊥ r.settings t r.stacks i u.0 lt, tt, u.3)
+    let blanks = c.past_blanks-reading in
+    rw (u.2, sym blanks.ensures.value)
+    (begins-at-value lent ⊥ r.settings t r.stacks blanks.result u.0 c.if-reading-bytes.true, tt, u.3)
 
-pub returns-in-Err-clause-over : goal.returns-in-Err-clause-over
-returns-in-Err-clause-over c = λ _.
+pub returns-clause-over : goal.returns-clause-over
+returns-clause-over c = λ _.
     let r = c.args.reading.now in
     let t = c.args.bytes.now in
-    let n = c.new-parser.ensures in
-    let f = c.in-Err.fault in
-    let i = c.value_first-first.new.self.index in
-    let same = ap (λ b. b.now) n.same in (
-      answer-none (rules_as lent r.settings) r.settings.mode t (fault_kind f.kind) f.index i
-          (rw (n.begin, same) at c.in-Err.ensures.value),
-      omega (
-        arith,
-        c.value_first-first.new.self.within,
-        ap (λ b. length b.now) c.in-Err.ensures.moves.same,
-        ap length same,
-      ),
+    let i = c.past_blanks-reading.result in
+    let none = slice_get_past t i (omega (arith, c.if-reading-bytes.false)) in
+    let ended = ap (λ j. value_first j (slice_get t j)) (sym c.past_blanks-reading.ensures.value)
+    ∙ ap (value_first i) none in (
+      rw c.fault_at-fault.ensures (answer-none (rules_as lent r.settings) r.settings.mode t eof_value i i (ended, refl)),
+      c.past_blanks-reading.ensures.bound,
       tt,
       tt,
     )

@@ -6,14 +6,14 @@ use Rattle.jiter_value.proofs.LentTexts.{range-lies}
 use Rattle.jiter_value.proofs.Placed.{key-at}
 use Rattle.jiter_value.proofs.turns.fast.fast_put_key.Goals as goal
 
-pub keep_lent-requires : goal.keep_lent-requires
-keep_lent-requires g c =
+pub push_key-requires : goal.push_key-requires
+push_key-requires g c =
     let a = c.args in
     λ k. (
       (refl, tt),
       (
         c.requires.texts,
-        range-lies a.bytes.now (a.at + 1) c.in-Some.to _ (omega (arith, c.in-Some.ensures.within.0))
+        λ _. range-lies a.bytes.now (a.at + 1) c.in-Some.to _ (omega (arith, c.in-Some.ensures.within.0))
             (omega (arith, c.in-Some.ensures.within.1)) c.ascii_text.ensures,
       ),
     )
@@ -27,16 +27,18 @@ returns-in-Ok-clause-put g c = λ _.
     let to = c.in-Some.to in
     let found = c.in-Some.ensures in
     let colon = c.in-Some-fast_colon.ensures in
-    let kept = c.in-Ok.ensures.value ∙ ap (λ w. made.text (record { owned = false; bytes = w })) c.ascii_text.ensures in
-    key-at made t a.stacks.now c.push_reserved.new.self i (to + 1) c.in-Some-fast_colon.next (between t (i + 1) to) _ _
-    c.requires.stands c.requires.free c.requires.within (ap (scalar_at i) (found.value false)) kept colon.value
-    c.push_reserved.ensures.items (omega (arith, found.within.0, colon.within.0)) colon.within.1
+    let pushed = c.in-Ok.ensures in
+    let kept = pushed.1 ∙ ap (λ w. made.text (record { owned = false; bytes = w })) c.ascii_text.ensures in
+    key-at made t a.stacks.now c.push_key.new.members i (to + 1) c.in-Some-fast_colon.next (between t (i + 1) to) pushed.0
+    _ c.requires.stands c.requires.free c.requires.within (ap (scalar_at i) (found.value false)) kept colon.value
+    pushed.2 (omega (arith, found.within.0, colon.within.0)) colon.within.1
 
 pub returns-in-Ok-clause-keys : goal.returns-in-Ok-clause-keys
 returns-in-Ok-clause-keys g c = λ _.
     let a = c.args in
     let made = g.T.StringStorage.made in
     let to = c.in-Some.to in
-    let kept = c.in-Ok.ensures.value ∙ ap (λ w. made.text (record { owned = false; bytes = w })) c.ascii_text.ensures in
-    pushed-keeps made a.bytes.now a.at (to + 1) _ a.stacks.now.members.items _ _ _
-    (ap (scalar_at a.at) (c.in-Some.ensures.value false)) kept c.push_reserved.ensures.items
+    let pushed = c.in-Ok.ensures in
+    let kept = pushed.1 ∙ ap (λ w. made.text (record { owned = false; bytes = w })) c.ascii_text.ensures in
+    pushed-keeps made a.bytes.now a.at (to + 1) _ a.stacks.now.members.items _ pushed.0 _
+    (ap (scalar_at a.at) (c.in-Some.ensures.value false)) kept pushed.2

@@ -1,4 +1,4 @@
-use Rattle.std.proofs.Common.{◌∙◌, false, refl, ap, arith, slice_range}
+use Rattle.std.proofs.Common.{◌≡◌, ◌∙◌, false, of_z, refl, ap, arith, slice_range, to_z, to_z-of_z, w64}
 use Rattle.std.specs.Prelude.{nat_lt, pos, if◌then◌else◌}
 use Rattle.jiter_scan.specs.Number.{integer, minus_of}
 use Rattle.jiter_scan.specs.Number as number
@@ -7,7 +7,7 @@ use Rattle.jiter_steps.specs.Tree.{int, float}
 use Rattle.jiter_value.proofs.LentTexts.{range-lies}
 use Rattle.jiter_scan.proofs.FastNumberValues.{short-signed, short-signed_float}
 use Rattle.jiter_value.proofs.Placed.{put-at, number-read}
-use Rattle.jiter_value.proofs.Views.{view_float}
+use Rattle.jiter_value.proofs.Views.{view_float, view_int}
 use Rattle.jiter_value.proofs.turns.fast.fast_put_number.Goals as goal
 
 pub ascii_text-requires : goal.ascii_text-requires
@@ -44,7 +44,8 @@ returns-in-Int-clause-put g c = λ _.
     let found = c.in-Int.ensures in
     let n = c.put_reserved.ensures in
     let z = if nat_lt a.at from then minus_of c.in-Int.magnitude else pos c.in-Int.magnitude in
-    put-at _ (int z) c.signed.ensures c.requires.at_value.0 c.requires.at_value.1 n.value n.stands n.nest n.held refl
+    let kept : to_z w64 (of_z w64 c.signed.result) ≡ c.signed.result = grind (arith, to_z-of_z) in
+    put-at _ (int z) (view_int _ ∙ ap int (kept ∙ c.signed.ensures)) c.requires.at_value.0 c.requires.at_value.1 n.value n.stands n.nest n.held refl
     (omega (arith, found.some, IsMinusTo-le t a.at from minus)) found.within
     (λ p levels. number-read g.T.StringStorage.made p t a.at c.in-Int.end levels (integer z) c.requires.begins
     (short-signed t p.allow_inf_nan a.at c.in-Int.end from c.in-Int.magnitude minus found))

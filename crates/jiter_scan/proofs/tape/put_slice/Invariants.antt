@@ -1,10 +1,10 @@
-use Rattle.std.proofs.Common.{◌≡◌, ◌+◌, ◌-◌, ◌≤◌, take}
+use Rattle.std.proofs.Common.{◌≡◌, ◌+◌, ◌-◌, ◌≤◌, length, take}
 use Rattle.std.specs.Prelude.{vec_len}
-use Rattle.jiter_scan.proofs.tape.make_room.Given as goal
+use Rattle.jiter_scan.proofs.tape.put_slice.Given as goal
 
 abbrev pub invariant-loop-tape : goal.invariant-loop-tape
 invariant-loop-tape l =
     (l.count ≤ vec_len l.tape) × (take l.count l.tape.items ≡ take l.count l.fn.tape.items)
 
 abbrev pub decreases-loop-tape : goal.decreases-loop-tape
-decreases-loop-tape l = (l.count + l.bytes + 32) - vec_len l.tape
+decreases-loop-tape l = (l.count + length l.bytes + 32) - vec_len l.tape
