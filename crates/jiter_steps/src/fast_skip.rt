@@ -13,7 +13,7 @@ ghost use Rattle.jiter_steps.specs.declared.parse.Start.{Start};
 
 use crate::blank::past_blanks;
 use crate::fast::{fast_colon, fast_literal_end, peek};
-use crate::parse::{ContainerKind, Start, start_of};
+use crate::parse::{ContainerKind, Literal};
 use crate::raw_string::closed_end;
 use jiter_scan::number_extent::padded_number_end;
 use jiter_scan::simd::stops;
@@ -80,13 +80,15 @@ pub(crate) fn fast_value_end(bytes: &[u8], at: usize) -> Option<usize>
     ensures value { IfSome result (λ e. IsPlainEnd bytes.now at e) }
     ensures within { IfSome result (λ e. (at < e) × (e ≤ length bytes.now)) }
 {
-    match start_of(bytes[at]) {
-        Start::String => quoted_end(bytes, at),
-        Start::Number => padded_number_end(bytes, at),
-        Start::Literal(literal) => fast_literal_end(bytes, at, literal),
-        Start::Array => empty_end(bytes, at, ContainerKind::Array),
-        Start::Object => empty_end(bytes, at, ContainerKind::Object),
-        Start::Nothing => None,
+    match bytes[at] {
+        b'"' => quoted_end(bytes, at),
+        b'0'..=b'9' | b'-' => padded_number_end(bytes, at),
+        b'n' => fast_literal_end(bytes, at, Literal::Null),
+        b't' => fast_literal_end(bytes, at, Literal::True),
+        b'f' => fast_literal_end(bytes, at, Literal::False),
+        b'[' => empty_end(bytes, at, ContainerKind::Array),
+        b'{' => empty_end(bytes, at, ContainerKind::Object),
+        _ => None,
     }
 }
 

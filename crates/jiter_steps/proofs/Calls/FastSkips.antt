@@ -44,11 +44,6 @@ module _ (names : Bool) (t : List ℕ) where
       → Continues names t fs (Ok m) j x → Continues names t fs (Ok k) j x
   continues-told fs m k j x same h = subst (λ n. Continues names t fs (Ok n) j x) same h
 
-  -- what is led to from j is led to from i, where both go on alike
-  pub leads-from : (fs : Frames) (m : Bool) (k : ℕ) (x y : Reading (Unit {0})) → x ≡ y
-      → Continues names t fs (Ok m) k y → Continues names t fs (Ok m) k x
-  leads-from fs m k x y same h = subst (λ z. Continues names t fs (Ok m) k z) (sym same) h
-
   -- after a part: the value of the next one, and the container's end
   pub plain-next : (b : ContainerKind) (fs : Frames) (i v : ℕ) → i ≤ length t → next_inside b t i ≡ done true v
       → resume (only_ends names) t (frame_of b ∷ fs) (done tt i) ≡ value_from (only_ends names) t (frame_of b ∷ fs) v
