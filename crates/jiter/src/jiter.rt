@@ -224,17 +224,6 @@ impl<'j> Jiter<'j> {
         jiter
     }
 
-    #[inline(always)]
-    fn next_byte(&mut self) -> Option<u8>
-        ensures moves { MovesOn self.old self.new }
-        ensures place { self.new.position ≡ value_place self.old }
-        ensures value { result ≡ slice_get self.old.text self.new.position }
-    {
-        let (at, byte) = peek(self.parser.bytes, self.parser.index);
-        self.parser.index = at;
-        byte
-    }
-
     /// Moves past whitespace and returns the next byte, whatever it is (RFC 8259, 2).
     ///
     /// The byte is not consumed, so a second peek returns the same.
@@ -258,11 +247,10 @@ impl<'j> Jiter<'j> {
         ensures here { MatchResult result (λ p. StandsAt self.new (byte_of p))
             (λ _. slice_get self.new.text self.new.position ≡ None) }
     {
-        match self.next_byte() {
-            None => {
-                let fault = fault_at(FaultKind::EofWhileParsingValue, self.parser.index);
-                Err(refusal(fault))
-            }
+        let (at, byte) = peek(self.parser.bytes, self.parser.index);
+        self.parser.index = at;
+        match byte {
+            None => Err(refusal(fault_at(FaultKind::EofWhileParsingValue, at))),
             Some(byte) => Ok(Peek::new(byte)),
         }
     }
@@ -288,11 +276,12 @@ impl<'j> Jiter<'j> {
     pub fn finish(&mut self) -> JiterResult<()>
         ensures reads { Reads never (λ u. u) (finish self.old) result self.old self.new }
     {
-        if self.next_byte().is_some() {
-            let fault = fault_at(FaultKind::TrailingCharacters, self.parser.index);
-            return Err(refusal(fault));
+        let (end, byte) = peek(self.parser.bytes, self.parser.index);
+        self.parser.index = end;
+        match byte {
+            None => Ok(()),
+            Some(_) => Err(refusal(fault_at(FaultKind::TrailingCharacters, end))),
         }
-        Ok(())
     }
 
     /// Returns the error `OutOfMemory` at the reader's position, and leaves the reader there.

@@ -45,15 +45,10 @@ abbrev pub frame_of : ContainerKind → Frame (Unit {0}) (Unit {0})
 frame_of shape.Array = items_frame []
 frame_of shape.Object = members_frame [] tt
 
--- what an open container is, by whether it is an object
-abbrev pub kind_of_container : Bool → ContainerKind
-kind_of_container false = shape.Array
-kind_of_container true = shape.Object
-
--- So many open containers, the innermost first. The table says of each, the outermost first, whether it is an object.
-abbrev pub open_frames : List Bool → ℕ → List (Frame (Unit {0}) (Unit {0}))
-open_frames objects zero = []
-open_frames objects (suc n) = frame_of (kind_of_container (slice_index_or objects n false)) ∷ open_frames objects n
+-- So many open containers, the innermost first. The table has the kind of each, the outermost first.
+abbrev pub open_frames : List ContainerKind → ℕ → List (Frame (Unit {0}) (Unit {0}))
+open_frames kinds zero = []
+open_frames kinds (suc n) = frame_of (slice_index_or kinds n shape.Array) ∷ open_frames kinds n
 
 -- What was returned, and the place i then, lead on to the reading x inside these open containers: a value is awaited
 -- at i, or one has ended there.

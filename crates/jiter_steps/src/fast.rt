@@ -15,7 +15,7 @@ ghost use Rattle.jiter_steps.specs.StringReading.{string_at, text_form, between}
 use crate::blank::blanks_end;
 use crate::parse::{ContainerKind, Literal};
 use jiter_scan::short_scan::ascii_quote;
-use jiter_scan::text::ascii_text;
+use jiter_scan::text::utf8_text;
 use jiter_scan::word::byte_at;
 
 /// Where a step between the parts of a container leads.
@@ -46,6 +46,22 @@ pub fn peek(bytes: &[u8], from: usize) -> (usize, Option<u8>)
     }
     let at = blanks_end(bytes, from);
     (at, byte_at(bytes, at))
+}
+
+/// Returns what [`peek`] does. Fastest if `wanted`, which is not whitespace, is the byte at `from`.
+#[inline(always)]
+pub fn peek_for(bytes: &[u8], from: usize, wanted: u8) -> (usize, Option<u8>)
+    requires within { from ≤ length bytes.now }
+    requires wanted { 32 < wanted }
+    ensures place { result.0 ≡ past_blanks bytes.now from }
+    ensures byte { result.1 ≡ slice_get bytes.now result.0 }
+    ensures within { (from ≤ result.0) × (result.0 ≤ length bytes.now) }
+    ensures inside { IfSome result.1 (λ _. result.0 < length bytes.now) }
+{
+    if from < bytes.len() && bytes[from] == wanted {
+        return (from, Some(wanted));
+    }
+    peek(bytes, from)
 }
 
 /// Finds the first part of a container, or its end (RFC 8259, 4 and 5). `from` is after the opening bracket.
@@ -91,15 +107,15 @@ fn fast_comma(bytes: &[u8], from: usize, shape: ContainerKind) -> (usize, Next)
     }
 }
 
-// `shape` is a constant where this is inlined.
+/// Returns what [`fast_step`] does. Call it if `shape` is a constant at the call.
 #[inline(always)]
-fn known_fast_step(bytes: &[u8], from: usize, shape: ContainerKind) -> (usize, Next)
+pub fn known_fast_step(bytes: &[u8], from: usize, shape: ContainerKind) -> (usize, Next)
     requires { from ≤ length bytes.now }
     ensures next { IsNext result.0 result.1 (step bytes.now (container_step shape bytes.now) from) }
     ensures within { (from ≤ result.0) × (result.0 ≤ length bytes.now) }
     ensures part { result.1 ≡ Next.Part → result.0 < length bytes.now }
 {
-    let (at, byte) = peek(bytes, from);
+    let (at, byte) = peek_for(bytes, from, b',');
     match byte {
         None => (at, Next::Stuck),
         Some(byte) => {
@@ -135,7 +151,7 @@ pub fn fast_colon(bytes: &[u8], from: usize) -> Option<usize>
     ensures value { IfSome result (λ j. object_colon bytes.now from ≡ taken tt j) }
     ensures within { IfSome result (λ j. (from ≤ j) × (j < length bytes.now)) }
 {
-    let (at, byte) = peek(bytes, from);
+    let (at, byte) = peek_for(bytes, from, b':');
     match byte {
         None => None,
         Some(byte) => {
@@ -175,7 +191,7 @@ pub fn ascii_between(bytes: &[u8], at: usize, to: usize) -> &str
     ensures value { (keep : Bool)
         → string_at (text_form keep) bytes.now at ≡ taken (between bytes.now (at + 1) to) (to + 1) }
 {
-    ascii_text(&bytes[at + 1..to])
+    utf8_text(&bytes[at + 1..to])
 }
 
 /// Returns the string between the quotes at `at` and `to`, if it is UTF-8 (RFC 8259, 8.1).

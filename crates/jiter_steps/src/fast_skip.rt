@@ -15,13 +15,13 @@ use crate::blank::past_blanks;
 use crate::fast::{fast_colon, fast_literal_end, peek};
 use crate::parse::{ContainerKind, Literal};
 use crate::raw_string::closed_end;
-use jiter_scan::number_extent::{NUMBER_REACH, padded_number_end};
+use jiter_scan::number_extent::padded_number_end;
 use jiter_scan::simd::stops;
 use std::simd::prelude::*;
 
-// The fast path goes on as long as this many bytes are left after a part or a key, so the length is not tested again.
-// Two lead up to a value, and the others are those of a number.
-const REACH: usize = 68;
+/// How many bytes the fast path may read at once: two lead up to a value, and the others are those of a number. It goes
+/// on as long as so many are left, and then tests no length.
+pub(crate) const REACH: usize = 68;
 
 // Here and below, `last` is the last index with `REACH` bytes left.
 #[inline(always)]
@@ -72,67 +72,23 @@ fn empty_end(bytes: &[u8], at: usize, shape: ContainerKind) -> Option<usize>
     }
 }
 
+/// Returns the index after the value at `at`, if it can be skipped at once. That may be a closed string, a short
+/// number, a literal, or a pair of brackets with nothing between them.
 #[inline(always)]
-fn literal_end(bytes: &[u8], at: usize, literal: Literal) -> Option<usize>
-    requires within { at < length bytes.now }
-    requires begins { start_of (slice_index bytes.now at) ≡ Start.Literal literal }
-    ensures value { IfSome result (λ e. IsPlainEnd bytes.now at e) }
-    ensures within { IfSome result (λ e. (at < e) × (e ≤ length bytes.now)) }
-{
-    fast_literal_end(bytes, at, literal)
-}
-
-#[inline(always)]
-fn string_end(bytes: &[u8], at: usize) -> Option<usize>
-    requires room { at + 66 ≤ length bytes.now }
-    requires begins { start_of (slice_index bytes.now at) ≡ Start.String }
-    ensures value { IfSome result (λ e. IsPlainEnd bytes.now at e) }
-    ensures within { IfSome result (λ e. (at < e) × (e ≤ length bytes.now)) }
-{
-    quoted_end(bytes, at)
-}
-
-// A number that is not short is left to the slow path.
-#[inline(always)]
-fn short_number_end(bytes: &[u8], at: usize) -> Option<usize>
-    requires room { at + 66 ≤ length bytes.now }
-    requires begins { start_of (slice_index bytes.now at) ≡ Start.Number }
-    ensures value { IfSome result (λ e. IsPlainEnd bytes.now at e) }
-    ensures within { IfSome result (λ e. (at < e) × (e ≤ length bytes.now)) }
-{
-    padded_number_end(bytes, at)
-}
-
-#[inline(always)]
-fn padded_value_end(bytes: &[u8], at: usize) -> Option<usize>
+pub(crate) fn fast_value_end(bytes: &[u8], at: usize) -> Option<usize>
     requires { at + 66 ≤ length bytes.now }
     ensures value { IfSome result (λ e. IsPlainEnd bytes.now at e) }
     ensures within { IfSome result (λ e. (at < e) × (e ≤ length bytes.now)) }
 {
     match bytes[at] {
-        b'"' => string_end(bytes, at),
-        b'0'..=b'9' | b'-' => short_number_end(bytes, at),
-        b'n' => literal_end(bytes, at, Literal::Null),
-        b't' => literal_end(bytes, at, Literal::True),
-        b'f' => literal_end(bytes, at, Literal::False),
+        b'"' => quoted_end(bytes, at),
+        b'0'..=b'9' | b'-' => padded_number_end(bytes, at),
+        b'n' => fast_literal_end(bytes, at, Literal::Null),
+        b't' => fast_literal_end(bytes, at, Literal::True),
+        b'f' => fast_literal_end(bytes, at, Literal::False),
         b'[' => empty_end(bytes, at, ContainerKind::Array),
         b'{' => empty_end(bytes, at, ContainerKind::Object),
         _ => None,
-    }
-}
-
-/// Returns the index after the value at `at`, if it can be skipped at once. That may be a closed string, a short
-/// number, a literal, or a pair of brackets with nothing between them.
-#[inline(always)]
-pub fn fast_value_end(bytes: &[u8], at: usize) -> Option<usize>
-    requires { at < length bytes.now }
-    ensures value { IfSome result (λ e. IsPlainEnd bytes.now at e) }
-    ensures within { IfSome result (λ e. (at < e) × (e ≤ length bytes.now)) }
-{
-    if bytes.len() - at < NUMBER_REACH {
-        None
-    } else {
-        padded_value_end(bytes, at)
     }
 }
 
@@ -179,15 +135,17 @@ fn fast_inside(bytes: &[u8], at: usize, shape: ContainerKind, last: usize) -> Op
 /// Returns the index of the first value in the container at `at`, if the fast path finds it. In an object, that is
 /// after a key and its colon.
 #[inline(always)]
-pub fn fast_first_inside(bytes: &[u8], at: usize, shape: ContainerKind) -> Option<usize>
-    requires { at < length bytes.now }
+pub(crate) fn fast_first_inside(
+    bytes: &[u8],
+    at: usize,
+    shape: ContainerKind,
+    last: usize,
+) -> Option<usize>
+    requires room { last + 68 ≤ length bytes.now }
+    requires within { at ≤ last }
     ensures value { IfSome result (λ v. first_inside shape bytes.now at ≡ done true v) }
-    ensures within { IfSome result (λ v. (at < v) × (v < length bytes.now)) }
+    ensures within { IfSome result (λ v. (at < v) × (v ≤ last + 2)) }
 {
-    if bytes.len() - at < REACH {
-        return None;
-    }
-    let last = bytes.len() - REACH;
     match non_blank(bytes, at + 1, last) {
         Some(next) if shape.begins_part(bytes[next]) => fast_inside(bytes, next, shape, last),
         _ => None,
@@ -213,20 +171,17 @@ fn fast_next_inside(bytes: &[u8], from: usize, shape: ContainerKind, last: usize
 
 // `shape` is a constant where this is inlined.
 #[inline(always)]
-fn known_fast_run(bytes: &[u8], from: usize, shape: ContainerKind) -> (usize, bool)
-    requires { from ≤ length bytes.now }
+fn known_fast_run(bytes: &[u8], from: usize, shape: ContainerKind, last: usize) -> (usize, bool)
+    requires room { last + 68 ≤ length bytes.now }
+    requires within { from ≤ length bytes.now }
     ensures leads { LeadsAfter shape bytes.now from result.1 result.0 }
     ensures place { (from ≤ result.0) × (result.0 ≤ length bytes.now) }
 {
-    if bytes.len() < REACH {
-        return (from, false);
-    }
-    let last = bytes.len() - REACH;
     let mut end = from;
     'parts: while end <= last {
         match fast_next_inside(bytes, end, shape, last) {
             None => return (end, false),
-            Some(at) => match padded_value_end(bytes, at) {
+            Some(at) => match fast_value_end(bytes, at) {
                 None => return (at, true),
                 Some(after) => end = after,
             },
@@ -238,20 +193,26 @@ fn known_fast_run(bytes: &[u8], from: usize, shape: ContainerKind) -> (usize, bo
 /// Skips parts of a container as long as their values can be skipped at once. `from` is after a part. Returns the index
 /// of the first other value and `true`, or the index after the last part and `false`.
 #[inline(always)]
-pub fn fast_run(bytes: &[u8], from: usize, shape: ContainerKind) -> (usize, bool)
-    requires { from ≤ length bytes.now }
+pub(crate) fn fast_run(
+    bytes: &[u8],
+    from: usize,
+    shape: ContainerKind,
+    last: usize,
+) -> (usize, bool)
+    requires room { last + 68 ≤ length bytes.now }
+    requires within { from ≤ length bytes.now }
     ensures leads { LeadsAfter shape bytes.now from result.1 result.0 }
     ensures place { (from ≤ result.0) × (result.0 ≤ length bytes.now) }
 {
     match shape {
-        ContainerKind::Array => known_fast_run(bytes, from, ContainerKind::Array),
-        ContainerKind::Object => known_fast_run(bytes, from, ContainerKind::Object),
+        ContainerKind::Array => known_fast_run(bytes, from, ContainerKind::Array, last),
+        ContainerKind::Object => known_fast_run(bytes, from, ContainerKind::Object, last),
     }
 }
 
 /// Returns the index after the container's closing bracket, if it follows the part before `from`.
 #[inline(always)]
-pub fn fast_end(bytes: &[u8], from: usize, shape: ContainerKind) -> Option<usize>
+pub(crate) fn fast_end(bytes: &[u8], from: usize, shape: ContainerKind) -> Option<usize>
     requires { from ≤ length bytes.now }
     ensures value { IfSome result (λ e. next_inside shape bytes.now from ≡ done false e) }
     ensures within { IfSome result (λ e. (from < e) × (e ≤ length bytes.now)) }

@@ -15,13 +15,13 @@ ghost use Rattle.jiter_steps.specs.ReadError.{WhereRefused};
 ghost use Rattle.jiter_steps.specs.StringReading.{string_at, text_form};
 ghost use Rattle.jiter_steps.specs.StringDecoder.{text_view, WantsMemory};
 
-use crate::blank::past_blanks;
+use crate::fast::peek;
 use crate::read_error::ReadError;
 use crate::string_decoder::string_at;
 use jiter_scan::NumberAny;
 use jiter_scan::errors::{Fault, FaultKind};
 use jiter_scan::number_decoder::number_at;
-use jiter_scan::word::{byte_at, word_end};
+use jiter_scan::word::word_end;
 use std::alloc::Global;
 use std::borrow::CowStr;
 
@@ -179,8 +179,9 @@ impl<'j> Parser<'j> {
         ensures value { result ≡ slice_get self.old.bytes.now self.new.index }
         ensures inside { IfSome result (λ _. self.new.index < length self.old.bytes.now) }
     {
-        self.index = past_blanks(self.bytes, self.index);
-        byte_at(self.bytes, self.index)
+        let (at, byte) = peek(self.bytes, self.index);
+        self.index = at;
+        byte
     }
 
     /// Passes the opening bracket at the reader's position, and returns whether a part follows (RFC 8259, 4 and 5). The

@@ -19,20 +19,6 @@ use jiter_scan::errors::Fault;
 use jiter_scan::simd::string_stop;
 use jiter_scan::word::byte_at;
 
-// The position after the escape at which plain bytes end, or `None` where the string is over.
-#[inline(always)]
-fn escape_end(bytes: &[u8], at: usize) -> Option<usize>
-    requires within { at ≤ length bytes.now }
-    requires stop { IfSome (slice_get bytes.now at) (λ b. is_stop b ≡ true) }
-    ensures escape { IfSome result (λ e. (bs : List ℕ) × (part bs true e ≡ event_at bytes.now at)) }
-    ensures over { result ≡ None → (s : Stop) × (over s ≡ event_at bytes.now at) }
-{
-    match next_event(bytes, at) {
-        StringEvent::Escape(_, end) => Some(end),
-        StringEvent::End(_) => None,
-    }
-}
-
 // For a string with a backslash at `from`.
 #[inline(never)]
 fn escaped_end(bytes: &[u8], from: usize) -> usize
@@ -44,9 +30,9 @@ fn escaped_end(bytes: &[u8], from: usize) -> usize
 {
     let mut at = from;
     loop {
-        match escape_end(bytes, at) {
-            Some(end) => at = string_stop(bytes, end),
-            None => return at,
+        match next_event(bytes, at) {
+            StringEvent::Escape(_, end) => at = string_stop(bytes, end),
+            StringEvent::End(_) => return at,
         }
     }
 }

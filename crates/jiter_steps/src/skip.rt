@@ -7,11 +7,11 @@ ghost use Rattle.jiter_steps.specs.Literal.{start_of};
 ghost use Rattle.jiter_steps.specs.Node.{nesting_limit};
 ghost use Rattle.jiter_steps.specs.Parse.{Moves, Reads};
 ghost use Rattle.jiter_steps.specs.Read.{done, scalar_at, value_at};
-ghost use Rattle.jiter_steps.specs.Skip.{key_end, value_inside, first_inside, next_inside, frame_of, kind_of_container};
+ghost use Rattle.jiter_steps.specs.Skip.{key_end, value_inside, first_inside, next_inside, frame_of};
 ghost use Rattle.jiter_steps.specs.Skip.{open_frames, Continues};
 ghost use Rattle.jiter_steps.specs.Step.{opening};
 
-use crate::fast_skip::{fast_end, fast_first_inside, fast_run, fast_value_end};
+use crate::fast_skip::{REACH, fast_end, fast_first_inside, fast_run, fast_value_end};
 use crate::parse::{ContainerKind, NESTING_LIMIT, Parser, Start, start_of};
 use crate::raw_string::string_end;
 use jiter_scan::errors::{Fault, FaultKind};
@@ -20,78 +20,12 @@ use jiter_scan::number_extent::number_end;
 // How many open containers the table can hold: more than `NESTING_LIMIT`.
 const TABLE_SIZE: usize = 256;
 
-// The open containers, the outermost first: whether each is an object.
+// The kinds of the open containers, the outermost first.
 #[derive(Drop)]
 struct Nest {
-    objects: [bool; TABLE_SIZE],
+    kinds: [ContainerKind; TABLE_SIZE],
     depth: usize,
     ghost within: { depth ≤ nesting_limit },
-}
-
-#[inline(always)]
-fn kind_of_container(is_object: bool) -> ContainerKind
-    ensures { result ≡ kind_of_container is_object }
-{
-    if is_object {
-        ContainerKind::Object
-    } else {
-        ContainerKind::Array
-    }
-}
-
-#[inline(always)]
-fn is_object(shape: ContainerKind) -> bool
-    ensures { shape ≡ kind_of_container result }
-{
-    match shape {
-        ContainerKind::Array => false,
-        ContainerKind::Object => true,
-    }
-}
-
-// The reader is at the container's first value. That is also the index of the nesting limit's error.
-#[inline(always)]
-fn open(parser: &Parser<'_>, nest: &mut Nest, shape: ContainerKind) -> Result<bool, Fault>
-    requires { parser.now.index < length parser.now.bytes.now }
-    ensures { (names : Bool) → Continues names parser.now.bytes.now
-        (open_frames nest.new.objects nest.new.depth) result parser.now.index
-        (value_from (only_ends names) parser.now.bytes.now
-        (frame_of shape ∷ open_frames nest.old.objects nest.old.depth) parser.now.index) }
-{
-    if nest.depth == NESTING_LIMIT {
-        return Err(Fault {
-            kind: FaultKind::RecursionLimitExceeded,
-            index: parser.index,
-        });
-    }
-    nest.objects[nest.depth] = is_object(shape);
-    nest.depth += 1;
-    Ok(true)
-}
-
-#[inline(always)]
-fn number(parser: &mut Parser<'_>, allow_inf_nan: bool) -> Result<(), Fault>
-    requires { parser.old.index < length parser.old.bytes.now }
-    ensures moves { Moves parser.old parser.new }
-    ensures value { Reads (λ u. u) result parser.new.index (scalar_at parser.old.index
-        ((only_ends allow_inf_nan).number parser.old.bytes.now parser.old.index)) }
-    ensures ahead { OnOk result (parser.old.index < parser.new.index) }
-{
-    parser.index = number_end(parser.bytes, parser.index, allow_inf_nan)?;
-    Ok(())
-}
-
-// Skips the colon too, up to the value.
-#[inline(always)]
-fn key(parser: &mut Parser<'_>) -> Result<(), Fault>
-    requires { parser.old.index < length parser.old.bytes.now }
-    ensures moves { Moves parser.old parser.new }
-    ensures value { Reads (λ u. (u, u)) result parser.new.index
-        (key_end parser.old.bytes.now parser.old.index) }
-    ensures inside { OnOk result (parser.new.index < length parser.old.bytes.now) }
-{
-    parser.index = string_end(parser.bytes, parser.index)?;
-    parser.object_colon()
 }
 
 // In an object, the value is after a key and its colon.
@@ -107,7 +41,8 @@ fn value_inside(parser: &mut Parser<'_>, shape: ContainerKind) -> Result<bool, F
     match shape {
         ContainerKind::Array => Ok(true),
         ContainerKind::Object => {
-            key(parser)?;
+            parser.index = string_end(parser.bytes, parser.index)?;
+            parser.object_colon()?;
             Ok(true)
         }
     }
@@ -147,7 +82,7 @@ fn next_inside(parser: &mut Parser<'_>, shape: ContainerKind) -> Result<bool, Fa
     }
 }
 
-// Like `first_inside`, and adds the container to the table.
+// Like `first_inside`, and adds the container to the table. The nesting limit's error is at its first value.
 #[inline(always)]
 fn begin(parser: &mut Parser<'_>, nest: &mut Nest, shape: ContainerKind) -> Result<bool, Fault>
     requires within { parser.old.index < length parser.old.bytes.now }
@@ -155,13 +90,23 @@ fn begin(parser: &mut Parser<'_>, nest: &mut Nest, shape: ContainerKind) -> Resu
         ≡ opening shape }
     ensures moves { Moves parser.old parser.new }
     ensures value { (names : Bool) → Continues names parser.old.bytes.now
-        (open_frames nest.new.objects nest.new.depth) result parser.new.index
+        (open_frames nest.new.kinds nest.new.depth) result parser.new.index
         (value_from (only_ends names) parser.old.bytes.now
-        (open_frames nest.old.objects nest.old.depth) parser.old.index) }
+        (open_frames nest.old.kinds nest.old.depth) parser.old.index) }
     ensures ahead { OnOk result (parser.old.index < parser.new.index) }
 {
     match first_inside(parser, shape) {
-        Ok(true) => open(parser, nest, shape),
+        Ok(true) => {
+            if nest.depth == NESTING_LIMIT {
+                return Err(Fault {
+                    kind: FaultKind::RecursionLimitExceeded,
+                    index: parser.index,
+                });
+            }
+            nest.kinds[nest.depth] = shape;
+            nest.depth += 1;
+            Ok(true)
+        }
         Ok(false) => Ok(false),
         Err(fault) => Err(fault),
     }
@@ -179,7 +124,10 @@ fn skip_scalar(parser: &mut Parser<'_>, allow_inf_nan: bool) -> Result<(), Fault
 {
     match start_of(parser.bytes[parser.index]) {
         Start::Literal(literal) => parser.literal(literal),
-        Start::Number => number(parser, allow_inf_nan),
+        Start::Number => {
+            parser.index = number_end(parser.bytes, parser.index, allow_inf_nan)?;
+            Ok(())
+        }
         Start::String => {
             parser.index = string_end(parser.bytes, parser.index)?;
             Ok(())
@@ -199,9 +147,9 @@ fn begin_value(parser: &mut Parser<'_>, nest: &mut Nest, allow_inf_nan: bool) ->
     requires { parser.old.index < length parser.old.bytes.now }
     ensures moves { Moves parser.old parser.new }
     ensures value { Continues allow_inf_nan parser.old.bytes.now
-        (open_frames nest.new.objects nest.new.depth) result parser.new.index
+        (open_frames nest.new.kinds nest.new.depth) result parser.new.index
         (value_from (only_ends allow_inf_nan) parser.old.bytes.now
-        (open_frames nest.old.objects nest.old.depth) parser.old.index) }
+        (open_frames nest.old.kinds nest.old.depth) parser.old.index) }
     ensures ahead { OnOk result (parser.old.index < parser.new.index) }
 {
     match start_of(parser.bytes[parser.index]) {
@@ -219,8 +167,8 @@ fn begin_value(parser: &mut Parser<'_>, nest: &mut Nest, allow_inf_nan: bool) ->
 fn end_value(parser: &mut Parser<'_>, nest: &mut Nest) -> Result<bool, Fault>
     ensures moves { Moves parser.old parser.new }
     ensures value { (names : Bool) → Continues names parser.old.bytes.now
-        (open_frames nest.new.objects nest.new.depth) result parser.new.index (resume (only_ends names)
-        parser.old.bytes.now (open_frames nest.old.objects nest.old.depth)
+        (open_frames nest.new.kinds nest.new.depth) result parser.new.index (resume (only_ends names)
+        parser.old.bytes.now (open_frames nest.old.kinds nest.old.depth)
         (done tt parser.old.index)) }
     ensures all { IfOk result (λ more. more ≡ false → nest.new.depth ≡ 0) }
 {
@@ -228,7 +176,7 @@ fn end_value(parser: &mut Parser<'_>, nest: &mut Nest) -> Result<bool, Fault>
         if nest.depth == 0 {
             return Ok(false);
         }
-        match next_inside(parser, kind_of_container(nest.objects[nest.depth - 1])) {
+        match next_inside(parser, nest.kinds[nest.depth - 1]) {
             Ok(true) => return Ok(true),
             Ok(false) => nest.depth -= 1,
             Err(fault) => return Err(fault),
@@ -237,25 +185,30 @@ fn end_value(parser: &mut Parser<'_>, nest: &mut Nest) -> Result<bool, Fault>
 }
 
 // The fast path after a value. Returns the index that it reaches, how many containers are open there, and whether a
-// value begins there. If none does, one has ended there.
+// value begins there. If none does, one has ended there. Here and below, `last` is the last index with `REACH` bytes
+// left.
 #[inline(always)]
-fn fast_after(bytes: &[u8], from: usize, nest: &Nest, depth: usize) -> (usize, usize, bool)
+fn fast_after(
+    bytes: &[u8],
+    from: usize,
+    nest: &Nest,
+    depth: usize,
+    last: usize,
+) -> (usize, usize, bool)
+    requires room { last + 68 ≤ length bytes.now }
     requires within { from ≤ length bytes.now }
     requires few { depth ≤ nesting_limit }
-    ensures leads { (names : Bool) → Continues names bytes.now (open_frames nest.now.objects result.1)
+    ensures leads { (names : Bool) → Continues names bytes.now (open_frames nest.now.kinds result.1)
         (Ok result.2) result.0 (resume (only_ends names) bytes.now
-        (open_frames nest.now.objects depth) (done tt from)) }
+        (open_frames nest.now.kinds depth) (done tt from)) }
     ensures place { (from ≤ result.0) × (result.0 ≤ length bytes.now) }
     ensures few { result.1 ≤ nesting_limit }
 {
     let mut end = from;
     let mut open = depth;
-    'closing: loop {
-        if open == 0 {
-            return (end, open, false);
-        }
-        let shape = kind_of_container(nest.objects[open - 1]);
-        let (place, more) = fast_run(bytes, end, shape);
+    'closing: while open > 0 {
+        let shape = nest.kinds[open - 1];
+        let (place, more) = fast_run(bytes, end, shape, last);
         if more {
             return (place, open, true);
         }
@@ -265,29 +218,31 @@ fn fast_after(bytes: &[u8], from: usize, nest: &Nest, depth: usize) -> (usize, u
         }
         open -= 1;
     }
+    (end, open, false)
 }
 
 // The fast path into a container. Returns the index of the first value inside.
 #[inline(always)]
-fn fast_open(bytes: &[u8], at: usize, nest: &mut Nest, depth: usize) -> Option<usize>
-    requires within { at < length bytes.now }
+fn fast_open(bytes: &[u8], at: usize, nest: &mut Nest, depth: usize, last: usize) -> Option<usize>
+    requires room { last + 68 ≤ length bytes.now }
+    requires within { at ≤ last }
     requires few { depth ≤ nesting_limit }
     ensures leads { IfSome result (λ next. (names : Bool)
-        → value_from (only_ends names) bytes.now (open_frames nest.old.objects depth) at
-        ≡ value_from (only_ends names) bytes.now (open_frames nest.new.objects (depth + 1)) next) }
+        → value_from (only_ends names) bytes.now (open_frames nest.old.kinds depth) at
+        ≡ value_from (only_ends names) bytes.now (open_frames nest.new.kinds (depth + 1)) next) }
     ensures within { IfSome result (λ next. (at < next) × (next < length bytes.now)) }
     ensures few { IfSome result (λ next. depth < nesting_limit) }
     ensures same { result ≡ None → nest.new ≡ nest.old }
 {
     match bytes[at] {
         b'[' if depth < NESTING_LIMIT => {
-            let next = fast_first_inside(bytes, at, ContainerKind::Array)?;
-            nest.objects[depth] = false;
+            let next = fast_first_inside(bytes, at, ContainerKind::Array, last)?;
+            nest.kinds[depth] = ContainerKind::Array;
             Some(next)
         }
         b'{' if depth < NESTING_LIMIT => {
-            let next = fast_first_inside(bytes, at, ContainerKind::Object)?;
-            nest.objects[depth] = true;
+            let next = fast_first_inside(bytes, at, ContainerKind::Object, last)?;
+            nest.kinds[depth] = ContainerKind::Object;
             Some(next)
         }
         _ => None,
@@ -299,35 +254,36 @@ fn fast_open(bytes: &[u8], at: usize, nest: &mut Nest, depth: usize) -> Option<u
 fn fast_turns(bytes: &[u8], from: usize, nest: &mut Nest) -> (usize, bool)
     requires { from < length bytes.now }
     ensures leads { (names : Bool) → Continues names bytes.now
-        (open_frames nest.new.objects nest.new.depth) (Ok result.1) result.0 (value_from (only_ends names)
-        bytes.now (open_frames nest.old.objects nest.old.depth) from) }
+        (open_frames nest.new.kinds nest.new.depth) (Ok result.1) result.0 (value_from (only_ends names)
+        bytes.now (open_frames nest.old.kinds nest.old.depth) from) }
     ensures place { (from ≤ result.0) × (result.0 ≤ length bytes.now) }
     ensures ahead { result.1 ≡ false → from < result.0 }
 {
+    if bytes.len() < REACH {
+        return (from, true);
+    }
+    let last = bytes.len() - REACH;
     let mut at = from;
     let mut depth = nest.depth;
-    'turns: loop {
-        if let Some(next) = fast_open(bytes, at, nest, depth) {
+    'turns: while at <= last {
+        if let Some(next) = fast_open(bytes, at, nest, depth, last) {
             at = next;
             depth += 1;
             continue 'turns;
         }
-        match fast_value_end(bytes, at) {
-            Some(end) => {
-                let (next, open, more) = fast_after(bytes, end, nest, depth);
-                if !more {
-                    nest.depth = open;
-                    return (next, false);
-                }
-                at = next;
-                depth = open;
-            }
-            None => {
-                nest.depth = depth;
-                return (at, true);
-            }
+        let Some(end) = fast_value_end(bytes, at) else {
+            break 'turns;
+        };
+        let (next, open, more) = fast_after(bytes, end, nest, depth, last);
+        depth = open;
+        if !more {
+            nest.depth = depth;
+            return (next, false);
         }
+        at = next;
     }
+    nest.depth = depth;
+    (at, true)
 }
 
 // Where the fast path stops, the slow path makes one step.
@@ -339,7 +295,7 @@ fn skip_container(parser: &mut Parser<'_>, allow_inf_nan: bool) -> Result<(), Fa
     ensures ahead { OnOk result (parser.old.index < parser.new.index) }
 {
     let mut nest = Nest {
-        objects: [false; TABLE_SIZE],
+        kinds: [ContainerKind::Array; TABLE_SIZE],
         depth: 0,
     };
     'skipping: loop {

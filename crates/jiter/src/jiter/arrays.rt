@@ -12,7 +12,7 @@ use crate::errors::{JiterResult, JsonType};
 use crate::jiter::{Jiter, refusal};
 use crate::peek::Peek;
 use jiter_scan::errors::Fault;
-use jiter_steps::fast::{Next, fast_first, fast_step, peek};
+use jiter_steps::fast::{Next, fast_first, known_fast_step, peek_for};
 use jiter_steps::parse::{ContainerKind, Start};
 
 impl<'j> Jiter<'j> {
@@ -114,7 +114,7 @@ impl<'j> Jiter<'j> {
             result self.old self.new }
         ensures here { TellsHere result self.new }
     {
-        if let (at, Some(b'[')) = peek(self.parser.bytes, self.parser.index) {
+        if let (at, Some(b'[')) = peek_for(self.parser.bytes, self.parser.index, b'[') {
             let (at, next) = fast_first(self.parser.bytes, at + 1, ContainerKind::Array);
             if let Some(told) = self.fast_item(at, next) {
                 return Ok(told);
@@ -180,7 +180,11 @@ impl<'j> Jiter<'j> {
         ensures reads { Reads never (option_map byte_of) (item_step self.old) result self.old self.new }
         ensures here { TellsHere result self.new }
     {
-        let (at, next) = fast_step(self.parser.bytes, self.parser.index, ContainerKind::Array);
+        let (at, next) = known_fast_step(
+            self.parser.bytes,
+            self.parser.index,
+            ContainerKind::Array,
+        );
         match self.fast_item(at, next) {
             Some(told) => Ok(told),
             None => self.slow_step(),

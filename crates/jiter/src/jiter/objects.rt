@@ -20,7 +20,7 @@ use crate::errors::{JiterResult, JsonType};
 use crate::jiter::texts::fast_text;
 use crate::jiter::{Jiter, refusal};
 use jiter_scan::errors::Fault;
-use jiter_steps::fast::{Next, fast_first, fast_step, peek};
+use jiter_steps::fast::{Next, fast_first, known_fast_step, peek_for};
 use jiter_steps::parse::{ContainerKind, Start};
 use std::alloc::Global;
 use std::borrow::CowStr;
@@ -78,7 +78,7 @@ impl<'j> Jiter<'j> {
                 let Ok(key) = fast_text(self.parser.bytes, at) else {
                     return None;
                 };
-                match peek(self.parser.bytes, at + key.len() + 2) {
+                match peek_for(self.parser.bytes, at + key.len() + 2, b':') {
                     (colon, Some(b':')) => {
                         self.parser.index = colon + 1;
                         Some(Some(key))
@@ -104,7 +104,7 @@ impl<'j> Jiter<'j> {
             (λ key. IfSome key (λ _. StandsBefore self.old.text self.new.position ascii.colon)) }
         ensures same { result ≡ None → self.new ≡ self.old }
     {
-        match peek(self.parser.bytes, self.parser.index) {
+        match peek_for(self.parser.bytes, self.parser.index, b'{') {
             (at, Some(b'{')) => {
                 let (at, next) = fast_first(self.parser.bytes, at + 1, ContainerKind::Object);
                 self.fast_key(at, next)
@@ -344,7 +344,11 @@ impl<'j> Jiter<'j> {
         ensures* after { sem 𝓛 (LeavesReader (next_key_memory self.old) (option_map (λ x. x.now))
             (reply_seen key_bytes (key_step whole self.old)) result self.entry) }
     {
-        let (at, next) = fast_step(self.parser.bytes, self.parser.index, ContainerKind::Object);
+        let (at, next) = known_fast_step(
+            self.parser.bytes,
+            self.parser.index,
+            ContainerKind::Object,
+        );
         if let Some(key) = self.fast_key(at, next) {
             return Ok(key);
         }

@@ -5,7 +5,7 @@ ghost use Rattle.jiter_scan.specs.NumberDecoder.{number_view, int_view};
 ghost use Rattle.jiter_scan.specs.NumberReading.{number_at, int_at};
 ghost use Rattle.jiter_scan.specs.Scanned.{taken};
 ghost use Rattle.jiter_steps.specs.Literal.{literal_at};
-ghost use Rattle.jiter.specs.Reader.{next, known, scalar_reply, integer_reply, null_read, bool_read, number_read};
+ghost use Rattle.jiter.specs.Reader.{next, known, scalar_reply, null_read, bool_read, number_read};
 ghost use Rattle.jiter.specs.Reader.{int_read, number_bytes_read};
 ghost use Rattle.jiter.specs.Jiter.{MovesOn, StandsAt, byte_of};
 ghost use Rattle.jiter.specs.Reads.{Reads, never};
@@ -16,7 +16,7 @@ use crate::peek::Peek;
 use jiter_scan::number_decoder::{Integer, int_at};
 use jiter_scan::number_extent::fast_number_end;
 use jiter_scan::{NumberAny, NumberInt};
-use jiter_steps::fast::{fast_literal_end, peek};
+use jiter_steps::fast::{fast_literal_end, peek, peek_for};
 use jiter_steps::parse::{Literal, Start, start_of};
 
 impl<'j> Jiter<'j> {
@@ -89,7 +89,7 @@ impl<'j> Jiter<'j> {
     pub fn next_null(&mut self) -> JiterResult<()>
         ensures reads { Reads never (λ u. u) (next self.old (null_read self.old)) result self.old self.new }
     {
-        match peek(self.parser.bytes, self.parser.index) {
+        match peek_for(self.parser.bytes, self.parser.index, b'n') {
             (at, Some(b'n')) if self.fast_literal(at, Literal::Null) => Ok(()),
             _ => self.slow_null(),
         }
@@ -150,7 +150,7 @@ impl<'j> Jiter<'j> {
     pub fn next_bool(&mut self) -> JiterResult<bool>
         ensures reads { Reads never (λ b. b) (next self.old (bool_read self.old)) result self.old self.new }
     {
-        match peek(self.parser.bytes, self.parser.index) {
+        match peek_for(self.parser.bytes, self.parser.index, b't') {
             (at, Some(b't')) if self.fast_literal(at, Literal::True) => Ok(true),
             (at, Some(b'f')) if self.fast_literal(at, Literal::False) => Ok(false),
             _ => self.slow_bool(),
@@ -220,25 +220,6 @@ impl<'j> Jiter<'j> {
         }
     }
 
-    fn integer(&mut self) -> JiterResult<NumberInt<'j>>
-        requires within { self.old.position < length self.old.text }
-        ensures reads { Reads never int_view
-            (integer_reply self.old.position (int_at self.old.text self.old.position))
-            result self.old self.new }
-    {
-        let index = self.parser.index;
-        match int_at(self.parser.bytes, index) {
-            Ok((Integer::Whole(number), end)) => {
-                self.parser.index = end;
-                Ok(number)
-            }
-            Ok((Integer::FloatSeen, _)) => {
-                Err(wrong_type(JsonType::Int, JsonType::Float, index))
-            }
-            Err(fault) => Err(refusal(fault)),
-        }
-    }
-
     /// Reads an integer (RFC 8259, 6).
     ///
     /// An integer beyond `i64` is returned as its source text, borrowed from the document.
@@ -275,9 +256,19 @@ impl<'j> Jiter<'j> {
         requires { StandsAt self.old (byte_of peek) }
         ensures reads { Reads never int_view (known self.old (int_read self.old)) result self.old self.new }
     {
+        let index = self.parser.index;
         let start = start_of(peek.into_inner());
         match start {
-            Start::Number => self.integer(),
+            Start::Number => match int_at(self.parser.bytes, index) {
+                Ok((Integer::Whole(number), end)) => {
+                    self.parser.index = end;
+                    Ok(number)
+                }
+                Ok((Integer::FloatSeen, _)) => {
+                    Err(wrong_type(JsonType::Int, JsonType::Float, index))
+                }
+                Err(fault) => Err(refusal(fault)),
+            },
             _ => Err(self.refused_as(JsonType::Int, start)),
         }
     }

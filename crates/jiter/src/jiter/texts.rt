@@ -17,7 +17,7 @@ use crate::errors::{JiterResult, JsonType};
 use crate::jiter::{Jiter, refusal, refusal_at};
 use jiter_scan::simd::scan_string;
 use jiter_scan::text::utf8_text;
-use jiter_steps::fast::{ascii_between, peek, text_between};
+use jiter_steps::fast::{ascii_between, peek_for, text_between};
 use jiter_steps::parse::Start;
 use jiter_steps::string_decoder::decode_to;
 use std::alloc::Global;
@@ -161,7 +161,7 @@ impl<'j> Jiter<'j> {
         ensures* after { sem 𝓛 (LeavesReader (string_memory self.old.text (value_place self.old)) (λ x. x.now)
             (reply_seen text_bytes (next self.old (str_read self.old))) result self.entry) }
     {
-        if let (at, Some(b'"')) = peek(self.parser.bytes, self.parser.index) {
+        if let (at, Some(b'"')) = peek_for(self.parser.bytes, self.parser.index, b'"') {
             match fast_text(self.parser.bytes, at) {
                 Ok(text) => {
                     self.parser.index = at + text.len() + 2;

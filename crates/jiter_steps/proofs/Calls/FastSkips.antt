@@ -11,7 +11,7 @@ use Rattle.jiter_steps.specs.Blank.{is_blank, past_blanks}
 use Rattle.jiter_steps.specs.Frames.{Frame, resume, value_from}
 use Rattle.jiter_steps.specs.Literal.{start_of, literal_at}
 use Rattle.jiter_steps.specs.Read.{Reading, done, follow, inside_at, scalar_at, value_with}
-use Rattle.jiter_steps.specs.Skip.{value_inside, first_inside, next_inside, frame_of, kind_of_container, open_frames, Continues}
+use Rattle.jiter_steps.specs.Skip.{value_inside, first_inside, next_inside, frame_of, open_frames, Continues}
 use Rattle.jiter_steps.specs.Skip.{inside, IsPlainEnd, LeadsAfter}
 use Rattle.jiter_steps.specs.Step.{opening, more, closed, step, begins_part, closer_of, container_first, container_step}
 use Rattle.jiter_steps.specs.Step.{container_comma, colon, value_first, object_colon}
@@ -24,7 +24,7 @@ use Rattle.jiter_scan.proofs.Runs.{run_end-stopping, run_end-stops}
 use Rattle.jiter_steps.proofs.Calls.RawStrings.{raw-closed, raw-over_run}
 use Rattle.jiter_steps.proofs.Calls.Resumed.{value_in-levels}
 use Rattle.jiter_steps.proofs.Calls.Skipping.{led_on, next_inside-is, first_inside-is, open_frames-opens}
-use Rattle.jiter_steps.proofs.Calls.Skipping.{length-open_frames, number_at-end, open_frames-innermost}
+use Rattle.jiter_steps.proofs.Calls.Skipping.{length-open_frames, number-value, open_frames-innermost}
 use Rattle.jiter_steps.proofs.Grammar.Blanks.{past_blanks-above, past_blanks-blank}
 use Rattle.jiter_steps.proofs.Grammar.Places.{got}
 
@@ -44,11 +44,6 @@ module _ (names : Bool) (t : List ℕ) where
       → Continues names t fs (Ok m) j x → Continues names t fs (Ok k) j x
   continues-told fs m k j x same h = subst (λ n. Continues names t fs (Ok n) j x) same h
 
-  -- what is led to from j is led to from i, where both go on alike
-  pub leads-from : (fs : Frames) (m : Bool) (k : ℕ) (x y : Reading (Unit {0})) → x ≡ y
-      → Continues names t fs (Ok m) k y → Continues names t fs (Ok m) k x
-  leads-from fs m k x y same h = subst (λ z. Continues names t fs (Ok m) k z) (sym same) h
-
   -- after a part: the value of the next one, and the container's end
   pub plain-next : (b : ContainerKind) (fs : Frames) (i v : ℕ) → i ≤ length t → next_inside b t i ≡ done true v
       → resume (only_ends names) t (frame_of b ∷ fs) (done tt i) ≡ value_from (only_ends names) t (frame_of b ∷ fs) v
@@ -59,35 +54,37 @@ module _ (names : Bool) (t : List ℕ) where
   plain-ends b fs i e within is = next_inside-is names t b fs i within ∙ ap (led_on names t b fs) is
 
   -- Inside the innermost of some open containers: what a run of parts leads to, and the container's end.
-  module _ (b : ContainerKind) (objects : List Bool) (d : ℕ) (few : d ≤ 200) (some : 0 < d)
-      (is : b ≡ kind_of_container (slice_index_or objects (d - 1) false)) where
-    innermost : open_frames objects d ≡ frame_of b ∷ open_frames objects (d - 1)
-    innermost = open_frames-innermost objects d b some is
+  module _ (kinds : List ContainerKind) (d : ℕ) (few : d ≤ 200) (some : 0 < d) where
+    abbrev b : ContainerKind
+    b = slice_index_or kinds (d - 1) shape.Array
+
+    innermost : open_frames kinds d ≡ frame_of b ∷ open_frames kinds (d - 1)
+    innermost = open_frames-innermost kinds d some
 
     pub run-leads : (i j : ℕ) (awaited m : Bool) → awaited ≡ m → LeadsAfter b t i awaited j
-        → Continues names t (open_frames objects d) (Ok m) j
-        (resume (only_ends names) t (open_frames objects d) (done tt i))
+        → Continues names t (open_frames kinds d) (Ok m) j
+        (resume (only_ends names) t (open_frames kinds d) (done tt i))
     run-leads i j awaited m same leads =
-        let fs = open_frames objects (d - 1) in
-        let below : length fs < 200 = omega (arith, length-open_frames objects (d - 1)) in
+        let fs = open_frames kinds (d - 1) in
+        let below : length fs < 200 = omega (arith, length-open_frames kinds (d - 1)) in
         subst (λ gs. Continues names t gs (Ok m) j (resume (only_ends names) t gs (done tt i))) (sym innermost)
         (continues-told (frame_of b ∷ fs) awaited m j _ same (leads names fs below))
 
     pub end-leads : (i e : ℕ) → i ≤ length t → next_inside b t i ≡ done false e
-        → resume (only_ends names) t (open_frames objects d) (done tt i)
-        ≡ resume (only_ends names) t (open_frames objects (d - 1)) (done tt e)
+        → resume (only_ends names) t (open_frames kinds d) (done tt i)
+        ≡ resume (only_ends names) t (open_frames kinds (d - 1)) (done tt e)
     end-leads i e within ends =
         ap (λ gs. resume (only_ends names) t gs (done tt i)) innermost
-        ∙ plain-ends b (open_frames objects (d - 1)) i e within ends
+        ∙ plain-ends b (open_frames kinds (d - 1)) i e within ends
 
   -- the first value inside a container
-  pub plain-opens : (b : Bool) (objects : List Bool) (d i v : ℕ) → d ≤ 200 → d < length objects → i < length t
-      → start_of (slice_index t i) ≡ opening (kind_of_container b) → first_inside (kind_of_container b) t i ≡ done true v
-      → value_from (only_ends names) t (open_frames objects d) i
-      ≡ value_from (only_ends names) t (open_frames (slice_set objects d b) (d + 1)) v
-  plain-opens b objects d i v few place lt opens is =
-      first_inside-is names t (kind_of_container b) objects d i _ few lt opens is
-      ∙ ap (λ fs. value_from (only_ends names) t fs v) (sym (open_frames-opens objects d b place))
+  pub plain-opens : (b : ContainerKind) (kinds : List ContainerKind) (d i v : ℕ) → d ≤ 200 → d < length kinds → i < length t
+      → start_of (slice_index t i) ≡ opening b → first_inside b t i ≡ done true v
+      → value_from (only_ends names) t (open_frames kinds d) i
+      ≡ value_from (only_ends names) t (open_frames (slice_set kinds d b) (d + 1)) v
+  plain-opens b kinds d i v few place lt opens is =
+      first_inside-is names t b kinds d i _ few lt opens is
+      ∙ ap (λ fs. value_from (only_ends names) t fs v) (sym (open_frames-opens kinds d b place))
 
 -- The steps, by the bytes that stand there.
 module _ (t : List ℕ) (b : ContainerKind) where
@@ -178,9 +175,7 @@ module _ (t : List ℕ) (i : ℕ) where
 
   pub number-ends : (e : ℕ) → start_of (slice_index t i) ≡ start.Number
       → ((names : Bool) → number_extent names t i ≡ taken tt e) → IsPlainEnd t i e
-  number-ends e begins is = λ names levels.
-      ap (value_with (only_ends names) (λ j. inside_at (only_ends names) t levels j) t i) begins
-      ∙ ap (scalar_at i) (number_at-end names t i ∙ is names)
+  number-ends e begins is = λ names levels. number-value names t levels i begins ∙ ap (scalar_at i) (is names)
 
   pub literal-ends : (l : Literal) (e : ℕ) → start_of (slice_index t i) ≡ start.Literal l
       → literal_at t l i ≡ taken tt e → IsPlainEnd t i e

@@ -15,9 +15,10 @@ use Rattle.jiter_steps.specs.declared.parse.ContainerKind.{ContainerKind}
 use Rattle.jiter_steps.specs.StringReading.{raw, string_at}
 use Rattle.jiter_steps.specs.declared.parse.ContainerKind.TheVariants as shape
 use Rattle.jiter_steps.specs.Read.{Reading, done, fault, Container, with_key, after_colon, after_key, follow}
-use Rattle.jiter_steps.specs.Read.{after_part, parts_at, value_at}
+use Rattle.jiter_steps.specs.Read.{after_part, inside_at, parts_at, scalar_at, value_at, value_with}
+use Rattle.jiter_steps.specs.declared.parse.Start.TheVariants as start
 use Rattle.jiter_steps.specs.Frames.{Frame, resolve_step, parts_from, parts_step, value_in, resume, value_from}
-use Rattle.jiter_steps.specs.Skip.{awaits_value, value_inside, inside, first_inside, next_inside, frame_of, kind_of_container}
+use Rattle.jiter_steps.specs.Skip.{awaits_value, value_inside, inside, first_inside, next_inside, frame_of}
 use Rattle.jiter_steps.specs.Skip.{open_frames, Continues}
 use Rattle.jiter_steps.proofs.Reading.Bounds.{Ahead, container_first-ahead, container_step-ahead}
 use Rattle.jiter_steps.proofs.Reading.Instances.{only_ends-advances}
@@ -36,30 +37,37 @@ pub number_at-end : (names : Bool) (t : List ℕ) (i : ℕ)
 unfolding number_at
 number_at-end names t i = extent-again t i (number_extent names t i)
 
+-- where a number begins, its end or its fault is all that is read
+pub number-value : (names : Bool) (t : List ℕ) (levels i : ℕ) → start_of (slice_index t i) ≡ start.Number
+    → value_at (only_ends names) t levels i ≡ scalar_at i (number_extent names t i)
+number-value names t levels i begins =
+    ap (value_with (only_ends names) (λ j. inside_at (only_ends names) t levels j) t i) begins
+    ∙ ap (scalar_at i) (number_at-end names t i)
+
 abbrev Frames : Type 0
 Frames = List (Frame (Unit {0}) (Unit {0}))
 
 -- ---- the table
-pub length-open_frames : (objects : List Bool) (n : ℕ) → length (open_frames objects n) ≡ n
-length-open_frames objects zero = refl
-length-open_frames objects (suc n) = ap suc (length-open_frames objects n)
+pub length-open_frames : (kinds : List ContainerKind) (n : ℕ) → length (open_frames kinds n) ≡ n
+length-open_frames kinds zero = refl
+length-open_frames kinds (suc n) = ap suc (length-open_frames kinds n)
 
 -- a place at or above the depth says nothing
-open_frames-set : (objects : List Bool) (d n : ℕ) (o : Bool) → n ≤ d
-    → open_frames (slice_set objects d o) n ≡ open_frames objects n
-open_frames-set objects d zero o h = refl
-open_frames-set objects d (suc n) o h =
+open_frames-set : (kinds : List ContainerKind) (d n : ℕ) (o : ContainerKind) → n ≤ d
+    → open_frames (slice_set kinds d o) n ≡ open_frames kinds n
+open_frames-set kinds d zero o h = refl
+open_frames-set kinds d (suc n) o h =
     let other : n ≢ d = omega arith in
-    ap₂ (λ x fs. frame_of (kind_of_container x) ∷ fs) (get_or-set_other objects d n o false other)
-    (open_frames-set objects d n o (omega arith))
+    ap₂ (λ x fs. frame_of x ∷ fs) (get_or-set_other kinds d n o shape.Array other)
+    (open_frames-set kinds d n o (omega arith))
 
-pub open_frames-opens : (objects : List Bool) (d : ℕ) (o : Bool) → d < length objects
-    → open_frames (slice_set objects d o) (d + 1) ≡ frame_of (kind_of_container o) ∷ open_frames objects d
-open_frames-opens objects d o h =
+pub open_frames-opens : (kinds : List ContainerKind) (d : ℕ) (o : ContainerKind) → d < length kinds
+    → open_frames (slice_set kinds d o) (d + 1) ≡ frame_of o ∷ open_frames kinds d
+open_frames-opens kinds d o h =
     let e : d + 1 ≡ suc d = omega arith in
-    ap (open_frames (slice_set objects d o)) e
-    ∙ ap₂ (λ x fs. frame_of (kind_of_container x) ∷ fs) (get_or-set_same objects d o false h)
-    (open_frames-set objects d d o (omega arith))
+    ap (open_frames (slice_set kinds d o)) e
+    ∙ ap₂ (λ x fs. frame_of x ∷ fs) (get_or-set_same kinds d o shape.Array h)
+    (open_frames-set kinds d d o (omega arith))
 
 -- nothing is forgiven
 step-kept : (s : Step) → resolve_step nothing_forgiven s ≡ s
@@ -178,23 +186,23 @@ module _ (names : Bool) (t : List ℕ) where
       (container_step-ahead t shape.Object e h)
 
   -- At a container's bracket: the first value inside, or the container's end.
-  pub first_inside-is : (b : ContainerKind) (objects : List Bool) (d i : ℕ) (x : Reading Bool) → d ≤ 200 → i < length t
+  pub first_inside-is : (b : ContainerKind) (kinds : List ContainerKind) (d i : ℕ) (x : Reading Bool) → d ≤ 200 → i < length t
       → start_of (slice_index t i) ≡ opening b → first_inside b t i ≡ x
-      → value_from (only_ends names) t (open_frames objects d) i ≡ led_on b (open_frames objects d) x
-  first_inside-is b objects d i x few h opens is =
-      let fs = open_frames objects d in
+      → value_from (only_ends names) t (open_frames kinds d) i ≡ led_on b (open_frames kinds d) x
+  first_inside-is b kinds d i x few h opens is =
+      let fs = open_frames kinds d in
       let s = step t (container_first b) (i + 1) in
-      let few : length fs ≤ 200 = omega (arith, length-open_frames objects d) in
+      let few : length fs ≤ 200 = omega (arith, length-open_frames kinds d) in
       container-begins (only_ends names) t good any fs i s few b opens (step-kept s)
       ∙ parts-led b fs [] (i + 1) s (container_first-ahead t b (i + 1) (omega arith)) ∙ ap (led_on b fs) is
 
   -- a scalar's end, or its fault
-  pub value_from-is : (objects : List Bool) (d i : ℕ) (x : Reading (Unit {0})) → d ≤ 200
+  pub value_from-is : (kinds : List ContainerKind) (d i : ℕ) (x : Reading (Unit {0})) → d ≤ 200
       → ((levels : ℕ) → value_at (only_ends names) t levels i ≡ x)
-      → value_from (only_ends names) t (open_frames objects d) i ≡ resumed (open_frames objects d) x
-  value_from-is objects d i x few is =
-      let fs = open_frames objects d in
-      let levels = value_in-levels (only_ends names) t (length fs) i (omega (arith, length-open_frames objects d)) in
+      → value_from (only_ends names) t (open_frames kinds d) i ≡ resumed (open_frames kinds d) x
+  value_from-is kinds d i x few is =
+      let fs = open_frames kinds d in
+      let levels = value_in-levels (only_ends names) t (length fs) i (omega (arith, length-open_frames kinds d)) in
       ap (resumed fs) (levels ∙ is (200 - length fs))
 
   pub value_from-limit : (f : Frame (Unit {0}) (Unit {0})) (fs : Frames) (i : ℕ) → length fs ≡ 200
@@ -211,15 +219,16 @@ module _ (names : Bool) (t : List ℕ) where
   continues-along fs result i x y q h = q ∙ h
 
 -- the innermost one of some, and what it leads to after a value
-pub open_frames-innermost : (objects : List Bool) (d : ℕ) (b : ContainerKind) → 0 < d
-    → b ≡ kind_of_container (slice_index_or objects (d - 1) false)
-    → open_frames objects d ≡ frame_of b ∷ open_frames objects (d - 1)
-open_frames-innermost objects d b h is =
+pub open_frames-innermost : (kinds : List ContainerKind) (d : ℕ) → 0 < d
+    → open_frames kinds d ≡ frame_of (slice_index_or kinds (d - 1) shape.Array) ∷ open_frames kinds (d - 1)
+open_frames-innermost kinds d h =
     let e : d ≡ suc (d - 1) = omega arith in
-    ap (open_frames objects) e ∙ ap (λ x. frame_of x ∷ open_frames objects (d - 1)) (sym is)
+    ap (open_frames kinds) e
 
-pub innermost-led : (names : Bool) (t u : List ℕ) (objects : List Bool) (d : ℕ) (b : ContainerKind) (e : ℕ) (x : Reading Bool)
-    → open_frames objects d ≡ frame_of b ∷ open_frames objects (d - 1) → u ≡ t → e ≤ length u → next_inside b u e ≡ x
-    → resume (only_ends names) t (open_frames objects d) (done tt e) ≡ led_on names t b (open_frames objects (d - 1)) x
-innermost-led names t u objects d b e x inner same within at =
-    rw (inner, ← same, ← at) (next_inside-is names u b (open_frames objects (d - 1)) e within)
+pub innermost-led : (names : Bool) (t u : List ℕ) (kinds : List ContainerKind) (d e : ℕ) (x : Reading Bool) → 0 < d → u ≡ t
+    → e ≤ length u → next_inside (slice_index_or kinds (d - 1) shape.Array) u e ≡ x
+    → resume (only_ends names) t (open_frames kinds d) (done tt e)
+    ≡ led_on names t (slice_index_or kinds (d - 1) shape.Array) (open_frames kinds (d - 1)) x
+innermost-led names t u kinds d e x some same within at =
+    rw (open_frames-innermost kinds d some, ← same, ← at)
+    (next_inside-is names u (slice_index_or kinds (d - 1) shape.Array) (open_frames kinds (d - 1)) e within)

@@ -4,7 +4,7 @@ use Rattle.jiter_steps.proofs.Calls.FastSkips.{plain-next, plain-passed}
 use Rattle.jiter_steps.proofs.fast_skip.known_fast_run.Goals as goal
 
 pub parts-init : goal.parts-init
-parts-init c = record { place = (omega arith, c.requires); same = λ names fs few. refl }
+parts-init c = record { place = (omega arith, c.requires.within); same = λ names fs few. refl }
 
 pub parts-preserved : goal.parts-preserved
 parts-preserved c =
@@ -12,9 +12,9 @@ parts-preserved c =
     let t = c.args.bytes.now in
     let b = c.args.shape in
     let at = c.in-Some.at in
-    let e = c.in-Some-padded_value_end.after in
+    let e = c.in-Some-fast_value_end.after in
     let next = c.in-Some.ensures in
-    let plain = c.in-Some-padded_value_end.ensures in
+    let plain = c.in-Some-fast_value_end.ensures in
     record {
       place = (omega arith, plain.within.1);
       same = λ names fs few. l.invariant.same names fs few
@@ -25,8 +25,8 @@ parts-preserved c =
 pub returns-in-None-clause-leads : goal.returns-in-None-clause-leads
 returns-in-None-clause-leads c = λ names fs few. c.parts.invariant.same names fs few
 
-pub returns-in-None-padded_value_end-clause-leads : goal.returns-in-None-padded_value_end-clause-leads
-returns-in-None-padded_value_end-clause-leads c = λ names fs few.
+pub returns-in-None-fast_value_end-clause-leads : goal.returns-in-None-fast_value_end-clause-leads
+returns-in-None-fast_value_end-clause-leads c = λ names fs few.
     let l = c.parts in
     let at = c.in-Some.at in (
       l.invariant.same names fs few

@@ -1,31 +1,39 @@
-use Rattle.std.proofs.Common.{◌∷◌, ◌∙◌, ap, subst, arith}
+use Rattle.std.proofs.Common.{◌∙◌, ap, sym, arith}
 use Rattle.jiter_steps.specs.Answer.{only_ends}
 use Rattle.jiter_steps.specs.Frames.{value_from}
 use Rattle.jiter_steps.specs.Read.{done}
-use Rattle.jiter_steps.specs.Skip.{frame_of, open_frames, Continues}
-use Rattle.jiter_steps.proofs.Calls.Skipping.{first_inside-is, continues-along}
+use Rattle.jiter_steps.specs.Skip.{frame_of, open_frames}
+use Rattle.jiter_steps.proofs.Calls.Skipping.{first_inside-is, value_from-limit, length-open_frames, open_frames-opens}
 use Rattle.jiter_steps.proofs.skip.begin.Goals as goal
 
-pub returns-in-Ok-true-clause-value : goal.returns-in-Ok-true-clause-value
-returns-in-Ok-true-clause-value c = λ names.
+pub returns-then-nest-eq-NESTING_LIMIT-clause-value : goal.returns-then-nest-eq-NESTING_LIMIT-clause-value
+returns-then-nest-eq-NESTING_LIMIT-clause-value c = λ names.
     let p = c.args.parser.now in
-    let t = p.bytes.now in
     let n = c.args.nest.now in
-    let b = c.args.shape in
-    let fs = open_frames n.objects n.depth in
-    let gs = open_frames c.open.new.nest.objects c.open.new.nest.depth in
     let m = c.first_inside.new.parser.index in
-    continues-along names t gs c.open.result m _ _
-    (first_inside-is names t b n.objects n.depth p.index _ (omega arith) c.requires.within c.requires.bracket
-    (c.in-Ok-true.ensures.value ∙ ap (λ more. done more m) c.in-Ok-true.field-0-test))
-    (subst (λ u. Continues names u gs c.open.result m (value_from (only_ends names) u (frame_of b ∷ fs) m))
-    (ap (λ bytes. bytes.now) c.first_inside.ensures.moves.same) (c.open.ensures names))
+    first_inside-is names p.bytes.now c.args.shape n.kinds n.depth p.index _ (omega arith) c.requires.within
+    c.requires.bracket (c.in-Ok-true.ensures.value ∙ ap (λ more. done more m) c.in-Ok-true.field-0-test)
+    ∙ value_from-limit names p.bytes.now (frame_of c.args.shape) (open_frames n.kinds n.depth) m
+    (length-open_frames n.kinds n.depth ∙ c.if-nest-eq-NESTING_LIMIT.true)
+
+pub returns-else-nest-eq-NESTING_LIMIT-clause-value : goal.returns-else-nest-eq-NESTING_LIMIT-clause-value
+returns-else-nest-eq-NESTING_LIMIT-clause-value c = λ names.
+    let p = c.args.parser.now in
+    let n = c.args.nest.now in
+    let m = c.first_inside.new.parser.index in
+    let inside = c.in-Ok-true.ensures.inside c.in-Ok-true.field-0-test in (
+      first_inside-is names p.bytes.now c.args.shape n.kinds n.depth p.index _ (omega arith) c.requires.within
+          c.requires.bracket (c.in-Ok-true.ensures.value ∙ ap (λ more. done more m) c.in-Ok-true.field-0-test)
+          ∙ ap (λ fs. value_from (only_ends names) p.bytes.now fs m)
+          (sym (open_frames-opens n.kinds n.depth c.args.shape (omega (arith, n.within)))),
+      inside,
+    )
 
 pub returns-in-Ok-false-clause-value : goal.returns-in-Ok-false-clause-value
 returns-in-Ok-false-clause-value c = λ names.
     let p = c.args.parser.now in
     let n = c.args.nest.now in
-    first_inside-is names p.bytes.now c.args.shape n.objects n.depth p.index _ (omega arith) c.requires.within
+    first_inside-is names p.bytes.now c.args.shape n.kinds n.depth p.index _ (omega arith) c.requires.within
     c.requires.bracket
     (c.in-Ok-false.ensures.value ∙ ap (λ more. done more c.first_inside.new.parser.index) c.in-Ok-false.field-0-test)
 
@@ -33,5 +41,5 @@ pub returns-in-Err-clause-value : goal.returns-in-Err-clause-value
 returns-in-Err-clause-value c = λ names.
     let p = c.args.parser.now in
     let n = c.args.nest.now in
-    first_inside-is names p.bytes.now c.args.shape n.objects n.depth p.index _ (omega arith) c.requires.within
+    first_inside-is names p.bytes.now c.args.shape n.kinds n.depth p.index _ (omega arith) c.requires.within
     c.requires.bracket c.in-Err.ensures.value

@@ -11,7 +11,7 @@ returns-in_ok-skip_scalar-in_default c =
     let value = c.in_ok-skip_scalar-in_default.ensures.value in
     record {
       moves = c.in_ok-skip_scalar-in_default.ensures.moves;
-      value = value_from-is c.args.allow_inf_nan p.bytes.now n.objects n.depth p.index _ (omega arith) value;
+      value = value_from-is c.args.allow_inf_nan p.bytes.now n.kinds n.depth p.index _ (omega arith) value;
       ahead = c.in_ok-skip_scalar-in_default.ensures.ahead;
     }
 
@@ -23,7 +23,7 @@ returns-in_err-skip_scalar-in_default c =
     let e = err_from_is_err_and c.from_residual.result c.from_residual.ensures.1 in
     rw (e.1, e.2) (record {
       moves = i.moves;
-      value = value_from-is c.args.allow_inf_nan p.bytes.now n.objects n.depth p.index _ (omega arith) i.value
-          ∙ fault-passes c.args.allow_inf_nan p.bytes.now (open_frames n.objects n.depth) _ _ _;
+      value = value_from-is c.args.allow_inf_nan p.bytes.now n.kinds n.depth p.index _ (omega arith) i.value
+          ∙ fault-passes c.args.allow_inf_nan p.bytes.now (open_frames n.kinds n.depth) _ _ _;
       ahead = tt;
     })

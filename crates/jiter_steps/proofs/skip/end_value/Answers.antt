@@ -13,10 +13,11 @@ returns-in-Ok-true-clause-value c = λ names.
     let i = c.in-Ok-true in
     let m = c.next_inside.new.parser.index in
     let same = ap (λ bytes. bytes.now) l.invariant.moves.same in
-    let inner = open_frames-innermost l.nest.objects l.nest.depth _ (omega arith) c.kind_of_container.ensures in (
-      l.invariant.same names ∙ innermost-led names t p.bytes.now _ _ _ p.index _ inner same p.within
+    let some : 0 < l.nest.depth = omega arith in (
+      l.invariant.same names
+          ∙ innermost-led names t p.bytes.now l.nest.kinds l.nest.depth p.index _ some same p.within
           (i.ensures.value ∙ ap (λ more. done more m) i.field-0-test)
-          ∙ ap (λ fs. value_from (only_ends names) t fs m) (sym inner),
+          ∙ ap (λ fs. value_from (only_ends names) t fs m) (sym (open_frames-innermost l.nest.kinds l.nest.depth some)),
       subst (λ u. m < length u) same (i.ensures.inside i.field-0-test),
     )
 
@@ -25,11 +26,11 @@ closing-preserved c =
     let l = c.closing in
     let p = l.parser in
     let i = c.in-Ok-false in
-    let inner = open_frames-innermost l.nest.objects l.nest.depth _ (omega arith) c.kind_of_container.ensures in
+    let some : 0 < l.nest.depth = omega arith in
     record {
       moves = record { same = i.ensures.moves.same ∙ l.invariant.moves.same; forward = omega arith };
       same = λ names. l.invariant.same names
-          ∙ innermost-led names c.args.parser.now.bytes.now p.bytes.now _ _ _ p.index _ inner
+          ∙ innermost-led names c.args.parser.now.bytes.now p.bytes.now l.nest.kinds l.nest.depth p.index _ some
           (ap (λ bytes. bytes.now) l.invariant.moves.same) p.within
           (i.ensures.value ∙ ap (λ more. done more c.next_inside.new.parser.index) i.field-0-test);
     }
@@ -38,6 +39,7 @@ pub returns-in-Err-clause-value : goal.returns-in-Err-clause-value
 returns-in-Err-clause-value c = λ names.
     let l = c.closing in
     let p = l.parser in
-    let inner = open_frames-innermost l.nest.objects l.nest.depth _ (omega arith) c.kind_of_container.ensures in
-    l.invariant.same names ∙ innermost-led names c.args.parser.now.bytes.now p.bytes.now _ _ _ p.index _ inner
+    let some : 0 < l.nest.depth = omega arith in
+    l.invariant.same names
+    ∙ innermost-led names c.args.parser.now.bytes.now p.bytes.now l.nest.kinds l.nest.depth p.index _ some
     (ap (λ bytes. bytes.now) l.invariant.moves.same) p.within c.in-Err.ensures.value

@@ -10,9 +10,9 @@ abbrev pub invariant-closing : goal.invariant-closing
 invariant-closing l = record {
   moves : Moves l.fn.parser l.parser;
   same : (names : Bool)
-      → resume (only_ends names) l.fn.parser.bytes.now (open_frames l.fn.nest.objects l.fn.nest.depth)
+      → resume (only_ends names) l.fn.parser.bytes.now (open_frames l.fn.nest.kinds l.fn.nest.depth)
       (done tt l.fn.parser.index)
-      ≡ resume (only_ends names) l.fn.parser.bytes.now (open_frames l.nest.objects l.nest.depth)
+      ≡ resume (only_ends names) l.fn.parser.bytes.now (open_frames l.nest.kinds l.nest.depth)
       (done tt l.parser.index);
 }
 

@@ -10,8 +10,8 @@ invariant-closing l = record {
   place : (l.from ≤ l.end) × (l.end ≤ length l.bytes);
   few : l.open ≤ 200;
   same : (names : Bool)
-      → resume (only_ends names) l.bytes (open_frames l.nest.objects l.depth) (done tt l.from)
-      ≡ resume (only_ends names) l.bytes (open_frames l.nest.objects l.open) (done tt l.end);
+      → resume (only_ends names) l.bytes (open_frames l.nest.kinds l.depth) (done tt l.from)
+      ≡ resume (only_ends names) l.bytes (open_frames l.nest.kinds l.open) (done tt l.end);
 }
 
 abbrev pub decreases-closing : goal.decreases-closing

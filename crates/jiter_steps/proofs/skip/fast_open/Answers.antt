@@ -1,18 +1,19 @@
-use Rattle.std.proofs.Common.{false, true, ap, arith}
+use Rattle.std.proofs.Common.{ap, arith}
 use Rattle.jiter_steps.specs.Literal.{start_of}
+use Rattle.jiter_steps.specs.declared.parse.ContainerKind.TheVariants as shape
 use Rattle.jiter_steps.proofs.Calls.FastSkips.{plain-opens}
 use Rattle.jiter_steps.proofs.skip.fast_open.Goals as goal
 
 pub returns-in_ok-next-in-91-clause-leads : goal.returns-in_ok-next-in-91-clause-leads
 returns-in_ok-next-in-91-clause-leads c = λ names.
     let n = c.args.nest.now in
-    plain-opens names c.args.bytes.now false n.objects c.args.depth c.args.at _ c.requires.few
+    plain-opens names c.args.bytes.now shape.Array n.kinds c.args.depth c.args.at _ c.requires.few
     (omega (arith, c.requires.few))
-    c.requires.within (ap start_of c.in-91.is) c.in_ok-next-in-91.ensures.value
+    (omega (arith, c.requires.room, c.requires.within)) (ap start_of c.in-91.is) c.in_ok-next-in-91.ensures.value
 
 pub returns-in_ok-next-in-123-clause-leads : goal.returns-in_ok-next-in-123-clause-leads
 returns-in_ok-next-in-123-clause-leads c = λ names.
     let n = c.args.nest.now in
-    plain-opens names c.args.bytes.now true n.objects c.args.depth c.args.at _ c.requires.few
+    plain-opens names c.args.bytes.now shape.Object n.kinds c.args.depth c.args.at _ c.requires.few
     (omega (arith, c.requires.few))
-    c.requires.within (ap start_of c.in-123.is) c.in_ok-next-in-123.ensures.value
+    (omega (arith, c.requires.room, c.requires.within)) (ap start_of c.in-123.is) c.in_ok-next-in-123.ensures.value

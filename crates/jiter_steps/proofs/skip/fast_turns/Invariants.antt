@@ -9,8 +9,8 @@ invariant-turns l = record {
   place : (l.from ≤ l.at) × (l.at < length l.bytes);
   few : l.depth ≤ 200;
   same : (names : Bool)
-      → value_from (only_ends names) l.bytes (open_frames l.fn.nest.objects l.fn.nest.depth) l.from
-      ≡ value_from (only_ends names) l.bytes (open_frames l.nest.objects l.depth) l.at;
+      → value_from (only_ends names) l.bytes (open_frames l.fn.nest.kinds l.fn.nest.depth) l.from
+      ≡ value_from (only_ends names) l.bytes (open_frames l.nest.kinds l.depth) l.at;
 }
 
 abbrev pub decreases-turns : goal.decreases-turns

@@ -10,7 +10,7 @@ invariant-skipping l = record {
   moves : Moves l.fn.parser l.parser;
   inside : l.parser.index < length l.fn.parser.bytes.now;
   same : skip_at l.allow_inf_nan l.fn.parser.bytes.now l.fn.parser.index
-      ≡ value_from (only_ends l.allow_inf_nan) l.fn.parser.bytes.now (open_frames l.nest.objects l.nest.depth)
+      ≡ value_from (only_ends l.allow_inf_nan) l.fn.parser.bytes.now (open_frames l.nest.kinds l.nest.depth)
       l.parser.index;
 }
 
