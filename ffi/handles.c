@@ -5,7 +5,9 @@
  *   lines SIZE INDEX      the line and column of an index
  *   document MODE POINTER what the pointer leads to; with the word unique after it, repeated keys are an error
  *   texts                 the members of an object of strings: where each key and each string lies
- *   number                the number, whichever it is, as a double, as an unsigned integer, and its cause and column */
+ *   number                the number, whichever it is, as a double, as an unsigned integer, and its cause and column
+ *   other CONTENTS        each call over a handle that holds something else: nothing, a parser, a document or lines
+ *   causes                the words of every error, and of numbers that are none */
 #include "jiter_c.h"
 
 #include <inttypes.h>
@@ -20,10 +22,9 @@ static JiterFault fault;
 static bool failed(void) {
   char cause[200];
   size_t count = 0;
-  if (fault.kind != JITER_OUT_OF_MEMORY && !jiter_cause(&fault, cause, sizeof cause, &count))
-    fault.kind = JITER_OUT_OF_MEMORY;
   if (fault.kind == JITER_OUT_OF_MEMORY)
     return false;
+  jiter_cause(&fault, cause, sizeof cause, &count);
   printf("fault %" PRIu32 " at %zu: %.*s\n", fault.kind, fault.index, (int)count, cause);
   return true;
 }
@@ -158,6 +159,92 @@ static bool texts(void) {
   return fault.kind != JITER_OUT_OF_MEMORY && printf("at %zu\n", reader.index) > 0;
 }
 
+/* What a call over another handle returned, and its error; the outcomes must be as they were. */
+static void misused(const char *name, bool result, size_t whole) {
+  printf(" %s %d", name, result);
+  if (fault.kind)
+    printf(" %" PRIu32 " %" PRIu32 " %" PRIu32 " %zu", fault.kind, fault.expected, fault.actual, fault.index);
+  if (whole != 77 || out[0] != '?')
+    printf(" (written)");
+  fault.kind = 0;
+}
+
+static void use_as_parser(JiterParser parser) {
+  size_t whole = 77;
+  printf("parser: position %zu", jiter_parser_position(&parser));
+  misused("push", jiter_parser_push(&parser, bytes, length), whole);
+  bool given = jiter_parser_value(&parser, out, sizeof out, &whole, &fault);
+  misused("value", given, whole);
+  misused("error", jiter_parser_error(&parser, &fault), whole);
+  misused("finish", jiter_parser_finish(&parser, &fault), whole);
+}
+
+static void use_as_document(JiterDocument document) {
+  size_t whole = 77, step = 0;
+  JiterValue value = {9, true, 9, 9};
+  printf("document:");
+  misused("at", jiter_document_at(&document, "", 0, &step, 1, &value), value.length == 9 && value.kind == 9 ? whole : 0);
+  bool given = jiter_document_text(&document, "", 0, &step, 1, out, sizeof out, &whole, &fault);
+  misused("text", given, whole);
+  given = jiter_document_key(&document, "", 0, NULL, 0, 0, out, sizeof out, &whole, &fault);
+  misused("key", given, whole);
+  given = jiter_document_print(&document, "\xff", 1, NULL, 0, out, sizeof out, &whole, &fault);
+  misused("print", given, whole);
+}
+
+static void use_as_lines(JiterLines lines) {
+  JiterPosition place = {77, 77};
+  printf("lines:");
+  misused("push", jiter_lines_push(&lines, bytes, length), 77);
+  bool given = jiter_lines_position(&lines, 0, &place);
+  misused("position", given, place.line == 77 ? place.column : 0);
+}
+
+static bool other(const char *contents) {
+  JiterParser parser = {0};
+  JiterDocument document = {0};
+  JiterLines held = {0};
+  JiterPosition place = {0, 0};
+  void *pointer = NULL;
+  bool ok = *contents == 'n'   ? jiter_handle_new(&pointer)
+            : *contents == 'p' ? jiter_parser_new(&parser, false, JITER_ON) && push(&parser, bytes, length)
+            : *contents == 'd' ? jiter_document_parse(&document, bytes, length, false, JITER_OFF, true, &fault)
+                               : jiter_lines_new(&held) && jiter_lines_push(&held, bytes, length);
+  pointer = *contents == 'p' ? parser.pointer : *contents == 'd' ? document.pointer : *contents == 'l' ? held.pointer : pointer;
+  out[0] = '?';
+  if (ok && *contents != 'p')
+    use_as_parser((JiterParser){pointer}), printf("\n");
+  if (ok && *contents != 'd')
+    use_as_document((JiterDocument){pointer}), printf("\n");
+  if (ok && *contents != 'l')
+    use_as_lines((JiterLines){pointer}), printf("\n");
+  if (ok && *contents == 'p')
+    printf("still %zu\n", jiter_parser_position(&parser));
+  if (ok && *contents == 'd')
+    ok = show(&document, "", NULL, 0);
+  if (ok && *contents == 'l' && jiter_lines_position(&held, 99, &place))
+    printf("still %zu %zu\n", place.line, place.column);
+  if (pointer)
+    jiter_handle_free(pointer);
+  return ok;
+}
+
+/* The words of every error, and which numbers have none. */
+static bool causes(void) {
+  size_t whole = 0;
+  JiterFault any = {0, 0, 0, length};
+  for (; any.kind < 103; any.kind++)
+    for (any.expected = 0; any.expected < (any.kind == JITER_WRONG_TYPE ? 9 : 1); any.expected++)
+      for (any.actual = 0; any.actual < (any.kind == JITER_WRONG_TYPE ? 9 : 1); any.actual++) {
+        bool described = jiter_describe(bytes, length, &any, out, sizeof out, &whole);
+        if (described)
+          printf("%" PRIu32 ": %.*s\n", any.kind, (int)whole, out);
+        if (jiter_cause(&any, out, 3, &whole) != described || (described && whole > strlen("control character (\\u0000-\\u001F) found while parsing a string")))
+          printf("no cause\n");
+      }
+  return true;
+}
+
 int main(int count, char **words) {
   const char *word = count > 1 ? words[1] : "", *more = count > 2 ? words[2] : "0", *last = count > 3 ? words[3] : "";
   setvbuf(stdout, NULL, _IONBF, 0); /* no memory of its own */
@@ -173,6 +260,10 @@ int main(int count, char **words) {
     ok = document(mode_of(more), last, count > 4);
   else if (!strcmp(word, "texts"))
     ok = texts();
+  else if (!strcmp(word, "other"))
+    ok = other(more);
+  else if (!strcmp(word, "causes"))
+    ok = causes();
   else
     ok = number();
   return ok ? 0 : 3;

@@ -133,13 +133,13 @@ typedef struct {
 
 /* Handles. Each owns memory: free it once, and use no copy of it afterwards. */
 typedef struct {
-  void *at;
+  void *pointer;
 } JiterParser;
 typedef struct {
-  void *at;
+  void *pointer;
 } JiterDocument;
 typedef struct {
-  void *at;
+  void *pointer;
 } JiterLines;
 
 /* What a document has at a place. */
@@ -297,45 +297,48 @@ bool jiter_member(JiterReader *reader, const char *name, size_t length, bool *fo
 bool jiter_finish(JiterReader *reader, JiterFault *fault);
 
 /* ---- Errors in words. jiter_cause writes the cause alone, so that `FILE:LINE:COLUMN: CAUSE` is one printf;
- * jiter_describe writes `CAUSE at line L column C`. They return false if the fault's kind has no words (23 and more
- * except 100), or memory runs out. jiter_describe, jiter_position and jiter_character_column read all bytes up to the
- * index. */
+ * jiter_describe writes `CAUSE at line L column C`. Neither allocates. They return false, and write nothing, only if the
+ * fault has no words: its kind is 0, 23 or more except 100, or it is 100 with no two types. jiter_describe, jiter_position
+ * and jiter_character_column read all bytes up to the index. */
 bool jiter_cause(const JiterFault *fault, char *out, size_t room, size_t *whole);
 bool jiter_describe(const char *bytes, size_t length, const JiterFault *fault, char *out, size_t room, size_t *whole);
 void jiter_position(const char *bytes, size_t length, size_t index, JiterPosition *position);
 /* The column in characters, as editors count it. */
 size_t jiter_character_column(const char *bytes, size_t length, size_t index);
 
-/* ---- Handles: a new one holds nothing; the calls that fill one free what it held. */
-bool jiter_handle_new(void **at);
-void jiter_handle_free(void *at);
+/* ---- Handles: a new one holds nothing; the calls that fill one free what it held. A call over a handle that holds
+ * something else changes nothing: it reports JITER_MISUSE, or returns false or 0 if it has no fault. */
+bool jiter_handle_new(void **pointer);
+void jiter_handle_free(void *pointer);
 
 /* ---- Documents in chunks. The chunks are not kept. */
 bool jiter_parser_begin(JiterParser *parser, bool allow_inf_nan, uint32_t mode);
-/* Takes a chunk. An error in the bytes is no failure of this call. If it fails, memory ran out: jiter_parser_position
- * returns how many bytes were taken; push the rest again. */
+/* Takes a chunk. An error in the bytes is no failure of this call. It fails if memory runs out, never in leading
+ * whitespace: jiter_parser_position returns how many bytes were taken; push the rest again. It also fails, and takes no
+ * byte, if the position would exceed SIZE_MAX. */
 bool jiter_parser_push(JiterParser *parser, const char *chunk, size_t length);
 size_t jiter_parser_position(JiterParser *parser);
-/* Writes the compact text of the value of all bytes so far, read in the parser's mode. */
+/* Writes the compact text of the value of all bytes so far, read in the parser's mode. If memory for the text runs out,
+ * the error's index is the parser's position. */
 bool jiter_parser_value(JiterParser *parser, char *out, size_t room, size_t *whole, JiterFault *fault);
 /* Returns whether the bytes so far are no complete document, and why. */
 bool jiter_parser_error(JiterParser *parser, JiterFault *fault);
 
 static inline bool jiter_parser_new(JiterParser *parser, bool allow_inf_nan, uint32_t mode) {
-  parser->at = NULL;
-  return jiter_handle_new(&parser->at) && jiter_parser_begin(parser, allow_inf_nan, mode);
+  parser->pointer = NULL;
+  return jiter_handle_new(&parser->pointer) && jiter_parser_begin(parser, allow_inf_nan, mode);
 }
 static inline void jiter_parser_free(JiterParser *parser) {
-  if (parser->at)
-    jiter_handle_free(parser->at);
-  parser->at = NULL;
+  if (parser->pointer)
+    jiter_handle_free(parser->pointer);
+  parser->pointer = NULL;
 }
 
 /* ---- Documents. */
 static inline void jiter_document_free(JiterDocument *document) {
-  if (document->at)
-    jiter_handle_free(document->at);
-  document->at = NULL;
+  if (document->pointer)
+    jiter_handle_free(document->pointer);
+  document->pointer = NULL;
 }
 
 /* The export behind jiter_parser_to_document: the handle then holds a document, or nothing. */
@@ -343,11 +346,11 @@ bool jiter_parser_finish(JiterParser *parser, JiterFault *fault);
 /* Ends the document: if it is complete, `document` gets its value and the parser is used up; free both all the same.
  * Otherwise the parser holds nothing: call jiter_parser_error first to go on with it. */
 static inline bool jiter_parser_to_document(JiterParser *parser, JiterDocument *document, JiterFault *fault) {
-  document->at = NULL;
+  document->pointer = NULL;
   if (!jiter_parser_finish(parser, fault))
     return false;
-  document->at = parser->at;
-  parser->at = NULL;
+  document->pointer = parser->pointer;
+  parser->pointer = NULL;
   return true;
 }
 
@@ -358,8 +361,8 @@ bool jiter_document_read(JiterDocument *document, const char *bytes, size_t leng
  * the document is then that key, a string. Free the document in every case. */
 static inline bool jiter_document_parse(JiterDocument *document, const char *bytes, size_t length, bool allow_inf_nan,
                                         uint32_t mode, bool unique, JiterFault *fault) {
-  document->at = NULL;
-  if (jiter_handle_new(&document->at))
+  document->pointer = NULL;
+  if (jiter_handle_new(&document->pointer))
     return jiter_document_read(document, bytes, length, allow_inf_nan, mode, unique, fault);
   fault->kind = JITER_OUT_OF_MEMORY;
   fault->expected = fault->actual = 0;
@@ -368,7 +371,8 @@ static inline bool jiter_document_parse(JiterDocument *document, const char *byt
 }
 
 /* Looking into a document. A place is what a JSON Pointer leads to (RFC 6901), and from there one item or member for
- * each step, by its index. An empty pointer and no steps are the document's value. The pointer must be UTF-8. */
+ * each step, by its index. An empty pointer and no steps are the document's value. A pointer that is not UTF-8 leads
+ * nowhere. */
 bool jiter_document_at(JiterDocument *document, const char *pointer, size_t pointer_length, const size_t *steps,
                        size_t depth, JiterValue *value);
 /* The string at a place, decoded, or the source text of a JITER_BIG_INT or a JITER_FLOAT. */
@@ -381,22 +385,23 @@ bool jiter_document_key(JiterDocument *document, const char *pointer, size_t poi
 bool jiter_document_print(JiterDocument *document, const char *pointer, size_t pointer_length, const size_t *steps,
                           size_t depth, char *out, size_t room, size_t *whole, JiterFault *fault);
 
-/* ---- Lines of a document in chunks: push the same chunks as to the parser. A push that fails took no byte. */
+/* ---- Lines of a document in chunks: push the same chunks as to the parser. A push that fails took no byte; it fails
+ * only if memory runs out, for a chunk with a line feed, or if there would be more than SIZE_MAX bytes. */
 void jiter_lines_begin(JiterLines *lines);
 bool jiter_lines_push(JiterLines *lines, const char *chunk, size_t length);
 bool jiter_lines_position(JiterLines *lines, size_t index, JiterPosition *position);
 
 static inline bool jiter_lines_new(JiterLines *lines) {
-  lines->at = NULL;
-  if (!jiter_handle_new(&lines->at))
+  lines->pointer = NULL;
+  if (!jiter_handle_new(&lines->pointer))
     return false;
   jiter_lines_begin(lines);
   return true;
 }
 static inline void jiter_lines_free(JiterLines *lines) {
-  if (lines->at)
-    jiter_handle_free(lines->at);
-  lines->at = NULL;
+  if (lines->pointer)
+    jiter_handle_free(lines->pointer);
+  lines->pointer = NULL;
 }
 
 #ifdef __cplusplus

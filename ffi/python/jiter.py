@@ -108,21 +108,21 @@ class _Handle:
     """Memory of the library, freed with the object."""
 
     def __init__(self):
-        self.at = ctypes.c_void_p()
-        if not _jiter.jiter_handle_new(self.at):
+        self.pointer = ctypes.c_void_p()
+        if not _jiter.jiter_handle_new(self.pointer):
             raise MemoryError
 
     def __del__(self):
-        if self.at:
-            _jiter.jiter_handle_free(self.at)
+        if self.pointer:
+            _jiter.jiter_handle_free(self.pointer)
 
 
 def _loads_unique(data, mode, allow_inf_nan):
     document, fault = _Handle(), _Fault()
-    if _jiter.jiter_document_read(document.at, data, len(data), allow_inf_nan, mode, True, fault):
+    if _jiter.jiter_document_read(document.pointer, data, len(data), allow_inf_nan, mode, True, fault):
         text = _text(
             lambda out, room, whole, fault: _jiter.jiter_document_print(
-                document.at, b"", 0, None, 0, out, room, whole, fault
+                document.pointer, b"", 0, None, 0, out, room, whole, fault
             ),
             fault,
             len(data),
@@ -130,7 +130,7 @@ def _loads_unique(data, mode, allow_inf_nan):
         if text is not None:
             return text
     key = _text(
-        lambda out, room, whole, fault: _jiter.jiter_document_text(document.at, b"", 0, None, 0, out, room, whole, fault),
+        lambda out, room, whole, fault: _jiter.jiter_document_text(document.pointer, b"", 0, None, 0, out, room, whole, fault),
         _Fault(),
         len(data),
     )
@@ -167,15 +167,15 @@ class Parser:
 
     def __init__(self, *, partial="trailing-strings", allow_inf_nan=True):
         self._parser, self._lines, self._room = _Handle(), _Handle(), 64
-        _jiter.jiter_parser_begin(self._parser.at, allow_inf_nan, _mode(partial))
-        _jiter.jiter_lines_begin(self._lines.at)
+        _jiter.jiter_parser_begin(self._parser.pointer, allow_inf_nan, _mode(partial))
+        _jiter.jiter_lines_begin(self._lines.pointer)
 
     def push(self, data):
         """Takes a chunk, cut anywhere."""
         data = _bytes(data)
-        if not _jiter.jiter_lines_push(self._lines.at, data, len(data)):
+        if not _jiter.jiter_lines_push(self._lines.pointer, data, len(data)):
             raise MemoryError
-        if not _jiter.jiter_parser_push(self._parser.at, data, len(data)):
+        if not _jiter.jiter_parser_push(self._parser.pointer, data, len(data)):
             raise MemoryError
         self._room += len(data)
 
@@ -183,7 +183,7 @@ class Parser:
         """Returns the value of the bytes so far, read in the mode `partial`."""
         fault = _Fault()
         text = _text(
-            lambda out, room, whole, fault: _jiter.jiter_parser_value(self._parser.at, out, room, whole, fault),
+            lambda out, room, whole, fault: _jiter.jiter_parser_value(self._parser.pointer, out, room, whole, fault),
             fault,
             self._room,
         )
@@ -194,11 +194,11 @@ class Parser:
     def finish(self):
         """Returns the value of the document. If it isn't complete, you may go on to push."""
         fault = _Fault()
-        if _jiter.jiter_parser_error(self._parser.at, fault):
+        if _jiter.jiter_parser_error(self._parser.pointer, fault):
             raise self._located(fault)
         return self.value()
 
     def _located(self, fault):
         position = _Position()
-        _jiter.jiter_lines_position(self._lines.at, fault.index, position)
+        _jiter.jiter_lines_position(self._lines.pointer, fault.index, position)
         return _error(fault, position)

@@ -6,8 +6,8 @@ use Rattle.std_alloc.proofs.BoxSteps.Form.{Bx}
 use Rattle.std_heap.specs.contracts.Global as Heap
 use Rattle.std_heap.specs.contracts.GlobalAllocator.TheImpl.{ghosts, dict}
 use Rattle.std_heap.proofs.Global.TheLaws as heap
-use Rattle.jiter_c.specs.contracts.handles.Held as Home
-use Rattle.jiter_c.proofs.handles.Held.TheLaws as home
+use Rattle.jiter_c.specs.contracts.handles.Contents as Home
+use Rattle.jiter_c.proofs.handles.Contents.TheLaws as home
 use Rattle.jiter_c.specs.contracts.handles.parts.Parts as Parts
 use Rattle.jiter_c.specs.contracts.handles.JiterHandle as Sealed
 

@@ -15,7 +15,7 @@ use Rattle.jiter.proofs.Walking.{gave-is, gave-refused}
 use Rattle.jiter_c.specs.Faults.{fault_of}
 use Rattle.jiter_c.specs.Parts.{IfRefused, RefusedSo, first_part, into_read}
 use Rattle.jiter_c.specs.Replies.{has_part}
-use Rattle.jiter_c.specs.Told.{Tells, fault_or}
+use Rattle.jiter_c.specs.Reports.{Reports, fault_or}
 use Rattle.jiter_c.specs.declared.faults.JiterFault.{JiterFault}
 use Rattle.jiter_c.specs.declared.reader.JiterReader.{JiterReader}
 use Rattle.jiter_c.proofs.Walks.{IsBracket}
@@ -37,13 +37,13 @@ into-refused {X = X} {A = A} r x e stop is err = subst (λ q. RefusedSo q x stop
 module _ (X : Type 0) {A : Type 0} (r : Reply A) (i : ℕ) (e : JiterError) (after : JiterFault)
     (told : after ≡ fault_of (cause_of e.error_type) e.index) (before : JiterFault) where
   pub refusal-told : (old new : JiterReader) → new ≡ record old { index = i } → RefusedSo {X = X} r (Err e) i
-      → IfRefused r (Tells r false old new before after)
+      → IfRefused r (Reports r false old new before after)
   refusal-told old new place h = by r h where
-    by : (r : Reply A) → RefusedSo {X = X} r (Err e) i → IfRefused r (Tells r false old new before after)
+    by : (r : Reply A) → RefusedSo {X = X} r (Err e) i → IfRefused r (Reports r false old new before after)
     by (gave a j) h = tt
     by (refused c x stop) (cause, index, at) = record {
-      told = refl;
-      place = place ∙ ap (λ j. record old { index = j }) at;
+      outcome = refl;
+      position = place ∙ ap (λ j. record old { index = j }) at;
       fault = told ∙ ap (λ d. fault_of d e.index) cause ∙ ap (fault_of c) index;
     }
 
@@ -53,6 +53,16 @@ module _ (X : Type 0) {A : Type 0} (r : Reply A) (i : ℕ) (e : JiterError) (aft
     by (gave a j) h = tt
     by (refused c x stop) (cause, index, at) =
         (refl, told ∙ ap (λ d. fault_of d e.index) cause ∙ ap (fault_of c) index)
+
+-- the byte that a peek gave
+pub peeked-byte : (s : ReaderState) (c e : ℕ) → peek s ≡ gave c e → slice_get s.text (value_place s) ≡ Some c
+peeked-byte s c e told = by (slice_get s.text (value_place s)) told where
+  i : ℕ
+  i = value_place s
+
+  by : (o : Option ℕ) → if_byte i o (λ b. gave b i) ≡ gave c e → o ≡ Some c
+  by None h = absurd (gave-refused (sym h))
+  by (Some b) h = ap Some (gave-is b c i e h).0
 
 -- After a peek the step by its byte is the step into what comes next.
 module _ (s : ReaderState) where
@@ -70,12 +80,8 @@ module _ (s : ReaderState) where
         i : ℕ
         i = value_place s
 
-        byte : (o : Option ℕ) → if_byte i o (λ b. gave b i) ≡ gave c s1.position → o ≡ Some c
-        byte None h = absurd (gave-refused (sym h))
-        byte (Some b) h = ap Some (gave-is b c i s1.position h).0
-
         here : slice_get s.text i ≡ Some c
-        here = byte (slice_get s.text i) told
+        here = peeked-byte s c s1.position told
 
         into : next s (into_read s) ≡ into_read s i (start_of c)
         into = ap (λ o. if_byte i o (λ b. into_read s i (start_of b))) here

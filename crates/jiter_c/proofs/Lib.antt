@@ -1,8 +1,11 @@
+pub mod Appending
 pub mod AsBox
+pub mod Describing
+pub mod DocumentReports
 pub mod Into
 pub mod Members
 pub mod Numbers
-pub mod Putting
+pub mod ParserReports
+pub mod Passing
 pub mod Staying
-pub mod Telling
 pub mod Walks

@@ -4,7 +4,7 @@ use Rattle.std.specs.Prelude.{Option, Some, None}
 use Rattle.jiter.specs.Cause.{Cause}
 use Rattle.jiter.specs.Reader.{Reply, gave, refused}
 use Rattle.jiter_scan.specs.Number.{Number}
-use Rattle.jiter_c.specs.Numbers.{IfGiven, IsUnsigned, TellsUnsigned}
+use Rattle.jiter_c.specs.Numbers.{IfGiven, IsUnsigned, ReportsUnsigned}
 
 pub if_given : {A : Type 0} (r : Reply A) (a : A) (e : ℕ) (P : A → Type 0) → r ≡ gave a e → P a → IfGiven r P
 if_given r a e P is p = subst (λ q. IfGiven q P) (sym is) p
@@ -14,16 +14,16 @@ pub if_refused : {A : Type 0} (r : Reply A) (c : Cause) (i stop : ℕ) (P : A �
 if_refused r c i stop P is = subst (λ q. IfGiven q P) (sym is) tt
 
 pub unsigned_told : (r : Reply Number) (n : Number) (e u : ℕ) (before : Bool) (old : ℕ) → r ≡ gave n e
-    → IsUnsigned n (Some u) → TellsUnsigned r before true old u
+    → IsUnsigned n (Some u) → ReportsUnsigned r before true old u
 unsigned_told r n e u before old is h =
-    subst (λ q. TellsUnsigned q before true old u) (sym is) (Some u, h, (refl, refl))
+    subst (λ q. ReportsUnsigned q before true old u) (sym is) (Some u, h, (refl, refl))
 
 pub unsigned_missing : (r : Reply Number) (n : Number) (e : ℕ) (before : Bool) (old : ℕ) → r ≡ gave n e
-    → IsUnsigned n None → TellsUnsigned r before false old 0
+    → IsUnsigned n None → ReportsUnsigned r before false old 0
 unsigned_missing r n e before old is h =
-    subst (λ q. TellsUnsigned q before false old 0) (sym is) (None, h, (refl, refl))
+    subst (λ q. ReportsUnsigned q before false old 0) (sym is) (None, h, (refl, refl))
 
 pub unsigned_refused : (r : Reply Number) (c : Cause) (i stop : ℕ) (fits : Bool) (value : ℕ) → r ≡ refused c i stop
-    → TellsUnsigned r fits fits value value
+    → ReportsUnsigned r fits fits value value
 unsigned_refused r c i stop fits value is =
-    subst (λ q. TellsUnsigned q fits fits value value) (sym is) (refl, refl)
+    subst (λ q. ReportsUnsigned q fits fits value value) (sym is) (refl, refl)

@@ -11,7 +11,7 @@ use Rattle.jiter.specs.declared.errors.JiterError.{JiterError}
 use Rattle.jiter.proofs.Peeking.{peek-again}
 use Rattle.jiter_c.specs.Faults.{fault_of, memory_number}
 use Rattle.jiter_c.specs.Replies.{peek_reply, start_number, state_of}
-use Rattle.jiter_c.specs.Told.{Tells, UnlessMemory, fault_or, is_given, left_by}
+use Rattle.jiter_c.specs.Reports.{Reports, UnlessMemory, fault_or, is_given, left_by}
 use Rattle.jiter_c.specs.declared.faults.JiterFault.{JiterFault}
 use Rattle.jiter_c.specs.declared.reader.JiterReader.{JiterReader}
 
@@ -21,11 +21,11 @@ pub stays-at : {A : Type 0} (s : ReaderState) (r : Reply A) (c : Cause) (x stop 
 stays-at s r c x stop i h is at = at ∙ subst (StaysAt (value_place s)) is h
 
 -- the same by whether a call's result was told as given
-pub told-stays : {X A : Type 0} (view : X → A) (read : Result X JiterError) (s new : ReaderState) (r : Reply A)
+pub reports-stays : {X A : Type 0} (view : X → A) (read : Result X JiterError) (s new : ReaderState) (r : Reply A)
     (given : Bool) (i : ℕ) (P : Type 0) → Replies view read new r → StaysAt (value_place s) r
     → OnOk read ((given ≡ true) × P) → given ≡ false → i ≡ new.position → i ≡ value_place s
-told-stays view (Ok a) s new r given i P is h ok none_given at = absurd (false≢true (sym none_given ∙ ok.0))
-told-stays view (Err e) s new r given i P is h ok none_given at = stays-at s r _ _ _ i h is at
+reports-stays view (Ok a) s new r given i P is h ok none_given at = absurd (false≢true (sym none_given ∙ ok.0))
+reports-stays view (Err e) s new r given i P is h ok none_given at = stays-at s r _ _ _ i h is at
 
 -- what a reply gave, seen otherwise, leaves the reader at the same place
 pub seen-stays : {A B : Type 0} (f : A → B) (i : ℕ) (r : Reply A) → StaysAt i r → StaysAt i (reply_seen f r)
@@ -61,23 +61,23 @@ peeks-again r s i m place at =
 
 -- What is told of a call that may run out of memory: what it gave, or why it was refused.
 module _ {A : Type 0} (reply : Reply A) (given : Bool) (old new : JiterReader) (before later : JiterFault) where
-  pub told-gave : (a : A) (e : ℕ) → reply ≡ gave a e → given ≡ true → new ≡ record old { index = e }
-      → later ≡ before → UnlessMemory given later (Tells reply given old new before later)
-  told-gave a e is told place same =
-      subst (λ g. UnlessMemory g later (Tells reply g old new before later)) (sym told)
+  pub reports-gave : (a : A) (e : ℕ) → reply ≡ gave a e → given ≡ true → new ≡ record old { index = e }
+      → later ≡ before → UnlessMemory given later (Reports reply given old new before later)
+  reports-gave a e is told place same =
+      subst (λ g. UnlessMemory g later (Reports reply g old new before later)) (sym told)
       (record {
-        told = ap is_given (sym is);
-        place = place ∙ ap (left_by old) (sym is);
+        outcome = ap is_given (sym is);
+        position = place ∙ ap (left_by old) (sym is);
         fault = same ∙ ap (fault_or before) (sym is);
       })
 
-  pub told-refused : (c : Cause) (x stop : ℕ) → (later.kind ≢ memory_number → reply ≡ refused c x stop)
+  pub reports-refused : (c : Cause) (x stop : ℕ) → (later.kind ≢ memory_number → reply ≡ refused c x stop)
       → given ≡ false → new ≡ record old { index = stop } → later ≡ fault_of c x
-      → UnlessMemory given later (Tells reply given old new before later)
-  told-refused c x stop h told place same =
-      subst (λ g. UnlessMemory g later (Tells reply g old new before later)) (sym told)
+      → UnlessMemory given later (Reports reply given old new before later)
+  reports-refused c x stop h told place same =
+      subst (λ g. UnlessMemory g later (Reports reply g old new before later)) (sym told)
       (λ bytes. let is = h bytes in record {
-        told = ap is_given (sym is);
-        place = place ∙ ap (left_by old) (sym is);
+        outcome = ap is_given (sym is);
+        position = place ∙ ap (left_by old) (sym is);
         fault = same ∙ ap (fault_or before) (sym is);
       })

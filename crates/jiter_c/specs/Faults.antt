@@ -1,5 +1,5 @@
--- The numbers by which C knows kinds of fault and types, as jiter_c.h lists them.
-use Rattle.std.specs.Prelude.{◌≡◌, ◌-◌, ◌||◌, ℕ, Bool, List, count_by, drop, length, nat_le, nat_lt}
+-- The numbers by which C knows the kinds of errors and types, as jiter_c.h lists them.
+use Rattle.std.specs.Prelude.{◌≡◌, ◌-◌, ◌||◌, ◌&&◌, ℕ, Bool, List, count_by, drop, length, nat_eq, nat_le, nat_lt}
 use Rattle.jiter_scan.specs.Position.{bytes_through, position_of}
 use Rattle.jiter_scan.specs.declared.errors.LinePosition.{LinePosition}
 use Rattle.jiter.specs.Cause.{Cause, ValueType, error_description}
@@ -33,7 +33,7 @@ kind_number Kind.recursion_limit = 21
 kind_number Kind.out_of_memory = 22
 kind_number (Kind.duplicate_key key) = 23
 
--- of want of memory, and of a value of another type
+-- of out of memory, and of a value of another type
 abbrev pub memory_number : ℕ
 memory_number = kind_number Kind.out_of_memory
 
@@ -57,7 +57,14 @@ type_number ValueType.string = 5
 type_number ValueType.array = 6
 type_number ValueType.object = 7
 
--- a cause at an index, as it is told
+-- the numbers that an error in words may have
+abbrev pub is_kind_number : ℕ → Bool
+is_kind_number n = nat_le 1 n && nat_le n memory_number
+
+abbrev pub is_type_number : ℕ → Bool
+is_type_number n = nat_le 1 n && nat_le n 7
+
+-- a cause at an index, as it is reported
 abbrev pub fault_of : Cause → ℕ → JiterFault
 fault_of (Cause.json_error k) i = record { kind = kind_number k; expected = 0; actual = 0; index = i }
 fault_of (Cause.wrong_type wanted actual) i = record {
@@ -67,15 +74,21 @@ fault_of (Cause.wrong_type wanted actual) i = record {
   index = i;
 }
 
--- a fault tells of this cause
-abbrev pub TellsOf : JiterFault → Cause → Type 0
-TellsOf f (Cause.json_error k) = f.kind ≡ kind_number k
-TellsOf f (Cause.wrong_type wanted actual) =
+-- an error has a cause that can be said in words: a kind from 1 to 22, or a wrong type with two types
+abbrev pub has_cause : JiterFault → Bool
+has_cause f =
+    is_kind_number f.kind
+    || (nat_eq f.kind wrong_type_number && (is_type_number f.expected && is_type_number f.actual))
+
+-- it has this cause
+abbrev pub HasCause : JiterFault → Cause → Type 0
+HasCause f (Cause.json_error k) = f.kind ≡ kind_number k
+HasCause f (Cause.wrong_type wanted actual) =
     (f.kind ≡ wrong_type_number) × (f.expected ≡ type_number wanted) × (f.actual ≡ type_number actual)
 
--- `CAUSE at line L column C` of the cause that a fault of a text tells of
+-- `CAUSE at line L column C` of an error of the bytes t
 abbrev pub Describes : List ℕ → JiterFault → List ℕ → Type 0
-Describes t f text = (c : Cause) × TellsOf f c × (text ≡ error_description c f.index t)
+Describes t f text = (c : Cause) × HasCause f c × (text ≡ error_description c f.index t)
 
 abbrev pub position_view : LinePosition → JiterPosition
 position_view p = record { line = p.line; column = p.column }

@@ -3,46 +3,35 @@ use Rattle.jiter_incremental.specs.IncrementalParser.{Received}
 use Rattle.jiter_incremental.specs.LineIndex.{Passed}
 use Rattle.jiter_steps.specs.Tree.{Tree}
 use Rattle.jiter_value.specs.Value.{view}
-use Rattle.jiter_c.specs.declared.handles.Held.{Held}
+use Rattle.jiter_c.specs.declared.handles.Contents.{Contents}
 
--- it holds a parser of which P
-abbrev pub HoldsParser : Held → (Received → Type 0) → Type 0
-HoldsParser Held.Nothing P = ⊥
-HoldsParser (Held.Parser p) P = P p
-HoldsParser (Held.Document v) P = ⊥
-HoldsParser (Held.Lines l) P = ⊥
+-- If it holds a parser, P of it; otherwise Other.
+abbrev pub MatchParser : Contents → Type 0 → (Received → Type 0) → Type 0
+MatchParser Contents.Nothing Other P = Other
+MatchParser (Contents.Parser p) Other P = P p
+MatchParser (Contents.Document v) Other P = Other
+MatchParser (Contents.Lines l) Other P = Other
 
--- if it holds a parser, P of it
-abbrev pub IfParser : Held → (Received → Type 0) → Type 0
-IfParser Held.Nothing P = Unit {0}
-IfParser (Held.Parser p) P = P p
-IfParser (Held.Document v) P = Unit {0}
-IfParser (Held.Lines l) P = Unit {0}
+-- If it holds a document, P of its tree; otherwise Other.
+abbrev pub MatchDocument : Contents → Type 0 → (Tree → Type 0) → Type 0
+MatchDocument Contents.Nothing Other P = Other
+MatchDocument (Contents.Parser p) Other P = Other
+MatchDocument (Contents.Document v) Other P = P (view v)
+MatchDocument (Contents.Lines l) Other P = Other
 
--- it holds a document of whose tree P
-abbrev pub HoldsDocument : Held → (Tree → Type 0) → Type 0
-HoldsDocument Held.Nothing P = ⊥
-HoldsDocument (Held.Parser p) P = ⊥
-HoldsDocument (Held.Document v) P = P (view v)
-HoldsDocument (Held.Lines l) P = ⊥
+-- If it holds line feeds, P of them; otherwise Other.
+abbrev pub MatchLines : Contents → Type 0 → (Passed → Type 0) → Type 0
+MatchLines Contents.Nothing Other P = Other
+MatchLines (Contents.Parser p) Other P = Other
+MatchLines (Contents.Document v) Other P = Other
+MatchLines (Contents.Lines l) Other P = P l
 
--- if it holds a document, P of its tree
-abbrev pub IfDocument : Held → (Tree → Type 0) → Type 0
-IfDocument Held.Nothing P = Unit {0}
-IfDocument (Held.Parser p) P = Unit {0}
-IfDocument (Held.Document v) P = P (view v)
-IfDocument (Held.Lines l) P = Unit {0}
+-- It holds a parser, a document, line feeds of which P.
+abbrev pub HoldsParser : Contents → (Received → Type 0) → Type 0
+HoldsParser contents P = MatchParser contents ⊥ P
 
--- it holds line feeds of which P
-abbrev pub HoldsLines : Held → (Passed → Type 0) → Type 0
-HoldsLines Held.Nothing P = ⊥
-HoldsLines (Held.Parser p) P = ⊥
-HoldsLines (Held.Document v) P = ⊥
-HoldsLines (Held.Lines l) P = P l
+abbrev pub HoldsDocument : Contents → (Tree → Type 0) → Type 0
+HoldsDocument contents P = MatchDocument contents ⊥ P
 
--- if it holds line feeds, P of them
-abbrev pub IfLines : Held → (Passed → Type 0) → Type 0
-IfLines Held.Nothing P = Unit {0}
-IfLines (Held.Parser p) P = Unit {0}
-IfLines (Held.Document v) P = Unit {0}
-IfLines (Held.Lines l) P = P l
+abbrev pub HoldsLines : Contents → (Passed → Type 0) → Type 0
+HoldsLines contents P = MatchLines contents ⊥ P

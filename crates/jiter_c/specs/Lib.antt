@@ -1,12 +1,13 @@
+pub mod Descriptions
 pub mod Documents
 pub mod Faults
 pub mod Handles
 pub mod Holding
 pub mod Lines
 pub mod Numbers
-pub mod Printing
 pub mod Parsers
 pub mod Parts
+pub mod Printing
 pub mod Replies
-pub mod Told
+pub mod Reports
 pub mod Values

@@ -1,14 +1,17 @@
 -- What C is told of the line feeds of a document in chunks.
-use Rattle.std.specs.Prelude.{◌≡◌, ◌++◌, ℕ, Bool, true, false, List}
-use Rattle.jiter_incremental.specs.LineIndex.{HasPassed}
-use Rattle.jiter_c.specs.Holding.{HoldsLines}
-use Rattle.jiter_c.specs.declared.handles.Held.{Held}
+use Rattle.std.specs.Prelude.{◌≡◌, ◌+◌, ◌^◌, ◌<◌, ◌≤◌, ◌++◌, ◌⊎◌, ℕ, Bool, true, false, Contains, List, length}
+use Rattle.jiter_incremental.specs.LineIndex.{HasPassed, Passed}
+use Rattle.jiter_c.specs.Holding.{HoldsLines, MatchLines}
+use Rattle.jiter_c.specs.declared.handles.Contents.{Contents}
 
--- What a push of these bytes comes to: they have passed too, or nothing changes.
-abbrev pub Passes : Held → Held → List ℕ → Bool → Type 0
-Passes (Held.Lines l) new piece true =
-    HoldsLines new (λ m. (t : List ℕ) → HasPassed l t → HasPassed m (t ++ piece))
-Passes (Held.Lines l) new piece false = new ≡ Held.Lines l
-Passes Held.Nothing new piece pushed = (pushed ≡ false) × (new ≡ Held.Nothing)
-Passes (Held.Parser p) new piece pushed = (pushed ≡ false) × (new ≡ Held.Parser p)
-Passes (Held.Document v) new piece pushed = (pushed ≡ false) × (new ≡ Held.Document v)
+-- What a push of this chunk comes to: its bytes passed too. If it failed, nothing changed: the number of bytes would be
+-- too large, or memory ran out, for a chunk with a line feed.
+abbrev pub PassesOn : Passed → Passed → List ℕ → Bool → Type 0
+PassesOn l m chunk true =
+    ((t : List ℕ) → HasPassed l t → HasPassed m (t ++ chunk)) × (l.count + length chunk < 2 ^ 64)
+PassesOn l m chunk false = (m ≡ l) × ((2 ^ 64 ≤ l.count + length chunk) ⊎ Contains chunk 10)
+
+-- The same of what a handle holds; if that is no line index, the push fails and nothing changes.
+abbrev pub Passes : Contents → Contents → List ℕ → Bool → Type 0
+Passes old new chunk pushed =
+    MatchLines old ((pushed ≡ false) × (new ≡ old)) (λ l. HoldsLines new (λ m. PassesOn l m chunk pushed))

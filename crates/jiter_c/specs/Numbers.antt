@@ -18,14 +18,14 @@ IsUnsigned (number.big t) None = IsSmallNumeral t → ⊥
 IsUnsigned (number.float t) told = Unit {0}
 
 -- The same, as a call tells it.
-abbrev pub IsToldUnsigned : Option ℕ → Bool → ℕ → Type 0
-IsToldUnsigned (Some n) fits value = (fits ≡ true) × (value ≡ n)
-IsToldUnsigned None fits value = (fits ≡ false) × (value ≡ 0)
+abbrev pub WritesUnsigned : Option ℕ → Bool → ℕ → Type 0
+WritesUnsigned (Some n) fits value = (fits ≡ true) × (value ≡ n)
+WritesUnsigned None fits value = (fits ≡ false) × (value ≡ 0)
 
-abbrev pub TellsUnsigned : Reply Number → Bool → Bool → ℕ → ℕ → Type 0
-TellsUnsigned (gave n e) before fits old value =
-    (told : Option ℕ) × IsUnsigned n told × IsToldUnsigned told fits value
-TellsUnsigned (refused c i stop) before fits old value = (fits ≡ before) × (value ≡ old)
+abbrev pub ReportsUnsigned : Reply Number → Bool → Bool → ℕ → ℕ → Type 0
+ReportsUnsigned (gave n e) before fits old value =
+    (told : Option ℕ) × IsUnsigned n told × WritesUnsigned told fits value
+ReportsUnsigned (refused c i stop) before fits old value = (fits ≡ before) × (value ≡ old)
 
 -- if a reply gave something, P of it
 abbrev pub IfGiven : {A : Type 0} → Reply A → (A → Type 0) → Type 0

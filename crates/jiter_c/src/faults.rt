@@ -1,15 +1,11 @@
-//! Errors as C sees them, their texts, and lines and columns.
-ghost use Rattle.std.specs.Prelude.{◌≡◌, false, true, IfSome, List, ℕ, length, count_by};
-ghost use Rattle.jiter.specs.Cause.{Cause, cause_text};
+//! Errors as C sees them, and lines and columns.
+ghost use Rattle.std.specs.Prelude.{◌≡◌, count_by};
 ghost use Rattle.jiter.specs.Errors.{cause_of, type_of};
 ghost use Rattle.jiter_scan.specs.Kind.{kind_of};
 ghost use Rattle.jiter_scan.specs.Position.{position_of};
-ghost use Rattle.jiter_c.specs.Faults.{Describes, begins_character, character_column, TellsOf, fault_of, kind_number, misuse, position_view, type_number};
-ghost use Rattle.jiter_c.specs.Told.{written};
+ghost use Rattle.jiter_c.specs.Faults.{begins_character, character_column, fault_of, kind_number, misuse, position_view, type_number};
 
-use crate::texts::write_prefix;
-use jiter::{Jiter, JiterError, JiterErrorType, JsonErrorType, JsonType, LinePosition};
-use std::alloc::Global;
+use jiter::{JiterError, JiterErrorType, JsonErrorType, JsonType, LinePosition};
 
 /// The kind of an error if the next value has another type. Kinds 1 to 21 are errors of the bytes; 22 is out of memory.
 pub const WRONG_TYPE: u32 = 100;
@@ -112,135 +108,6 @@ pub fn fault_of(error: &JiterError) -> JiterFault
             actual: type_number(actual),
             index: error.index,
         },
-    }
-}
-
-fn kind_numbered(number: u32) -> Option<JsonErrorType>
-    ensures { IfSome result (λ kind. number ≡ kind_number (kind_of kind)) }
-{
-    match number {
-        1 => Some(JsonErrorType::FloatExpectingInt),
-        2 => Some(JsonErrorType::EofWhileParsingList),
-        3 => Some(JsonErrorType::EofWhileParsingObject),
-        4 => Some(JsonErrorType::EofWhileParsingString),
-        5 => Some(JsonErrorType::EofWhileParsingValue),
-        6 => Some(JsonErrorType::ExpectedColon),
-        7 => Some(JsonErrorType::ExpectedListCommaOrEnd),
-        8 => Some(JsonErrorType::ExpectedObjectCommaOrEnd),
-        9 => Some(JsonErrorType::ExpectedSomeIdent),
-        10 => Some(JsonErrorType::ExpectedSomeValue),
-        11 => Some(JsonErrorType::InvalidEscape),
-        12 => Some(JsonErrorType::InvalidNumber),
-        13 => Some(JsonErrorType::NumberOutOfRange),
-        14 => Some(JsonErrorType::InvalidUnicodeCodePoint),
-        15 => Some(JsonErrorType::ControlCharacterWhileParsingString),
-        16 => Some(JsonErrorType::KeyMustBeAString),
-        17 => Some(JsonErrorType::LoneLeadingSurrogateInHexEscape),
-        18 => Some(JsonErrorType::TrailingComma),
-        19 => Some(JsonErrorType::TrailingCharacters),
-        20 => Some(JsonErrorType::UnexpectedEndOfHexEscape),
-        21 => Some(JsonErrorType::RecursionLimitExceeded),
-        22 => Some(JsonErrorType::OutOfMemory),
-        _ => None,
-    }
-}
-
-fn type_numbered(number: u32) -> Option<JsonType>
-    ensures { IfSome result (λ name. number ≡ type_number (type_of name)) }
-{
-    match number {
-        1 => Some(JsonType::Null),
-        2 => Some(JsonType::Bool),
-        3 => Some(JsonType::Int),
-        4 => Some(JsonType::Float),
-        5 => Some(JsonType::String),
-        6 => Some(JsonType::Array),
-        7 => Some(JsonType::Object),
-        _ => None,
-    }
-}
-
-fn cause_numbered(fault: &JiterFault) -> Option<JiterErrorType>
-    ensures { IfSome result (λ cause. TellsOf fault.now (cause_of cause)) }
-{
-    if fault.kind == WRONG_TYPE {
-        let expected = type_numbered(fault.expected)?;
-        let actual = type_numbered(fault.actual)?;
-        Some(JiterErrorType::WrongType { expected, actual })
-    } else {
-        let kind = kind_numbered(fault.kind)?;
-        Some(JiterErrorType::JsonError(kind))
-    }
-}
-
-/// Writes an error as `CAUSE at line L column C` to `out`.
-///
-/// `out` gets as much of the text as fits, `whole` its complete length. Pass the bytes that the error is about.
-///
-/// # Errors
-///
-/// Returns `false` and writes nothing:
-///
-/// - if `fault` has no kind of `jiter_c.h`, or the kind [`WRONG_TYPE`] and not two types of `jiter_c.h`
-/// - if an allocation fails
-#[unsafe(no_mangle)]
-pub extern "C" fn jiter_describe(
-    alloc: Global,
-    bytes: &[u8],
-    fault: &JiterFault,
-    out: &mut [u8],
-    whole: &mut usize,
-) -> bool
-    ensures text { result ≡ true → (text : List ℕ) × Describes bytes.now fault.now text
-        × (out.new ≡ written text out.old) × (whole.new ≡ length text) }
-    ensures kept { result ≡ false → (out.new ≡ out.old) × (whole.new ≡ whole.old) }
-{
-    let Some(error_type) = cause_numbered(fault) else {
-        return false;
-    };
-    let error = JiterError {
-        error_type,
-        index: fault.index,
-    };
-    match error.description(alloc, &Jiter::new(bytes)) {
-        Ok(text) => {
-            *whole = write_prefix(out, text.as_bytes());
-            true
-        }
-        Err(_) => false,
-    }
-}
-
-/// Writes the cause of an error, without its place, to `out`: what [`jiter_describe`] writes before ` at line`.
-///
-/// `out` gets as much of the text as fits, `whole` its complete length.
-///
-/// # Errors
-///
-/// Returns `false` and writes nothing:
-///
-/// - if `fault` has no kind of `jiter_c.h` from 1 to 22, or the kind [`WRONG_TYPE`] and not two types of `jiter_c.h`
-/// - if an allocation fails
-#[unsafe(no_mangle)]
-pub extern "C" fn jiter_cause(
-    alloc: Global,
-    fault: &JiterFault,
-    out: &mut [u8],
-    whole: &mut usize,
-) -> bool
-    ensures text { result ≡ true → (c : Cause) × TellsOf fault.now c
-        × (out.new ≡ written (cause_text c) out.old) × (whole.new ≡ length (cause_text c)) }
-    ensures kept { result ≡ false → (out.new ≡ out.old) × (whole.new ≡ whole.old) }
-{
-    let Some(cause) = cause_numbered(fault) else {
-        return false;
-    };
-    match cause.to_string(alloc) {
-        Ok(text) => {
-            *whole = write_prefix(out, text.as_bytes());
-            true
-        }
-        Err(_) => false,
     }
 }
 

@@ -1,7 +1,7 @@
 //! Values that own memory and that C keeps: each is in a box, and C has a handle of it.
 ghost use Rattle.std.specs.Prelude.{◌≡◌};
-ghost use Rattle.jiter_c.specs.declared.handles.Held.{Held};
-ghost use Rattle.jiter_c.specs.Handles.{held_coded, held_owns};
+ghost use Rattle.jiter_c.specs.declared.handles.Contents.{Contents};
+ghost use Rattle.jiter_c.specs.Handles.{contents_coded, contents_owns};
 
 mod parts;
 
@@ -13,7 +13,7 @@ use std::marker::Model;
 
 /// What a handle holds.
 #[derive(Drop)]
-pub enum Held {
+pub enum Contents {
     /// Nothing: the handle is new, or what it held was moved out.
     Nothing,
     /// A parser.
@@ -27,61 +27,61 @@ pub enum Held {
 /// A handle: one pointer, which the caller keeps and never reads. The allocator has no bytes.
 #[repr(C)]
 pub struct JiterHandle {
-    at: *mut u8,
+    pointer: *mut u8,
     alloc: Global,
-    pub ghost value: { Held } by { held_coded },
+    pub ghost value: { Contents } by { contents_coded },
 }
 
 impl Model for JiterHandle {
-    ghost also_owns = { λ h. held_owns h.alloc h.at h.value };
+    ghost also_owns = { λ h. contents_owns h.alloc h.pointer h.value };
 }
 
-fn into_parts(handle: JiterHandle) -> Parts<Held, Global>
+fn into_parts(handle: JiterHandle) -> Parts<Contents, Global>
     ensures { result.value ≡ handle.value }
 {
-    let JiterHandle { at, alloc } = handle;
+    let JiterHandle { pointer, alloc } = handle;
     Parts {
-        ptr: at as *mut Held,
+        ptr: pointer as *mut Contents,
         alloc,
     }
 }
 
-fn of_parts(parts: Parts<Held, Global>) -> JiterHandle
+fn of_parts(parts: Parts<Contents, Global>) -> JiterHandle
     ensures { result.value ≡ parts.value }
 {
     let Parts { ptr, alloc } = parts;
     JiterHandle {
-        at: ptr as *mut u8,
+        pointer: ptr as *mut u8,
         alloc,
     }
 }
 
 /// Returns the box of the handle.
-pub fn open(handle: JiterHandle) -> Box<Held>
+pub fn open(handle: JiterHandle) -> Box<Contents>
     ensures { result.value ≡ handle.value }
 {
     into_parts(handle).into_box()
 }
 
 /// Returns the handle of a box.
-pub fn close(held: Box<Held>) -> JiterHandle
-    ensures { result.value ≡ held.value }
+pub fn close(contents: Box<Contents>) -> JiterHandle
+    ensures { result.value ≡ contents.value }
 {
-    of_parts(Parts::of(held))
+    of_parts(Parts::of(contents))
 }
 
 /// Gives the handle this value. What it held before is freed.
-pub fn filled(handle: JiterHandle, value: Held) -> JiterHandle
+pub fn filled(handle: JiterHandle, value: Contents) -> JiterHandle
     ensures { result.value ≡ value }
 {
-    let mut held = open(handle);
-    *held = value;
-    close(held)
+    let mut contents = open(handle);
+    *contents = value;
+    close(contents)
 }
 
-/// Writes a new handle, which holds nothing, to `at`.
+/// Writes a new handle, which holds nothing, to `pointer`.
 ///
-/// No clause can say that `at` then is a handle: the calls that fill a handle say what it holds.
+/// No clause can say that `pointer` then is a handle: the calls that fill a handle say what it holds.
 ///
 /// # Errors
 ///
@@ -89,10 +89,10 @@ pub fn filled(handle: JiterHandle, value: Held) -> JiterHandle
 ///
 /// - if an allocation fails
 #[unsafe(no_mangle)]
-pub extern "C" fn jiter_handle_new(alloc: Global, at: &mut *mut u8) -> bool {
-    match Box::new(alloc, Held::Nothing) {
-        Ok(held) => {
-            *at = Box::into_raw(held) as *mut u8;
+pub extern "C" fn jiter_handle_new(alloc: Global, pointer: &mut *mut u8) -> bool {
+    match Box::new(alloc, Contents::Nothing) {
+        Ok(contents) => {
+            *pointer = Box::into_raw(contents) as *mut u8;
             true
         }
         Err(_) => false,

@@ -1,10 +1,11 @@
 //! The reader's steps through objects.
-ghost use Rattle.std.specs.Prelude.{◌≡◌, length};
+ghost use Rattle.std.specs.Prelude.{◌≡◌, false, length};
 ghost use Rattle.jiter.specs.Jiter.{reply_seen};
-ghost use Rattle.jiter_steps.specs.StringDecoder.{WantsMemory};
+ghost use Rattle.jiter.specs.Reader.{value_place};
+ghost use Rattle.jiter.specs.Reads.{first_key_memory, next_key_memory};
 ghost use Rattle.jiter_steps.specs.StringReading.{raw, whole};
-ghost use Rattle.jiter_c.specs.Replies.{has_part, key_reply, object_reply, or_empty};
-ghost use Rattle.jiter_c.specs.Told.{Tells, UnlessMemory, WhereMemory, given_or, written};
+ghost use Rattle.jiter_c.specs.Replies.{has_part, key_reply, object_reply, or_empty, state_of};
+ghost use Rattle.jiter_c.specs.Reports.{Reports, RunsOutAt, UnlessMemory, WhereMemory, given_or, written};
 
 use crate::faults::{JiterFault, fault_of};
 use crate::reader::{JiterReader, jiter_at};
@@ -31,18 +32,17 @@ pub extern "C" fn jiter_next_object(
     count: &mut usize,
     fault: &mut JiterFault,
 ) -> bool
-    ensures told { UnlessMemory result fault.new
-        (Tells (object_reply whole reader.old) result reader.old reader.new fault.old fault.new) }
+    ensures reports { UnlessMemory result fault.new
+        (Reports (object_reply whole reader.old) result reader.old reader.new fault.old fault.new) }
     ensures more { UnlessMemory result fault.new
         (more.new ≡ given_or more.old (reply_seen has_part (object_reply whole reader.old))) }
     ensures key { UnlessMemory result fault.new (out.new ≡ given_or out.old
         (reply_seen (λ key. written (or_empty key) out.old) (object_reply whole reader.old))) }
     ensures count { UnlessMemory result fault.new (count.new ≡ given_or count.old
         (reply_seen (λ key. length (or_empty key)) (object_reply whole reader.old))) }
-    ensures memory { WhereMemory result fault.new
-        (WantsMemory reader.old.bytes.now fault.new.index) }
-    ensures place { WhereMemory result fault.new
-        (reader.new ≡ record reader.old { index = fault.new.index }) }
+    ensures memory { WhereMemory result fault.new (RunsOutAt
+        (first_key_memory reader.old.bytes.now (value_place (state_of reader.old))) reader.old reader.new fault.new) }
+    ensures kept { result ≡ false → (more.new ≡ more.old) × (out.new ≡ out.old) × (count.new ≡ count.old) }
 {
     let mut jiter = jiter_at(reader);
     let given = match jiter.next_object(alloc) {
@@ -80,8 +80,8 @@ pub extern "C" fn jiter_next_key(
     count: &mut usize,
     fault: &mut JiterFault,
 ) -> bool
-    ensures told { UnlessMemory result fault.new
-        (Tells (key_reply whole reader.old) result reader.old reader.new fault.old fault.new) }
+    ensures reports { UnlessMemory result fault.new
+        (Reports (key_reply whole reader.old) result reader.old reader.new fault.old fault.new) }
     ensures more { UnlessMemory result fault.new
         (more.new ≡ given_or more.old (reply_seen has_part (key_reply whole reader.old))) }
     ensures key { UnlessMemory result fault.new (out.new ≡ given_or out.old
@@ -89,9 +89,8 @@ pub extern "C" fn jiter_next_key(
     ensures count { UnlessMemory result fault.new (count.new ≡ given_or count.old
         (reply_seen (λ key. length (or_empty key)) (key_reply whole reader.old))) }
     ensures memory { WhereMemory result fault.new
-        (WantsMemory reader.old.bytes.now fault.new.index) }
-    ensures place { WhereMemory result fault.new
-        (reader.new ≡ record reader.old { index = fault.new.index }) }
+        (RunsOutAt (next_key_memory (state_of reader.old)) reader.old reader.new fault.new) }
+    ensures kept { result ≡ false → (more.new ≡ more.old) × (out.new ≡ out.old) × (count.new ≡ count.old) }
 {
     let mut jiter = jiter_at(reader);
     let given = match jiter.next_key(alloc) {
@@ -125,7 +124,7 @@ pub extern "C" fn jiter_next_object_bytes<'j>(
     key: &mut JiterText<'j>,
     fault: &mut JiterFault,
 ) -> bool
-    ensures told { Tells (object_reply raw reader.old) result reader.old reader.new
+    ensures reports { Reports (object_reply raw reader.old) result reader.old reader.new
         fault.old fault.new }
     ensures more { more.new
         ≡ given_or more.old (reply_seen has_part (object_reply raw reader.old)) }
@@ -166,7 +165,7 @@ pub extern "C" fn jiter_next_key_bytes<'j>(
     key: &mut JiterText<'j>,
     fault: &mut JiterFault,
 ) -> bool
-    ensures told { Tells (key_reply raw reader.old) result reader.old reader.new
+    ensures reports { Reports (key_reply raw reader.old) result reader.old reader.new
         fault.old fault.new }
     ensures more { more.new ≡ given_or more.old (reply_seen has_part (key_reply raw reader.old)) }
     ensures key { key.new.bytes.now

@@ -3,6 +3,7 @@
 //! error has written nothing except `fault` and the reader's position.
 #![tactic(auto)]
 
+mod descriptions;
 mod document_texts;
 mod documents;
 mod faults;

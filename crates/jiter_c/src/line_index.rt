@@ -1,13 +1,13 @@
 //! Lines and columns of a document in chunks, for C.
-ghost use Rattle.std.specs.Prelude.{◌≡◌, [], List, Some, true, ℕ};
+ghost use Rattle.std.specs.Prelude.{◌≡◌, [], List, None, Some, false, true, ℕ};
 ghost use Rattle.jiter_incremental.specs.LineIndex.{HasPassed};
 ghost use Rattle.jiter_scan.specs.Position.{position_of};
 ghost use Rattle.jiter_c.specs.Faults.{position_view};
-ghost use Rattle.jiter_c.specs.Holding.{HoldsLines, IfLines};
+ghost use Rattle.jiter_c.specs.Holding.{HoldsLines, MatchLines};
 ghost use Rattle.jiter_c.specs.Lines.{Passes};
 
 use crate::faults::JiterPosition;
-use crate::handles::{Held, JiterHandle, close, filled, open};
+use crate::handles::{Contents, JiterHandle, close, filled, open};
 use core::mem::replace_with;
 use jiter::LinePosition;
 use jiter_incremental::LineIndex;
@@ -18,19 +18,19 @@ use std::alloc::Global;
 pub extern "C" fn jiter_lines_begin(alloc: Global, handle: &mut JiterHandle)
     ensures { HoldsLines handle.new.value (λ l. HasPassed l []) }
 {
-    let lines = Held::Lines(LineIndex::new(alloc));
+    let lines = Contents::Lines(LineIndex::new(alloc));
     replace_with(handle, lines, |handle, lines| (filled(handle, lines), ()))
 }
 
-fn passed(handle: JiterHandle, piece: &[u8]) -> (JiterHandle, bool)
-    ensures { Passes handle.value result.0.value piece.now result.1 }
+fn push_handle(handle: JiterHandle, chunk: &[u8]) -> (JiterHandle, bool)
+    ensures { Passes handle.value result.0.value chunk.now result.1 }
 {
-    let mut held = open(handle);
-    let done = match &mut *held {
-        Held::Lines(lines) => lines.push(piece).is_ok(),
+    let mut contents = open(handle);
+    let done = match &mut *contents {
+        Contents::Lines(lines) => lines.push(chunk).is_ok(),
         _ => false,
     };
-    (close(held), done)
+    (close(contents), done)
 }
 
 /// Takes a chunk: the bytes that follow those so far.
@@ -42,26 +42,26 @@ fn passed(handle: JiterHandle, piece: &[u8]) -> (JiterHandle, bool)
 /// - if an allocation fails, only for a chunk with a line feed
 /// - if the number of bytes would exceed the largest `size_t`, or the handle holds no line index
 #[unsafe(no_mangle)]
-pub extern "C" fn jiter_lines_push(handle: &mut JiterHandle, piece: &[u8]) -> bool
-    ensures { Passes handle.old.value handle.new.value piece.now result }
+pub extern "C" fn jiter_lines_push(handle: &mut JiterHandle, chunk: &[u8]) -> bool
+    ensures { Passes handle.old.value handle.new.value chunk.now result }
 {
-    replace_with(handle, piece, |handle, piece| passed(handle, piece))
+    replace_with(handle, chunk, |handle, chunk| push_handle(handle, chunk))
 }
 
-fn found(handle: JiterHandle, index: usize) -> (JiterHandle, Option<JiterPosition>)
+fn position_in(handle: JiterHandle, index: usize) -> (JiterHandle, Option<JiterPosition>)
     ensures same { result.0.value ≡ handle.value }
-    ensures position { IfLines handle.value (λ l. (t : List ℕ) → HasPassed l t
+    ensures position { MatchLines handle.value (result.1 ≡ None) (λ l. (t : List ℕ) → HasPassed l t
         → result.1 ≡ Some (position_view (position_of t index))) }
 {
-    let held = open(handle);
-    let position = match &*held {
-        Held::Lines(lines) => {
+    let contents = open(handle);
+    let position = match &*contents {
+        Contents::Lines(lines) => {
             let LinePosition { line, column } = lines.position(index);
             Some(JiterPosition { line, column })
         }
         _ => None,
     };
-    (close(held), position)
+    (close(contents), position)
 }
 
 /// Writes the line and column of a byte index in all bytes so far to `position`, as [`crate::faults::jiter_position`]
@@ -73,12 +73,13 @@ pub extern "C" fn jiter_lines_position(
     position: &mut JiterPosition,
 ) -> bool
     ensures same { handle.new.value ≡ handle.old.value }
-    ensures position { IfLines handle.old.value (λ l. (t : List ℕ) → HasPassed l t
+    ensures position { MatchLines handle.old.value ((result ≡ false) × (position.new ≡ position.old))
+        (λ l. (t : List ℕ) → HasPassed l t
         → (result ≡ true) × (position.new ≡ position_view (position_of t index))) }
 {
-    match replace_with(handle, index, |handle, index| found(handle, index)) {
-        Some(place) => {
-            *position = place;
+    match replace_with(handle, index, |handle, index| position_in(handle, index)) {
+        Some(found) => {
+            *position = found;
             true
         }
         None => false,

@@ -6,13 +6,14 @@ ghost use Rattle.jiter.specs.Jiter.{MovesOn, key_bytes, reply_seen};
 ghost use Rattle.jiter.specs.Jiter.{UnlessMemory as UnlessRefused, WhereMemory as WhereRefused};
 ghost use Rattle.jiter.specs.Parts.{LedTo, RefusedAfter, StandsNext, count_parts, last_named, numbered};
 ghost use Rattle.jiter.specs.Reader.{next, object_read, skip_read, value_place};
-ghost use Rattle.jiter.specs.Reads.{Reads, never};
+ghost use Rattle.jiter.specs.Reads.{Reads, never, only_at};
 ghost use Rattle.jiter_steps.specs.Node.{IsContainer, Node, NodeMembers, Nodes, begin};
 ghost use Rattle.jiter_steps.specs.StringDecoder.{WantsMemory};
 ghost use Rattle.jiter_steps.specs.StringReading.{whole};
-ghost use Rattle.jiter_c.specs.Parts.{IfRefused, RefusedSo, TellsGo, first_part, into_read, next_part};
+ghost use Rattle.jiter_c.specs.Parts.{CountsParts, FindsItem, FindsMember, MembersPassed};
+ghost use Rattle.jiter_c.specs.Parts.{IfRefused, RefusedSo, ReportsWalk, first_part, into_read, next_part};
 ghost use Rattle.jiter_c.specs.Replies.{array_reply, next_reply, object_reply, state_of};
-ghost use Rattle.jiter_c.specs.Told.{Tells, UnlessMemory, WhereMemory, fault_or};
+ghost use Rattle.jiter_c.specs.Reports.{Reports, RunsOutAt, UnlessMemory, WhereMemory, fault_or};
 
 use crate::faults::{JiterFault, fault_of};
 use crate::reader::{JiterReader, jiter_at};
@@ -46,6 +47,7 @@ fn count_parts(reader: &JiterReader<'_>) -> JiterResult<u64>
     ensures refusal { IfErr result (λ e. (stop : ℕ)
         × RefusedAfter (state_of reader.now) (cause_of e.error_type) e.index stop) }
     ensures into { (stop : ℕ) × RefusedSo (next_reply reader.now into_read) result stop }
+    ensures walked { IfOk result (CountsParts (state_of reader.now)) }
 {
     let mut jiter = jiter_at(reader);
     let object = jiter.peek()? == Peek::Object;
@@ -78,9 +80,10 @@ pub extern "C" fn jiter_count(
 ) -> bool
     ensures counts { (n : Node) → StandsNext (state_of reader.now) n → IsContainer n
         → (result ≡ true) × (count.new ≡ count_parts n) }
-    ensures told { (stop : ℕ) × TellsGo (state_of reader.now) result stop fault.old fault.new }
+    ensures reports { (stop : ℕ) × ReportsWalk (state_of reader.now) result stop fault.old fault.new }
     ensures into { IfRefused (next_reply reader.now into_read) ((result ≡ false)
         × (fault.new ≡ fault_or fault.old (next_reply reader.now into_read))) }
+    ensures walked { result ≡ true → CountsParts (state_of reader.now) count.new }
     ensures kept { result ≡ false → count.new ≡ count.old }
 {
     match count_parts(reader) {
@@ -102,6 +105,7 @@ fn find_item(jiter: &mut Jiter<'_>, number: u64) -> JiterResult<bool>
     ensures refusal { IfErr result
         (λ e. RefusedAfter jiter.old (cause_of e.error_type) e.index jiter.new.position) }
     ensures into { RefusedSo (first_part false jiter.old) result jiter.new.position }
+    ensures walked { IfOk result (λ found. FindsItem jiter.old number found jiter.new.position) }
 {
     let mut before = number;
     let mut item = jiter.next_array()?;
@@ -138,9 +142,10 @@ pub extern "C" fn jiter_item(
 ) -> bool
     ensures led { (b e : ℕ) → (ns : Nodes) → StandsNext (state_of reader.old) (Node.array b e ns)
         → (result ≡ true) × LedTo (numbered number ns) e found.new reader.new.index }
-    ensures told { TellsGo (state_of reader.old) result reader.new.index fault.old fault.new }
+    ensures reports { ReportsWalk (state_of reader.old) result reader.new.index fault.old fault.new }
     ensures into { IfRefused (array_reply reader.old)
-        (Tells (array_reply reader.old) result reader.old reader.new fault.old fault.new) }
+        (Reports (array_reply reader.old) result reader.old reader.new fault.old fault.new) }
+    ensures walked { result ≡ true → FindsItem (state_of reader.old) number found.new reader.new.index }
     ensures kept { result ≡ false → found.new ≡ found.old }
     ensures reader { reader.new ≡ record reader.old { index = reader.new.index } }
 {
@@ -186,6 +191,8 @@ fn last_member(alloc: Global, jiter: &mut Jiter<'_>, name: &[u8]) -> JiterResult
         (λ e. RefusedAfter jiter.old (cause_of e.error_type) e.index jiter.new.position)) }
     ensures into { UnlessRefused result (RefusedSo
         (reply_seen key_bytes (next jiter.old (object_read whole jiter.old))) result jiter.new.position) }
+    ensures walked { IfOk result
+        (λ place. MembersPassed name.now jiter.old None place jiter.new.position) }
     ensures memory { WhereRefused result (λ e. WantsMemory jiter.old.text e.index) }
     ensures place { WhereRefused result (λ e. jiter.new.position ≡ e.index) }
 {
@@ -226,15 +233,16 @@ pub extern "C" fn jiter_member(
     ensures led { (b e : ℕ) → (ms : NodeMembers) → StandsNext (state_of reader.old) (Node.object b e ms)
         → UnlessMemory result fault.new ((result ≡ true)
         × LedTo (last_named reader.old.bytes.now name.now None ms) e found.new reader.new.index) }
-    ensures told { UnlessMemory result fault.new
-        (TellsGo (state_of reader.old) result reader.new.index fault.old fault.new) }
+    ensures reports { UnlessMemory result fault.new
+        (ReportsWalk (state_of reader.old) result reader.new.index fault.old fault.new) }
     ensures into { UnlessMemory result fault.new (IfRefused (object_reply whole reader.old)
-        (Tells (object_reply whole reader.old) result reader.old reader.new fault.old fault.new)) }
+        (Reports (object_reply whole reader.old) result reader.old reader.new fault.old fault.new)) }
+    ensures walked { result ≡ true
+        → FindsMember name.now (state_of reader.old) found.new reader.new.index }
     ensures kept { result ≡ false → found.new ≡ found.old }
     ensures reader { reader.new ≡ record reader.old { index = reader.new.index } }
-    ensures memory { WhereMemory result fault.new
-        (WantsMemory reader.old.bytes.now fault.new.index) }
-    ensures place { WhereMemory result fault.new (reader.new.index ≡ fault.new.index) }
+    ensures memory { WhereMemory result fault.new (RunsOutAt
+        (only_at (λ i. WantsMemory reader.old.bytes.now i)) reader.old reader.new fault.new) }
 {
     let mut jiter = jiter_at(reader);
     let read = last_member(alloc, &mut jiter, name);

@@ -6,7 +6,7 @@ ghost use Rattle.jiter.specs.Reader.{finish, skip_read};
 ghost use Rattle.jiter_steps.specs.Literal.{start_of};
 ghost use Rattle.jiter_c.specs.Faults.{fault_of};
 ghost use Rattle.jiter_c.specs.Replies.{next_reply, peek_reply, start_number, state_of};
-ghost use Rattle.jiter_c.specs.Told.{Tells, given_or};
+ghost use Rattle.jiter_c.specs.Reports.{Reports, given_or};
 
 use crate::faults::{JiterFault, fault_of};
 use jiter::{Jiter, JiterResult, Peek};
@@ -52,7 +52,7 @@ pub extern "C" fn jiter_peek(
     start: &mut u32,
     fault: &mut JiterFault,
 ) -> bool
-    ensures told { Tells (peek_reply reader.old) result reader.old reader.new fault.old fault.new }
+    ensures reports { Reports (peek_reply reader.old) result reader.old reader.new fault.old fault.new }
     ensures value { start.new ≡ given_or start.old (peek_reply reader.old) }
     ensures again { peek_reply reader.new ≡ peek_reply reader.old }
 {
@@ -95,12 +95,12 @@ fn start_number(peek: Peek) -> u32
 /// - the error that [`jiter::Jiter::next_skip`] returns; the reader is then where that call leaves it
 #[unsafe(no_mangle)]
 pub extern "C" fn jiter_next_skip(reader: &mut JiterReader<'_>, fault: &mut JiterFault) -> bool
-    ensures { Tells (next_reply reader.old skip_read) result reader.old reader.new fault.old fault.new }
+    ensures { Reports (next_reply reader.old skip_read) result reader.old reader.new fault.old fault.new }
 {
     let mut jiter = jiter_at(reader);
     let read = jiter.next_skip();
     reader.index = jiter.current_index();
-    tell(read, fault)
+    report(read, fault)
 }
 
 /// Checks that only whitespace is left, and moves to the end.
@@ -112,15 +112,15 @@ pub extern "C" fn jiter_next_skip(reader: &mut JiterReader<'_>, fault: &mut Jite
 /// - the error that [`jiter::Jiter::finish`] returns; the reader is then at the byte that is left
 #[unsafe(no_mangle)]
 pub extern "C" fn jiter_finish(reader: &mut JiterReader<'_>, fault: &mut JiterFault) -> bool
-    ensures { Tells (finish (state_of reader.old)) result reader.old reader.new fault.old fault.new }
+    ensures { Reports (finish (state_of reader.old)) result reader.old reader.new fault.old fault.new }
 {
     let mut jiter = jiter_at(reader);
     let read = jiter.finish();
     reader.index = jiter.current_index();
-    tell(read, fault)
+    report(read, fault)
 }
 
-pub fn tell(read: JiterResult<()>, fault: &mut JiterFault) -> bool
+pub fn report(read: JiterResult<()>, fault: &mut JiterFault) -> bool
     ensures ok { OnOk read ((result ≡ true) × (fault.new ≡ fault.old)) }
     ensures err { IfErr read (λ e. (result ≡ false)
         × (fault.new ≡ fault_of (cause_of e.error_type) e.index)) }

@@ -4,14 +4,14 @@ ghost use Rattle.std.specs.Float.{binary64, float_is_finite};
 ghost use Rattle.fast_float.specs.Parse.{parse_float};
 ghost use Rattle.jiter.specs.Jiter.{reply_seen};
 ghost use Rattle.jiter.specs.Reader.{bool_read, null_read, number_bytes_read, number_read, value_place};
+ghost use Rattle.jiter.specs.Reads.{string_memory};
 ghost use Rattle.jiter_scan.specs.NumberDecoder.{int_view, number_view};
-ghost use Rattle.jiter_steps.specs.StringDecoder.{WantsMemory};
 ghost use Rattle.jiter_c.specs.Replies.{bytes_reply, int_reply, is_small, next_reply, small_value, state_of, str_reply};
-ghost use Rattle.jiter_c.specs.Numbers.{IfGiven, IsNumber, IsUnsigned, TellsUnsigned};
-ghost use Rattle.jiter_c.specs.Told.{Tells, UnlessMemory, WhereMemory, given_or, written};
+ghost use Rattle.jiter_c.specs.Numbers.{IfGiven, IsNumber, IsUnsigned, ReportsUnsigned};
+ghost use Rattle.jiter_c.specs.Reports.{Reports, RunsOutAt, UnlessMemory, WhereMemory, given_or, written};
 
 use crate::faults::{JiterFault, fault_of};
-use crate::reader::{JiterReader, jiter_at, tell};
+use crate::reader::{JiterReader, jiter_at, report};
 use crate::texts::{JiterText, write_prefix};
 use jiter::{NumberAny, NumberInt};
 use std::alloc::Global;
@@ -25,13 +25,13 @@ use std::alloc::Global;
 /// - the error that [`jiter::Jiter::next_null`] returns; the reader is then at the value's first byte, or the end
 #[unsafe(no_mangle)]
 pub extern "C" fn jiter_next_null(reader: &mut JiterReader<'_>, fault: &mut JiterFault) -> bool
-    ensures told { Tells (next_reply reader.old null_read) result reader.old reader.new fault.old fault.new }
+    ensures reports { Reports (next_reply reader.old null_read) result reader.old reader.new fault.old fault.new }
     ensures stays { result ≡ false → reader.new.index ≡ value_place (state_of reader.old) }
 {
     let mut jiter = jiter_at(reader);
     let read = jiter.next_null();
     reader.index = jiter.current_index();
-    tell(read, fault)
+    report(read, fault)
 }
 
 /// Reads `true` or `false` and writes it to `value`.
@@ -47,7 +47,7 @@ pub extern "C" fn jiter_next_bool(
     value: &mut bool,
     fault: &mut JiterFault,
 ) -> bool
-    ensures told { Tells (next_reply reader.old bool_read) result reader.old reader.new fault.old fault.new }
+    ensures reports { Reports (next_reply reader.old bool_read) result reader.old reader.new fault.old fault.new }
     ensures value { value.new ≡ given_or value.old (next_reply reader.old bool_read) }
     ensures stays { result ≡ false → reader.new.index ≡ value_place (state_of reader.old) }
 {
@@ -83,7 +83,7 @@ pub extern "C" fn jiter_next_int(
     value: &mut i64,
     fault: &mut JiterFault,
 ) -> bool
-    ensures told { Tells (int_reply reader.old) result reader.old reader.new fault.old fault.new }
+    ensures reports { Reports (int_reply reader.old) result reader.old reader.new fault.old fault.new }
     ensures fits { fits.new ≡ given_or fits.old (reply_seen is_small (int_reply reader.old)) }
     ensures value { value.new ≡ given_or value.old (reply_seen small_value (int_reply reader.old)) }
     ensures stays { result ≡ false → reader.new.index ≡ value_place (state_of reader.old) }
@@ -123,7 +123,7 @@ pub extern "C" fn jiter_next_number<'j>(
     text: &mut JiterText<'j>,
     fault: &mut JiterFault,
 ) -> bool
-    ensures told { Tells (next_reply reader.old number_bytes_read) result reader.old reader.new
+    ensures reports { Reports (next_reply reader.old number_bytes_read) result reader.old reader.new
         fault.old fault.new }
     ensures text { text.new.bytes.now
         ≡ given_or text.old.bytes.now (next_reply reader.old number_bytes_read) }
@@ -161,8 +161,8 @@ pub extern "C" fn jiter_next_u64(
     value: &mut u64,
     fault: &mut JiterFault,
 ) -> bool
-    ensures told { Tells (int_reply reader.old) result reader.old reader.new fault.old fault.new }
-    ensures value { TellsUnsigned (int_reply reader.old) fits.old fits.new value.old value.new }
+    ensures reports { Reports (int_reply reader.old) result reader.old reader.new fault.old fault.new }
+    ensures value { ReportsUnsigned (int_reply reader.old) fits.old fits.new value.old value.new }
     ensures stays { result ≡ false → reader.new.index ≡ value_place (state_of reader.old) }
 {
     let mut jiter = jiter_at(reader);
@@ -223,7 +223,7 @@ pub extern "C" fn jiter_next_double(
     finite: &mut bool,
     fault: &mut JiterFault,
 ) -> bool
-    ensures told { Tells (next_reply reader.old number_bytes_read) result reader.old reader.new
+    ensures reports { Reports (next_reply reader.old number_bytes_read) result reader.old reader.new
         fault.old fault.new }
     ensures value { IfGiven (next_reply reader.old number_bytes_read)
         (λ text. MatchOption (parse_float binary64 text)
@@ -332,7 +332,7 @@ pub extern "C" fn jiter_next_any_number<'j>(
     number: &mut JiterNumber<'j>,
     fault: &mut JiterFault,
 ) -> bool
-    ensures told { Tells (next_reply reader.old number_read) result reader.old reader.new fault.old fault.new }
+    ensures reports { Reports (next_reply reader.old number_read) result reader.old reader.new fault.old fault.new }
     ensures number { IfGiven (next_reply reader.old number_read)
         (λ n. IsNumber n number.new.kind number.new.integer number.new.text.bytes.now) }
     ensures kept { result ≡ false → number.new ≡ number.old }
@@ -368,7 +368,7 @@ pub extern "C" fn jiter_next_bytes<'j>(
     text: &mut JiterText<'j>,
     fault: &mut JiterFault,
 ) -> bool
-    ensures told { Tells (bytes_reply reader.old) result reader.old reader.new fault.old fault.new }
+    ensures reports { Reports (bytes_reply reader.old) result reader.old reader.new fault.old fault.new }
     ensures text { text.new.bytes.now ≡ given_or text.old.bytes.now (bytes_reply reader.old) }
     ensures stays { result ≡ false → reader.new.index ≡ value_place (state_of reader.old) }
 {
@@ -407,16 +407,15 @@ pub extern "C" fn jiter_next_str(
     whole: &mut usize,
     fault: &mut JiterFault,
 ) -> bool
-    ensures told { UnlessMemory result fault.new
-        (Tells (str_reply reader.old) result reader.old reader.new fault.old fault.new) }
+    ensures reports { UnlessMemory result fault.new
+        (Reports (str_reply reader.old) result reader.old reader.new fault.old fault.new) }
     ensures text { UnlessMemory result fault.new (out.new
         ≡ given_or out.old (reply_seen (λ text. written text out.old) (str_reply reader.old))) }
     ensures whole { UnlessMemory result fault.new
         (whole.new ≡ given_or whole.old (reply_seen length (str_reply reader.old))) }
-    ensures memory { WhereMemory result fault.new
-        (WantsMemory reader.old.bytes.now (value_place (state_of reader.old))) }
-    ensures place { WhereMemory result fault.new
-        (reader.new ≡ record reader.old { index = value_place (state_of reader.old) }) }
+    ensures memory { WhereMemory result fault.new (RunsOutAt
+        (string_memory reader.old.bytes.now (value_place (state_of reader.old))) reader.old reader.new fault.new) }
+    ensures kept { result ≡ false → (out.new ≡ out.old) × (whole.new ≡ whole.old) }
     ensures stays { UnlessMemory result fault.new
         (result ≡ false → reader.new.index ≡ value_place (state_of reader.old)) }
 {

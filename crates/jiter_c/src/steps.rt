@@ -1,7 +1,7 @@
 //! The reader's steps through arrays.
 ghost use Rattle.std.specs.Prelude.{◌≡◌};
 ghost use Rattle.jiter_c.specs.Replies.{array_reply, item_reply};
-ghost use Rattle.jiter_c.specs.Told.{Tells, given_or};
+ghost use Rattle.jiter_c.specs.Reports.{Reports, given_or};
 
 use crate::faults::{JiterFault, fault_of};
 use crate::reader::{JiterReader, jiter_at};
@@ -21,7 +21,7 @@ pub extern "C" fn jiter_next_array(
     more: &mut bool,
     fault: &mut JiterFault,
 ) -> bool
-    ensures told { Tells (array_reply reader.old) result reader.old reader.new fault.old fault.new }
+    ensures reports { Reports (array_reply reader.old) result reader.old reader.new fault.old fault.new }
     ensures more { more.new ≡ given_or more.old (array_reply reader.old) }
 {
     let mut jiter = jiter_at(reader);
@@ -54,7 +54,7 @@ pub extern "C" fn jiter_array_step(
     more: &mut bool,
     fault: &mut JiterFault,
 ) -> bool
-    ensures told { Tells (item_reply reader.old) result reader.old reader.new fault.old fault.new }
+    ensures reports { Reports (item_reply reader.old) result reader.old reader.new fault.old fault.new }
     ensures more { more.new ≡ given_or more.old (item_reply reader.old) }
 {
     let mut jiter = jiter_at(reader);

@@ -1,6 +1,8 @@
 //! Strings and bytes that C gets: copied to its memory, or borrowed from its bytes.
-ghost use Rattle.std.specs.Prelude.{◌≡◌, ◌≤◌, length};
-ghost use Rattle.jiter_c.specs.Told.{written};
+ghost use Rattle.std.specs.Prelude.{◌≡◌, ◌+◌, ◌^◌, ◌<◌, ◌≤◌, decimal, length};
+ghost use Rattle.jiter_c.specs.Reports.{Appends, written};
+
+use itoa::Buffer;
 
 /// Bytes borrowed from the bytes that the caller passed.
 #[repr(C)]
@@ -18,4 +20,27 @@ pub fn write_prefix(out: &mut [u8], text: &[u8]) -> usize
     let count = text.len().min(out.len());
     out[..count].copy_from_slice(&text[..count]);
     text.len()
+}
+
+/// Writes a text after the first `count` bytes of a longer one, as much of it as fits, and returns the new count.
+pub fn append(out: &mut [u8], count: usize, text: &[u8]) -> usize
+    requires { count + length text.now < 2 ^ 64 }
+    ensures text { Appends count text.now out.old out.new }
+    ensures count { result ≡ count + length text.now }
+{
+    if count < out.len() {
+        write_prefix(&mut out[count..], text);
+        return count + text.len();
+    }
+    count + text.len()
+}
+
+/// Appends a number in decimal digits.
+pub fn append_number(out: &mut [u8], count: usize, number: usize) -> usize
+    requires { count < 2 ^ 32 }
+    ensures text { Appends count (decimal number) out.old out.new }
+    ensures count { result ≡ count + length (decimal number) }
+    ensures short { result ≤ count + 40 }
+{
+    append(out, count, Buffer::new().format(number).as_bytes())
 }

@@ -1,7 +1,6 @@
 //! Documents that C holds by a handle: parsing one, and looking into it.
 ghost use Rattle.std.specs.Prelude.{◌≡◌, pos, MatchOption, None, Some, false};
 ghost use Rattle.std.specs.Prelude.{option_map, true};
-ghost use Rattle.std.specs.Str.{IsUtf8};
 ghost use Rattle.jiter.specs.Cause.{json_error};
 ghost use Rattle.jiter_scan.specs.Kind.{out_of_memory};
 ghost use Rattle.jiter_scan.specs.declared.partial_mode.PartialMode.{PartialMode};
@@ -12,14 +11,14 @@ ghost use Rattle.jiter_value.specs.UniqueErrors.{unique_kind};
 ghost use Rattle.jiter_value.specs.Value.{member_views, view};
 ghost use Rattle.jiter_c.specs.Documents.{mode_numbered};
 ghost use Rattle.jiter_c.specs.Faults.{fault_of, misuse};
-ghost use Rattle.jiter_c.specs.Holding.{IfDocument};
-ghost use Rattle.jiter_c.specs.Values.{Reads, Refuses, TellsDocument, absent, document_reading};
-ghost use Rattle.jiter_c.specs.Values.{member_at, part_at, placed, stepped, value_told};
-ghost use Rattle.jiter_c.specs.declared.handles.Held.{Held};
+ghost use Rattle.jiter_c.specs.Holding.{MatchDocument};
+ghost use Rattle.jiter_c.specs.Values.{Reads, Refuses, ReportsDocument, absent, document_reading};
+ghost use Rattle.jiter_c.specs.Values.{member_at, part_at, placed, stepped, value_report};
+ghost use Rattle.jiter_c.specs.declared.handles.Contents.{Contents};
 
 use crate::documents::{document_fault, mode_numbered};
 use crate::faults::{JiterFault, kind_number, misuse};
-use crate::handles::{Held, JiterHandle, close, filled, open};
+use crate::handles::{Contents, JiterHandle, close, filled, open};
 use core::mem::replace_with;
 use jiter::{JsonErrorType, JsonObject, JsonValue, PartialMode, UniqueError, UniqueErrorType};
 use std::alloc::{AllocError, Global};
@@ -70,28 +69,28 @@ pub fn memory_fault(_failed: AllocError, index: usize) -> JiterFault
     }
 }
 
-#[tactic(auto, using(crate::proofs::Putting::parsed_owned, crate::proofs::Putting::parse_refused))]
+#[tactic(auto, using(crate::proofs::DocumentReports::parsed_owned, crate::proofs::DocumentReports::parse_refused))]
 fn read_any(
     alloc: Global,
     bytes: &[u8],
     allow_inf_nan: bool,
     mode: PartialMode,
-) -> (Held, Option<JiterFault>)
-    ensures read { Reads (answer_in allow_inf_nan mode bytes.now) result.0 result.1 }
+) -> (Contents, Option<JiterFault>)
+    ensures read { Reads bytes.now (answer_in allow_inf_nan mode bytes.now) result.0 result.1 }
 {
     match JsonValue::parse_owned(alloc, bytes, allow_inf_nan, mode) {
-        Ok(value) => (Held::Document(value), None),
-        Err(error) => (Held::Nothing, Some(document_fault(&error))),
+        Ok(value) => (Contents::Document(value), None),
+        Err(error) => (Contents::Nothing, Some(document_fault(&error))),
     }
 }
 
-fn refused(error: UniqueError) -> (Held, Option<JiterFault>)
+fn refused(error: UniqueError) -> (Contents, Option<JiterFault>)
     ensures { Refuses (unique_kind error.error_type) error.index result.0 result.1 }
 {
     let UniqueError { error_type, index } = error;
     match error_type {
         UniqueErrorType::JsonError(kind) => (
-            Held::Nothing,
+            Contents::Nothing,
             Some(JiterFault {
                 kind: kind_number(&kind),
                 expected: 0,
@@ -100,7 +99,7 @@ fn refused(error: UniqueError) -> (Held, Option<JiterFault>)
             }),
         ),
         UniqueErrorType::DuplicateKey(key) => (
-            Held::Document(JsonValue::Str(CowStr::Owned(key))),
+            Contents::Document(JsonValue::Str(CowStr::Owned(key))),
             Some(JiterFault {
                 kind: DUPLICATE_KEY,
                 expected: 0,
@@ -111,19 +110,19 @@ fn refused(error: UniqueError) -> (Held, Option<JiterFault>)
     }
 }
 
-#[tactic(auto, using(crate::proofs::Putting::unique_owned, crate::proofs::Putting::unique_no_memory, crate::proofs::Putting::unique_refused))]
+#[tactic(auto, using(crate::proofs::DocumentReports::unique_owned, crate::proofs::DocumentReports::unique_no_memory, crate::proofs::DocumentReports::unique_refused))]
 fn read_unique(
     alloc: Global,
     bytes: &[u8],
     allow_inf_nan: bool,
     mode: PartialMode,
-) -> (Held, Option<JiterFault>)
-    ensures read { Reads (unique_answer_in allow_inf_nan mode bytes.now) result.0 result.1 }
+) -> (Contents, Option<JiterFault>)
+    ensures read { Reads bytes.now (unique_answer_in allow_inf_nan mode bytes.now) result.0 result.1 }
 {
     match JsonValue::parse_unique(alloc, bytes, allow_inf_nan, mode) {
         Ok(value) => match value.into_static(alloc) {
-            Ok(value) => (Held::Document(value), None),
-            Err(failed) => (Held::Nothing, Some(memory_fault(failed, bytes.len()))),
+            Ok(value) => (Contents::Document(value), None),
+            Err(failed) => (Contents::Nothing, Some(memory_fault(failed, bytes.len()))),
         },
         Err(error) => refused(error),
     }
@@ -140,7 +139,7 @@ fn read_unique(
 ///
 /// - the error that the parse returns; the handle then holds nothing
 /// - kind 23, if an object repeats a key; the handle then holds that key, a string
-/// - out of memory; the handle then holds nothing
+/// - out of memory, only if the value has a part or a text; the handle then holds nothing
 /// - misuse, if no mode has this number; nothing changes then
 #[unsafe(no_mangle)]
 pub extern "C" fn jiter_document_read(
@@ -152,7 +151,7 @@ pub extern "C" fn jiter_document_read(
     unique: bool,
     fault: &mut JiterFault,
 ) -> bool
-    ensures read { (m : PartialMode) → mode_numbered mode ≡ Some m → TellsDocument
+    ensures read { (m : PartialMode) → mode_numbered mode ≡ Some m → ReportsDocument bytes.now
         (document_reading unique allow_inf_nan m bytes.now) handle.new.value result fault.old fault.new }
     ensures misuse { mode_numbered mode ≡ None
         → (result ≡ false) × (fault.new ≡ misuse) × (handle.new ≡ handle.old) }
@@ -161,12 +160,16 @@ pub extern "C" fn jiter_document_read(
         *fault = misuse();
         return false;
     };
-    let (held, error) = if unique {
+    let (contents, error) = if unique {
         read_unique(alloc, bytes, allow_inf_nan, mode)
     } else {
         read_any(alloc, bytes, allow_inf_nan, mode)
     };
-    replace_with(handle, held, |handle, held| (filled(handle, held), ()));
+    replace_with(
+        handle,
+        contents,
+        |handle, contents| (filled(handle, contents), ()),
+    );
     match error {
         Some(error) => {
             *fault = error;
@@ -215,20 +218,25 @@ fn stepped<'v>(steps: &[usize], value: &'v JsonValue<'static>) -> Option<&'v Jso
     }
 }
 
-/// Returns what a JSON Pointer and the steps after it lead to.
+/// Returns what a JSON Pointer and the steps after it lead to. A pointer that is not UTF-8 leads nowhere.
+#[tactic(auto, using(crate::proofs::Members::no_text, crate::proofs::Members::pointed))]
 pub fn placed<'v>(
     value: &'v JsonValue<'static>,
     pointer: &[u8],
     steps: &[usize],
 ) -> Option<&'v JsonValue<'static>>
-    ensures { IsUtf8 pointer.now → option_map (λ v. view v.now) result
-        ≡ placed pointer.now steps.now (view value.now) }
+    ensures { option_map (λ v. view v.now) result ≡ placed pointer.now steps.now (view value.now) }
 {
-    let text = str::from_utf8(pointer).ok()?;
-    stepped(steps, value.pointer(text)?)
+    match str::from_utf8(pointer) {
+        Ok(text) => match value.pointer(text) {
+            Some(value) => stepped(steps, value),
+            None => None,
+        },
+        Err(_) => None,
+    }
 }
 
-fn described(kind: u32, length: usize) -> JiterValue
+fn typed_value(kind: u32, length: usize) -> JiterValue
     ensures { result ≡ record { kind = kind; truth = false; integer = pos 0; length = length } }
 {
     JiterValue {
@@ -239,11 +247,11 @@ fn described(kind: u32, length: usize) -> JiterValue
     }
 }
 
-fn told(value: &JsonValue<'static>) -> JiterValue
-    ensures { result ≡ value_told (view value.now) }
+fn describe(value: &JsonValue<'static>) -> JiterValue
+    ensures { result ≡ value_report (view value.now) }
 {
     match value {
-        JsonValue::Null => described(1, 0),
+        JsonValue::Null => typed_value(1, 0),
         JsonValue::Bool(truth) => JiterValue {
             kind: 2,
             truth: *truth,
@@ -256,11 +264,11 @@ fn told(value: &JsonValue<'static>) -> JiterValue
             integer: *integer,
             length: 0,
         },
-        JsonValue::BigInt(text) => described(9, text.as_str().len()),
-        JsonValue::Float(text) => described(4, text.as_str().len()),
-        JsonValue::Str(text) => described(5, text.as_str().len()),
-        JsonValue::Array(items) => described(6, items.len()),
-        JsonValue::Object(members) => described(7, members.len()),
+        JsonValue::BigInt(text) => typed_value(9, text.as_str().len()),
+        JsonValue::Float(text) => typed_value(4, text.as_str().len()),
+        JsonValue::Str(text) => typed_value(5, text.as_str().len()),
+        JsonValue::Array(items) => typed_value(6, items.len()),
+        JsonValue::Object(members) => typed_value(7, members.len()),
     }
 }
 
@@ -270,25 +278,26 @@ fn value_at(
     steps: &[usize],
 ) -> (JiterHandle, Option<JiterValue>)
     ensures same { result.0.value ≡ handle.value }
-    ensures value { IsUtf8 pointer.now → IfDocument handle.value
-        (λ v. result.1 ≡ option_map value_told (placed pointer.now steps.now v)) }
+    ensures value { MatchDocument handle.value (result.1 ≡ None)
+        (λ v. result.1 ≡ option_map value_report (placed pointer.now steps.now v)) }
 {
-    let held = open(handle);
-    let value = match &*held {
-        Held::Document(value) => match placed(value, pointer, steps) {
-            Some(value) => Some(told(value)),
+    let contents = open(handle);
+    let value = match &*contents {
+        Contents::Document(value) => match placed(value, pointer, steps) {
+            Some(value) => Some(describe(value)),
             None => None,
         },
         _ => None,
     };
-    (close(held), value)
+    (close(contents), value)
 }
 
-/// Writes what the document has at a place to `value`, and returns whether it has anything there.
+/// Writes what the document has at a place to `value`, and returns whether it has anything there. If the handle holds
+/// no document, there is nothing.
 ///
 /// The place is what the JSON Pointer leads to (RFC 6901), and from there one item or member for each step, by its
 /// index. An empty pointer and no steps lead to the document's value.
-#[tactic(auto, using(crate::proofs::Putting::value_found, crate::proofs::Putting::value_missing))]
+#[tactic(auto, using(crate::proofs::DocumentReports::value_found, crate::proofs::DocumentReports::value_missing))]
 #[unsafe(no_mangle)]
 pub extern "C" fn jiter_document_at(
     handle: &mut JiterHandle,
@@ -297,9 +306,9 @@ pub extern "C" fn jiter_document_at(
     value: &mut JiterValue,
 ) -> bool
     ensures same { handle.new.value ≡ handle.old.value }
-    ensures found { IsUtf8 pointer.now → IfDocument handle.old.value
+    ensures found { MatchDocument handle.old.value ((result ≡ false) × (value.new ≡ value.old))
         (λ v. MatchOption (placed pointer.now steps.now v) ((result ≡ false) × (value.new ≡ value.old))
-        (λ w. (result ≡ true) × (value.new ≡ value_told w))) }
+        (λ w. (result ≡ true) × (value.new ≡ value_report w))) }
 {
     match replace_with(
         handle,

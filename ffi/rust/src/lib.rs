@@ -247,18 +247,18 @@ struct Handle(RefCell<raw::Handle>);
 
 impl Handle {
     fn new() -> Result<Handle> {
-        let mut at = std::ptr::null_mut();
-        if !unsafe { raw::jiter_handle_new(&mut at) } {
+        let mut pointer = std::ptr::null_mut();
+        if !unsafe { raw::jiter_handle_new(&mut pointer) } {
             return Err(Error::memory());
         }
-        Ok(Handle(RefCell::new(raw::Handle { at })))
+        Ok(Handle(RefCell::new(raw::Handle { pointer })))
     }
 }
 
 impl Drop for Handle {
     fn drop(&mut self) {
-        let at = self.0.get_mut().at;
-        unsafe { raw::jiter_handle_free(raw::Handle { at }) };
+        let pointer = self.0.get_mut().pointer;
+        unsafe { raw::jiter_handle_free(raw::Handle { pointer }) };
     }
 }
 
@@ -287,9 +287,9 @@ impl Document {
     /// Parses a document. With `unique` a repeated key is an error, which names the key.
     pub fn parse_with(bytes: &[u8], allow_inf_nan: bool, mode: Mode, unique: bool) -> Result<Document> {
         let (mut document, mut fault) = (Document(Handle::new()?), raw::Fault::default());
-        let (at, length, handle) = (bytes.as_ptr(), bytes.len(), document.0.0.get_mut());
+        let (start, length, handle) = (bytes.as_ptr(), bytes.len(), document.0.0.get_mut());
         let given = unsafe {
-            raw::jiter_document_read(handle, at, length, allow_inf_nan, mode as u32, unique, &mut fault)
+            raw::jiter_document_read(handle, start, length, allow_inf_nan, mode as u32, unique, &mut fault)
         };
         match told(given, (), fault) {
             Ok(()) => Ok(document),

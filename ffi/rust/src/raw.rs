@@ -50,7 +50,7 @@ pub struct Value {
 
 #[repr(C)]
 pub struct Handle {
-    pub at: *mut u8,
+    pub pointer: *mut u8,
 }
 
 /// A place in a document: a JSON Pointer and steps.
@@ -83,7 +83,7 @@ unsafe extern "C" {
     pub fn jiter_finish(reader: &mut Reader, fault: &mut Fault) -> bool;
     pub fn jiter_cause(fault: &Fault, out: *mut u8, room: usize, whole: &mut usize) -> bool;
     pub fn jiter_position(bytes: *const u8, length: usize, index: usize, position: &mut Position);
-    pub fn jiter_handle_new(at: &mut *mut u8) -> bool;
+    pub fn jiter_handle_new(pointer: &mut *mut u8) -> bool;
     pub fn jiter_handle_free(handle: Handle);
     pub fn jiter_parser_begin(handle: &mut Handle, allow_inf_nan: bool, mode: u32) -> bool;
     pub fn jiter_parser_push(handle: &mut Handle, chunk: *const u8, length: usize) -> bool;
