@@ -16,7 +16,7 @@ use crate::settings::Settings;
 use crate::texts::{Borrowing, StringStorage};
 use crate::turns::Reading;
 use crate::value::JsonValue;
-use jiter_scan::{JsonError, JsonErrorType};
+use jiter_scan::{JsonError, JsonErrorType, PartialMode};
 use jiter_steps::parse::Parser;
 use jiter_steps::read_error::ReadError;
 use std::alloc::Global;
@@ -51,8 +51,9 @@ pub(crate) fn finish_whole<'s, T: StringStorage<'s>>(
     ensures same { IfOk result (λ v. v ≡ value.entry) }
     ensures memory { WhereRefused result ⊥ }
 {
-    if settings.mode.is_active() {
-        return Ok(value);
+    match settings.mode {
+        PartialMode::Off => {}
+        _ => return Ok(value),
     }
     parser.finish()?;
     Ok(value)

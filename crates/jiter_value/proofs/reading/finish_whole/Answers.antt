@@ -1,13 +1,20 @@
-use Rattle.std.proofs.Common.{◌∙◌, sym}
+use Rattle.std.proofs.Common.{◌≡◌, ◌≢◌, ap, refl, true}
+use Rattle.jiter_scan.specs.PartialMode.{is_active}
+use Rattle.jiter_scan.specs.declared.partial_mode.PartialMode.{PartialMode}
 use Rattle.std.proofs.lemmas.Result.{err_from_is_err_and}
 use Rattle.jiter_value.specs.Settings.{rules_as}
 use Rattle.jiter_value.proofs.WholeTextAnswers.{answer-prefix, answer-end, answer-trailing}
 use Rattle.jiter_value.proofs.reading.finish_whole.Goals as goal
 
-pub returns-then-is_active-clause-value : goal.returns-then-is_active-clause-value
-returns-then-is_active-clause-value g c =
+active : (m : PartialMode) → m ≢ PartialMode.Off → is_active m ≡ true
+active PartialMode.Off h = absurd (h refl)
+active PartialMode.On _ = refl
+active PartialMode.TrailingStrings _ = refl
+
+pub returns-in_default-clause-value : goal.returns-in_default-clause-value
+returns-in_default-clause-value g c =
     let a = c.args in
-    let on = sym c.is_active.ensures ∙ c.if-is_active.true in (
+    let on = active a.settings.mode c.in_default.not-Off in (
       _,
       answer-prefix (rules_as g.T.StringStorage.made a.settings) a.settings.mode a.parser.now.bytes.now c.requires.begins
           _ _ c.requires.value on,
@@ -16,7 +23,7 @@ returns-then-is_active-clause-value g c =
 pub returns-clause-value : goal.returns-clause-value
 returns-clause-value g c =
     let a = c.args in
-    let off = sym c.is_active.ensures ∙ c.if-is_active.false in
+    let off = ap is_active c.in-Off.is in
     let ends = c.in_ok-finish.ensures.value in (
       _,
       answer-end (rules_as g.T.StringStorage.made a.settings) a.settings.mode a.parser.now.bytes.now c.requires.begins
@@ -26,7 +33,7 @@ returns-clause-value g c =
 pub returns-in_err-finish-clause-value : goal.returns-in_err-finish-clause-value
 returns-in_err-finish-clause-value g c =
     let a = c.args in
-    let off = sym c.is_active.ensures ∙ c.if-is_active.false in
+    let off = ap is_active c.in-Off.is in
     let e = err_from_is_err_and c.from_residual.result c.from_residual.ensures.1 in
     rw (e.1, e.2)
     (answer-trailing (rules_as g.T.StringStorage.made a.settings) a.settings.mode a.parser.now.bytes.now c.requires.begins
