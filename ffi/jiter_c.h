@@ -9,8 +9,8 @@
  * long as those bytes stay where they are, unchanged.
  *
  * Errors. A call that returns a bool returns false if it fails. It has then written the fault and, where it says so, the
- * reader's index, and nothing else. If it returns true, the fault stays as it was. After JITER_OUT_OF_MEMORY nothing is
- * known about the bytes.
+ * reader's index or what the handle holds, and nothing else. If it returns true, the fault stays as it was
+ * (jiter_parser_error alone returns true with a fault). After JITER_OUT_OF_MEMORY nothing is known about the bytes.
  *
  * Text. A call that writes text to `out` writes as much as fits into `room` bytes and the complete length to `whole`. It
  * writes no NUL.
@@ -341,7 +341,7 @@ static inline void jiter_document_free(JiterDocument *document) {
   document->pointer = NULL;
 }
 
-/* The export behind jiter_parser_to_document: the handle then holds a document, or nothing. */
+/* The export that jiter_parser_to_document calls: the handle then holds a document, or nothing. */
 bool jiter_parser_finish(JiterParser *parser, JiterFault *fault);
 /* Ends the document: if it is complete, `document` gets its value and the parser is used up; free both all the same.
  * Otherwise the parser holds nothing: call jiter_parser_error first to go on with it. */
@@ -354,7 +354,7 @@ static inline bool jiter_parser_to_document(JiterParser *parser, JiterDocument *
   return true;
 }
 
-/* The export behind jiter_document_parse, for a handle that you have. */
+/* The export that jiter_document_parse calls, for a handle that you have. */
 bool jiter_document_read(JiterDocument *document, const char *bytes, size_t length, bool allow_inf_nan, uint32_t mode,
                          bool unique, JiterFault *fault);
 /* Parses a document; the value borrows nothing of the bytes. With `unique`, a repeated key is JITER_DUPLICATE_KEY, and

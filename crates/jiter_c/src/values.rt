@@ -139,7 +139,7 @@ fn read_unique(
 ///
 /// - the error that the parse returns; the handle then holds nothing
 /// - kind 23, if an object repeats a key; the handle then holds that key, a string
-/// - out of memory, only if the value has a part or a text; the handle then holds nothing
+/// - out of memory, only where the value may grow, or has a part or a text; the handle then holds nothing
 /// - misuse, if no mode has this number; nothing changes then
 #[unsafe(no_mangle)]
 pub extern "C" fn jiter_document_read(
