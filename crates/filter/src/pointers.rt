@@ -1,5 +1,5 @@
 //! The members that are written, by JSON Pointers.
-ghost use Rattle.std.specs.Prelude.{◌≡◌, IfOk, IfSome, string_bytes};
+ghost use Rattle.std.specs.Prelude.{◌≡◌, IfOk, IfSome, None, string_bytes};
 ghost use Rattle.filter.specs.Pointers.{key_text};
 
 use jiter_print::print_str;
@@ -19,6 +19,28 @@ pub struct Member {
 }
 
 impl Member {
+    fn new(
+        alloc: Global,
+        name: String,
+        deep: Option<String>,
+        label: String,
+        is_first: bool,
+    ) -> Result<Member, AllocError>
+        ensures parts { IfOk result (λ m. (m.name ≡ name) × (m.deep ≡ deep) × (m.label ≡ label)) }
+        ensures key { IfOk result (λ m. m.key.items ≡ key_text is_first (string_bytes m.label)) }
+    {
+        let mut key = Vec::new(alloc);
+        key.push(if is_first { b'{' } else { b',' })?;
+        print_str(&mut key, label.as_str())?;
+        key.push(b':')?;
+        Ok(Member {
+            name,
+            deep,
+            label,
+            key,
+        })
+    }
+
     /// Returns the member that a JSON Pointer names, or `None` if it isn't one or leads to the whole line.
     ///
     /// # Errors
@@ -31,6 +53,8 @@ impl Member {
     ) -> Result<Option<Member>, AllocError>
         ensures key { IfOk result (λ found. IfSome found
             (λ m. m.key.items ≡ key_text is_first (string_bytes m.label))) }
+        ensures one { IfOk result (λ found. IfSome found
+            (λ m. m.deep ≡ None → string_bytes m.label ≡ string_bytes m.name)) }
         ensures deep { IfOk result (λ found. IfSome found
             (λ m. IfSome m.deep (λ steps. string_bytes steps ≡ pointer.now))) }
     {
@@ -38,23 +62,20 @@ impl Member {
             return Ok(None);
         };
         let first = steps.split_once('/').map_or(steps, |(first, _)| first);
-        let (Some(name), Some(label)) = (decoded(alloc, first)?, decoded(alloc, steps)?) else {
+        let Some(name) = decoded(alloc, first)? else {
             return Ok(None);
         };
-        let mut deep = None;
-        if first.len() < steps.len() {
-            deep = Some(String::from_str(alloc, pointer)?);
+        if first.len() == steps.len() {
+            let label = String::from_str(alloc, name.as_str())?;
+            let member = Member::new(alloc, name, None, label, is_first)?;
+            return Ok(Some(member));
         }
-        let mut key = Vec::new(alloc);
-        key.push(if is_first { b'{' } else { b',' })?;
-        print_str(&mut key, label.as_str())?;
-        key.push(b':')?;
-        Ok(Some(Member {
-            name,
-            deep,
-            label,
-            key,
-        }))
+        let Some(label) = decoded(alloc, steps)? else {
+            return Ok(None);
+        };
+        let deep = String::from_str(alloc, pointer)?;
+        let member = Member::new(alloc, name, Some(deep), label, is_first)?;
+        Ok(Some(member))
     }
 }
 
