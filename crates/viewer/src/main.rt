@@ -8,45 +8,27 @@ mod view;
 use clap::{Arg, ArgAction, ArgMatches, Command};
 use input::Words;
 use jiter::PartialMode;
+use json_lines::{Program, ReadInput, base_command, main_of, read_each};
 use std::alloc::{AllocError, Global};
-use std::io::{ErrorKind, IsTerminal, Read};
+use std::io::{IsTerminal, Read};
 use std::process::ExitCode;
-use std::{env, fs, io};
+use std::{env, io};
 use view::{Settings, run};
+
+const NAME: &str = "viewer";
 
 const ABOUT: &str =
     "Shows a JSON document while it is read, for example a model's answer. On a terminal it is shown \
-    indented and in place. Otherwise a line is written for each change.";
-
-const NOTES: &str =
-    "The document begins at the first `[` or `{` and ends at the bracket that closes it. A terminal \
-    shows the text around it as it is; only the document is read.\n\nA terminal is taken to have 80 columns, or as \
-    many as the environment's COLUMNS says.\n\nExit status: 0 if the input has a document, 1 if not, 2 for wrong \
-    arguments, 3 if a read, a write or an allocation failed.";
+    indented and in place. Otherwise a line is written for each change.\n\nThe document begins at the first `[` or \
+    `{` and ends at the bracket that closes it. A terminal shows the text around it as it is; only the document is \
+    read. A terminal is taken to have 80 columns, or as many as the environment's COLUMNS says. An input without a \
+    document, or with an error in it, is refused.";
 
 fn flag<'a>(alloc: Global, name: &'a str, help: &'a str) -> Arg<'a> {
     Arg::new(alloc, name)
         .long(name)
         .action(ArgAction::SetTrue)
         .help(help)
-}
-
-fn command<'a>(alloc: Global) -> Result<Command<'a>, AllocError> {
-    let file = Arg::new(alloc, "file")
-        .value_name("FILE")
-        .help("The input; standard input if there is none");
-    Command::new(alloc, "viewer")
-        .version("0.18.0")
-        .about(ABOUT)
-        .after_help(NOTES)
-        .arg(flag(alloc, "strings", "Show a string before its end has come"))?
-        .arg(flag(
-            alloc,
-            "non-finite",
-            "Take NaN, Infinity and -Infinity for numbers",
-        ))?
-        .arg(flag(alloc, "lines", "Write lines on a terminal too"))?
-        .arg(file)
 }
 
 // The columns of a terminal's rows; the last one stays free, since terminals differ in what follows it.
@@ -57,63 +39,57 @@ fn width(rt: &HostRuntime) -> usize {
     columns.unwrap_or(80).max(20) - 1
 }
 
-fn show<R: Read + Drop>(
-    rt: &HostRuntime,
-    matches: &ArgMatches<'_>,
-    name: &str,
-    mut reader: R,
-) -> io::Result<bool> {
-    let mut out = rt.stdout();
-    let mode = match matches.get_flag("strings") {
-        true => PartialMode::TrailingStrings,
-        false => PartialMode::On,
-    };
-    let inf_nan = matches.get_flag("non-finite");
-    let width = match matches.get_flag("lines") || !out.is_terminal() {
-        true => None,
-        false => Some(width(rt)),
-    };
-    let settings = Settings {
-        name,
-        words: Words { mode, inf_nan },
-        width,
-    };
-    let mut err = rt.stderr();
-    run(rt.alloc(), settings, &mut reader, &mut out, &mut err)
+// How inputs are shown.
+#[derive(Drop)]
+struct Viewer {
+    words: Words,
+    width: Option<usize>,
 }
 
-// Returns the exit status. A closed pipe is no news to who closed it.
-fn report(rt: &HostRuntime, name: &str, error: &io::Error) -> u8 {
-    if error.kind() != ErrorKind::BrokenPipe {
-        let _ = eprintln!(rt; "viewer: {name}: {error}");
-    }
-    3
-}
-
-fn show_input(rt: &HostRuntime, matches: &ArgMatches<'_>) -> io::Result<bool> {
-    match matches.get_str("file") {
-        Some(path) => show(rt, matches, path, fs::open(rt, path)?),
-        None => show(rt, matches, "<stdin>", rt.stdin()),
+impl ReadInput for Viewer {
+    fn read<R: Read + Drop>(
+        &mut self,
+        rt: &HostRuntime,
+        name: &str,
+        mut reader: R,
+    ) -> io::Result<bool> {
+        let settings = Settings {
+            name,
+            words: self.words,
+            width: self.width,
+        };
+        let (mut out, mut err) = (rt.stdout(), rt.stderr());
+        run(rt.alloc(), settings, &mut reader, &mut out, &mut err)
     }
 }
 
-fn status(rt: &HostRuntime) -> io::Result<u8> {
-    let words: Vec<String> = env::args(rt)?.collect(rt.alloc())?;
-    match command(rt.alloc())?.try_get_matches_from(words.as_slice()) {
-        Ok(matches) => match show_input(rt, &matches) {
-            Ok(is_document) => Ok(!is_document as u8),
-            Err(error) => Ok(report(rt, matches.get_str("file").unwrap_or("<stdin>"), &error)),
-        },
-        Err(error) => {
-            error.print(rt)?;
-            Ok(error.exit_code() as u8)
-        }
+impl Program for Viewer {
+    const NAME: &'static str = NAME;
+
+    fn command<'a>(alloc: Global) -> Result<Command<'a>, AllocError> {
+        let inputs = "The inputs; standard input if there is none";
+        let numbers = "Take NaN, Infinity and -Infinity for numbers";
+        base_command(alloc, NAME, ABOUT, inputs)?
+            .arg(flag(alloc, "strings", "Show a string before its end has come"))?
+            .arg(flag(alloc, "non-finite", numbers))?
+            .arg(flag(alloc, "lines", "Write lines on a terminal too"))
+    }
+
+    fn run(rt: &HostRuntime, matches: &ArgMatches<'_>) -> io::Result<u8> {
+        let mode = match matches.get_flag("strings") {
+            true => PartialMode::TrailingStrings,
+            false => PartialMode::On,
+        };
+        let inf_nan = matches.get_flag("non-finite");
+        let width = match matches.get_flag("lines") || !rt.stdout().is_terminal() {
+            true => None,
+            false => Some(width(rt)),
+        };
+        let words = Words { mode, inf_nan };
+        Ok(read_each(rt, NAME, matches, &mut Viewer { words, width }))
     }
 }
 
 fn main(rt: HostRuntime) -> ExitCode {
-    match status(&rt) {
-        Ok(status) => ExitCode::from(status),
-        Err(error) => ExitCode::from(report(&rt, "words", &error)),
-    }
+    main_of::<Viewer>(&rt)
 }
