@@ -1,5 +1,5 @@
 -- What is open of a document that arrives in chunks is, where the text ends, its value so far.
-use Rattle.std.proofs.Common.{◌≡◌, ℕ, suc, ◌-◌, ◌≤◌, true, false, List, [], ◌∷◌, ◌++◌, length, refl, sym, subst, ap, ◌∙◌, arith, inl, inr}
+use Rattle.std.proofs.Common.{◌≡◌, ℕ, suc, ◌-◌, ◌≤◌, true, false, List, [], ◌∷◌, ◌++◌, length, refl, sym, subst, ap, ◌∙◌, arith}
 use Rattle.std.specs.Prelude.{slice_get, Option, Some, None}
 use Rattle.std.proofs.lemmas.List.{append-nil}
 use Rattle.std.proofs.lemmas.Option.{slice_get_past, none-some, same_Some}
@@ -20,17 +20,15 @@ use Rattle.jiter_steps.proofs.Calls.Resumed.{if_forgiven-yes, if_forgiven-no, re
 use Rattle.jiter_steps.proofs.Cut.Halting.{end-forgiven}
 use Rattle.jiter_steps.proofs.Grammar.Blanks.{past_blanks-end}
 use Rattle.jiter_steps.proofs.Reading.BothShapes.{end_kind-early}
-use Rattle.jiter_incremental.specs.Arrived.{Arrived, at_value, between_parts, at_end, shown, value_extent, value_then, end_of, container_of}
-use Rattle.jiter_incremental.specs.Arrived.{part_row, leads_on, owned, Holds, HasRead}
+use Rattle.jiter_incremental.specs.Arrived.{Arrived, HasRead, at_end, at_value, between_parts, container_of, end_of, leads_on, owned, part_row, shown, value_extent, value_then}
+use Rattle.jiter_incremental.specs.Slot.{OpenFrame, around, begun, filled}
 use Rattle.jiter_value.specs.Parses.{reading_as}
 use Rattle.jiter_value.specs.Owned.{owned_tree}
 use Rattle.jiter_value.specs.Settings.{answer_as, rules_as, answer_by}
-use Rattle.jiter_incremental.specs.Spine.{OpenFrame, begun, around, filled, StandsFor}
 use Rattle.jiter_value.specs.Stacks.{PartTree, built}
-use Rattle.jiter_incremental.specs.declared.partial_value.Awaits.{Awaits}
-use Rattle.jiter_incremental.specs.declared.partial_value.Awaits.TheVariants as awaits
+use Rattle.jiter_incremental.specs.declared.reader.Awaits.{Awaits}
+use Rattle.jiter_incremental.specs.declared.reader.Awaits.TheVariants as awaits
 use Rattle.jiter_value.specs.declared.settings.Settings.{Settings}
-use Rattle.jiter_value.specs.declared.value.JsonValue.{JsonValue}
 use Rattle.jiter_value.proofs.MadeTexts.{answer_as-is}
 
 -- at the end of the text a step decides by that
@@ -139,16 +137,6 @@ module _ (p : Settings) (t : List ℕ) (on : is_active p.mode ≡ true) (j : ℕ
       (j, ap (resume r t (f ∷ fs)) f'.is ∙ fault-closes p t on j ends f fs f'.kind j f'.ok ∙ ap (λ x. done x j) (same_Some _ _ h))
   shown-read (between_parts a k xs fs) v h = (j, built-closes a k xs fs ∙ ap (λ x. done x j) (same_Some _ _ h))
   shown-read (at_end w n) v h = (j - n, ap (λ x. done x (j - n)) (same_Some _ _ h))
-
--- What is held stands for it.
-pub shown-stands : (a : Awaits) (spine : List JsonValue) (root : JsonValue) (k : Text) (s : Arrived) (v : Tree)
-    → Holds a spine root k s → shown s ≡ Some v → StandsFor spine root v
-shown-stands a spine root k (at_value b []) v h is = absurd (none-some v is)
-shown-stands a spine root k (at_value b (f ∷ fs)) v h is =
-    inr (record { frames = fs; innermost = begun f; apart = h.2; whole = sym (same_Some _ _ is) })
-shown-stands a spine root k (between_parts b shape xs fs) v h is =
-    inr (record { frames = fs; innermost = built shape xs; apart = h.2; whole = sym (same_Some _ _ is) })
-shown-stands a spine root k (at_end w n) v h is = inl (h.1, h.2 ∙ same_Some _ _ is)
 
 -- What a prefix leads to is, where the text ends in a partial mode, the value so far.
 pub led-answers : (p : Settings) (t : List ℕ) (s : Arrived) (v : Tree) → is_active p.mode ≡ true

@@ -4,8 +4,8 @@ pub mod Bytes
 pub mod Ends
 pub mod Names
 pub mod Strings
-pub mod StringStorage
 pub mod Tokens
+pub mod WholeTexts
 use Rattle.std.proofs.Common.{◌≡◌, ℕ, ◌+◌, ◌-◌, ◌<◌, ◌≤◌, true, false, List, [], ◌∷◌, ◌++◌, length, get_or}
 use Rattle.std.proofs.Common.{refl, sym, subst, ap, ◌∙◌, arith, append_assoc, inl, inr, length-append}
 use Rattle.std.specs.Prelude.{slice_get, Option, Some, None}
@@ -27,25 +27,17 @@ use Rattle.jiter_steps.specs.Read.{done, fault, prefix_answer, if_last, to_end, 
 use Rattle.jiter_steps.specs.Tree.{Tree}
 use Rattle.jiter_steps.specs.PartialString.{HasTaken}
 use Rattle.jiter_steps.specs.declared.parse.ContainerKind.{ContainerKind}
-use Rattle.jiter_incremental.specs.Arrived.{Arrived, at_value, between_parts, at_end, owned, HasRead, IsBeforeValue, IsBetweenParts}
-use Rattle.jiter_incremental.specs.PartialDocument.{EndsRight, Follows, HasTakenIn, IsAnswered, IsEnded, IsFaulty, IsReadAs, IsReading, IsRefused, Known}
-use Rattle.jiter_incremental.specs.PartialDocument.{Next, Comes, Opened, ReadsAt, between_tokens, in_scalar, noted_in, opened_to}
-use Rattle.jiter_incremental.specs.PartialDocument.{BeginsAs, HasArrived, HoldsWord, IsAllowed, IsOver}
-use Rattle.jiter_incremental.specs.PartialDocument.{BeginsHere, Holding, in_key, HoldsScalar, StandsAt, anything, strictly, with_byte, with_first}
-use Rattle.jiter_incremental.specs.PartialValue.{BeginsItem, BeginsValue, Goes, IsEnding, ClosesBefore, ClosesOver}
-use Rattle.jiter_incremental.specs.PartialValue.{BeginsScalar, EndsHere, Everywhere, IsLeft, TakesByte, after_value, completed, passed}
+use Rattle.jiter_incremental.specs.Arrived.{Arrived, HasRead, IsBeforeValue, IsBetweenParts, IsLeft, OpenValue, at_end, at_value, between_parts, owned}
+use Rattle.jiter_incremental.specs.Between.{BeginsItem, BeginsScalar, ClosesBefore, EndsHere, Everywhere, TakesByte, after_value, completed, passed}
+use Rattle.jiter_incremental.specs.Document.{BeginsAs, BeginsHere, Comes, Document, EndsRight, Follows, HasCome, HasTakenIn, Holding, HoldsScalar, HoldsWord, IsAllowed, IsAnswered, IsEnded, IsFaulty, IsOver, IsReadAs, IsReading, IsRefused, Known, Next, Opened, ReadsAt, StandsAt, anything, between_tokens, in_key, in_scalar, noted_in, opened_to, strictly, with_byte, with_first}
 use Rattle.jiter_incremental.specs.Names.{name_start}
+use Rattle.jiter_incremental.specs.Slot.{OpenFrame}
 use Rattle.jiter_value.specs.Settings.{answer_as, rules_as}
-use Rattle.jiter_incremental.specs.Spine.{HasRoomInside, OpenFrame}
 use Rattle.jiter_value.specs.Stacks.{PartTree}
-use Rattle.jiter_incremental.specs.declared.partial_document.PartialDocument.{PartialDocument}
-use Rattle.jiter_incremental.specs.declared.partial_document.Token.{Token}
-use Rattle.jiter_incremental.specs.declared.partial_document.Token.TheVariants as token
-use Rattle.jiter_incremental.specs.declared.partial_value.Awaits.{Awaits}
-use Rattle.jiter_incremental.specs.declared.partial_value.Awaits.TheVariants as awaits
-use Rattle.jiter_incremental.specs.declared.partial_value.PartialValue.{PartialValue}
-use Rattle.jiter_incremental.specs.declared.partial_value.Transition.{Transition}
-use Rattle.jiter_incremental.specs.declared.partial_value.Transition.TheVariants as went
+use Rattle.jiter_incremental.specs.declared.reader.Token.{Token}
+use Rattle.jiter_incremental.specs.declared.reader.Token.TheVariants as token
+use Rattle.jiter_incremental.specs.declared.reader.Awaits.{Awaits}
+use Rattle.jiter_incremental.specs.declared.reader.Awaits.TheVariants as awaits
 use Rattle.jiter_value.specs.declared.settings.Settings.{Settings}
 
 -- A fault of the prefix is the text's answer.
@@ -85,7 +77,7 @@ module _ (p : Settings) (n m : Next) (t w : List ℕ) (o o' : Opened) (follows :
   reads-fault None k i read goes u comes = goes refl u comes
 
 -- What is known of one document is known of another with these settings and faults.
-pub known-as : (m : Next) (d new : PartialDocument) (t : List ℕ) (o : Opened) → new.settings ≡ d.settings
+pub known-as : (m : Next) (d new : Document) (t : List ℕ) (o : Opened) → new.settings ≡ d.settings
     → new.fault ≡ d.fault → new.first ≡ d.first → Known m d t o → Known m new t o
 known-as m d new t o settings unset noted k = record {
   mode = λ u comes.
@@ -99,7 +91,7 @@ known-as m d new t o settings unset noted k = record {
   same = λ off none. noted ∙ k.same (ap (λ (p : Settings). is_active p.mode) (sym settings) ∙ off) (sym unset ∙ none);
 }
 
-module _ (n m : Next) (d : PartialDocument) (t w : List ℕ) (o o' : Opened) (k : Known n d t o) (follows : Follows n w m)
+module _ (n m : Next) (d : Document) (t w : List ℕ) (o o' : Opened) (k : Known n d t o) (follows : Follows n w m)
   where
     -- The bytes w bring what is open so far.
     pub known-on :
@@ -166,14 +158,14 @@ abbrev pub left_open : Opened
 left_open = between_tokens (at_value awaits.Value [])
 
 -- The bytes w are refused where each text of them answers that;
-pub ended : (n m : Next) (d : PartialDocument) (t w : List ℕ) (o : Opened) (kind : FaultKind) (i : ℕ) → d.fault ≡ None
+pub ended : (n m : Next) (d : Document) (t w : List ℕ) (o : Opened) (kind : FaultKind) (i : ℕ) → d.fault ≡ None
     → Known n d t o → Follows n w m → IsEnded d m (t ++ w) (fault_kind kind) i
     → (f : Fault) (first : Option Fault) → f ≡ record { kind = kind; index = i } → first ≡ noted_in d.first f.kind f.index
     → HasTakenIn m (record d { fault = Some f; first = first }) (t ++ w)
 ended n m d t w o kind i unset k follows fails = known-refused n m d t w o left_open k follows kind i unset fails
 
 -- also where it is the fault of what was read so far.
-pub refuses : (n m : Next) (d : PartialDocument) (t w : List ℕ) (o : Opened) (kind : FaultKind) (i : ℕ) → d.fault ≡ None
+pub refuses : (n m : Next) (d : Document) (t w : List ℕ) (o : Opened) (kind : FaultKind) (i : ℕ) → d.fault ≡ None
     → Known n d t o → Follows n w m → IsRefused d m (t ++ w) (fault_kind kind) i
     → (f : Fault) (first : Option Fault) → f ≡ record { kind = kind; index = i } → first ≡ noted_in d.first f.kind f.index
     → HasTakenIn m (record d { fault = Some f; first = first }) (t ++ w)
@@ -188,7 +180,7 @@ ends-after t x (items_frame xs ∷ fs) = tt
 ends-after t x (members_frame ms k ∷ fs) = tt
 
 -- A scalar that is read as this value is put after what stands before it.
-pub puts : (n m : Next) (d : PartialDocument) (v : PartialValue) (x : Tree) (t w : List ℕ) (fs : List OpenFrame) (b : ℕ)
+pub puts : (n m : Next) (d : Document) (v : OpenValue) (x : Tree) (t w : List ℕ) (fs : List OpenFrame) (b : ℕ)
     → Known n d t (in_scalar fs b) → Follows n w m → IsLeft v (after_value x fs)
     → ((p : Settings) (u : List ℕ) (j e : ℕ) → value_in (rules_as owned p) u (length fs) j ≡ done x e
     → value_from (rules_as owned p) u fs j ≡ completed p u (after_value x fs) e)
@@ -212,7 +204,7 @@ pub follows-byte : (c : ℕ) → Follows (with_byte c) (c ∷ []) anything
 follows-byte c u comes = (u, refl)
 
 -- What is known whatever comes is known before a byte.
-pub known-before : (c : ℕ) (d : PartialDocument) (t : List ℕ) (o : Opened) → Known anything d t o
+pub known-before : (c : ℕ) (d : Document) (t : List ℕ) (o : Opened) → Known anything d t o
     → Known (with_byte c) d t o
 known-before c d t o k = record {
   mode = λ u comes. k.mode u tt;
@@ -231,11 +223,14 @@ byte-here c t u =
     slice_get-get_or w (length t) 0 long ∙ ap Some (get_or-append_seam t c u 0) in
     subst (λ v. slice_get v (length t) ≡ Some c) (sym (append_assoc t (c ∷ []) u)) here
 
-one-more : (c : ℕ) (t : List ℕ) → length t + 1 ≡ length (t ++ c ∷ [])
+pub byte-first : (c : ℕ) (t u : List ℕ) → slice_get (t ++ c ∷ u) (length t) ≡ Some c
+byte-first c t u = subst (λ v. slice_get v (length t) ≡ Some c) (append_assoc t (c ∷ []) u) (byte-here c t u)
+
+pub one-more : (c : ℕ) (t : List ℕ) → length t + 1 ≡ length (t ++ c ∷ [])
 one-more c t = omega (arith, length-append t (c ∷ []))
 
 -- Where nothing is taken, what is open may be seen otherwise.
-pub known-here : (n : Next) (d : PartialDocument) (t : List ℕ) (o o' : Opened) → Known n d t o
+pub known-here : (n : Next) (d : Document) (t : List ℕ) (o o' : Opened) → Known n d t o
     → ((p : Settings) → IsReading d p → (u : List ℕ) → Comes n u
     → opened_to p (t ++ u) o (length t) ≡ opened_to p (t ++ u) o' (length t))
     → (d.first ≡ None → EndsRight t o') → Known n d t o'
@@ -250,7 +245,7 @@ known-here n d t o o' k goes ends =
     subst (λ v. Known n d v o') same on
 
 -- What stands open where no token is unfinished
-pub record Between (n : Next) (d : PartialDocument) (t : List ℕ) : Type 0 where
+pub record Between (n : Next) (d : Document) (t : List ℕ) : Type 0 where
   pub state : Arrived
   pub known : Known n d t (between_tokens state)
   pub left : IsLeft d.value state
@@ -258,19 +253,19 @@ pub record Between (n : Next) (d : PartialDocument) (t : List ℕ) : Type 0 wher
 key-nothing : token.Nothing ≡ token.Key → ⊥
 key-nothing h = cc
 
-opened-between : (n : Next) (d : PartialDocument) (t : List ℕ) (o : Opened) → Known n d t o → Holding d t o
+opened-between : (n : Next) (d : Document) (t : List ℕ) (o : Opened) → Known n d t o → Holding d t o
     → d.token ≡ token.Nothing → Between n d t
 opened-between n d t (between_tokens s) k h none = record { state = s; known = k; left = h.1 }
 opened-between n d t (in_scalar fs b) k h none =
     let never : ⊥ = subst (λ x. HoldsScalar d x h.0) none h.2 in absurd never
 opened-between n d t (in_key fs ms b) k h none = absurd (key-nothing (sym none ∙ h.2))
 
-pub taken-between : (n : Next) (d : PartialDocument) (t : List ℕ) → HasTakenIn n d t → d.fault ≡ None
+pub taken-between : (n : Next) (d : Document) (t : List ℕ) → HasTakenIn n d t → d.fault ≡ None
     → d.token ≡ token.Nothing → Between n d t
 taken-between n d t h unset none = opened-between n d t h.opened h.known (h.held unset) none
 
 -- What is read of the bytes so far, by settings that still read.
-pub reads-so : (n : Next) (d : PartialDocument) (t : List ℕ) (o : Opened) (p : Settings) → Known n d t o → IsReading d p
+pub reads-so : (n : Next) (d : Document) (t : List ℕ) (o : Opened) (p : Settings) → Known n d t o → IsReading d p
     → (u : List ℕ) → Comes n u → prefix_answer (rules_as owned p) (t ++ u) ≡ opened_to p (t ++ u) o (length t)
 reads-so n d t o p k (inl h) u comes =
     let q = d.settings in
@@ -284,7 +279,7 @@ reads-so n d t o p k (inr h) u comes =
     subst (λ q. prefix_answer (rules_as owned q) (t ++ u) ≡ opened_to q (t ++ u) o (length t)) (sym h.0) read
 
 -- the same where w stands after them
-pub reads-after : (n m : Next) (d : PartialDocument) (t w : List ℕ) (o : Opened) (p : Settings) → Known n d t o
+pub reads-after : (n m : Next) (d : Document) (t w : List ℕ) (o : Opened) (p : Settings) → Known n d t o
     → Follows n w m → IsReading d p → (u : List ℕ) → Comes m u
     → prefix_answer (rules_as owned p) ((t ++ w) ++ u) ≡ opened_to p ((t ++ w) ++ u) o (length t)
 reads-after n m d t w o p k follows reading u comes =
@@ -335,7 +330,7 @@ byte-ends t c s (at_value a fs) e h = tt
 byte-ends t c s (between_parts a k xs fs) e h = tt
 
 -- The value takes a byte.
-pub takes-byte : (d : PartialDocument) (v : PartialValue) (c : ℕ) (t : List ℕ) (s : Arrived)
+pub takes-byte : (d : Document) (v : OpenValue) (c : ℕ) (t : List ℕ) (s : Arrived)
     → Known (with_byte c) d t (between_tokens s) → d.token ≡ token.Nothing → TakesByte v s c
     → HasTakenIn anything (record d { value = v }) (t ++ c ∷ [])
 takes-byte d v c t s k none g =
@@ -355,12 +350,12 @@ takes-byte d v c t s k none g =
     }
 
 -- Inside these containers it begins.
-begins-in : (d : PartialDocument) (v : PartialValue) (c : ℕ) (t : List ℕ) (s : Arrived) (fs : List OpenFrame)
+pub begins-in : (d : Document) (v : OpenValue) (c : ℕ) (t : List ℕ) (s : Arrived) (fs : List OpenFrame)
     → Known (with_byte c) d t (between_tokens s) → d.fault ≡ None → d.position ≡ length t
-    → IsLeft v (at_value awaits.Value fs) → length fs ≤ 200 → HasRoomInside v.spine.items
+    → IsLeft v (at_value awaits.Value fs) → length fs ≤ 200
     → Everywhere c (λ p u j. completed p u s j ≡ value_from (rules_as owned p) u fs j)
     → BeginsHere c (record d { value = v }) t fs
-begins-in d v c t s fs k unset place left low room goes =
+begins-in d v c t s fs k unset place left low goes =
     let new = record d { value = v } in
     let n = with_byte c in
     let o' = in_scalar fs (length t) in
@@ -375,7 +370,6 @@ begins-in d v c t s fs k unset place left low room goes =
       known = known-as n d new t o' refl refl refl on;
       left = left;
       low = low;
-      room = room;
       unset = unset;
       position = place;
     }
@@ -384,21 +378,14 @@ begins-in d v c t s fs k unset place left low room goes =
     before-here c t u = subst (λ v. slice_get v (length t) ≡ Some c) (append_assoc t (c ∷ []) u) (byte-here c t u)
 
 -- A scalar begins with it,
-pub begins-here : (d : PartialDocument) (v : PartialValue) (c : ℕ) (t : List ℕ) (s : Arrived)
+pub begins-here : (d : Document) (v : OpenValue) (c : ℕ) (t : List ℕ) (s : Arrived)
     → Known (with_byte c) d t (between_tokens s) → d.fault ≡ None → d.position ≡ length t
     → (g : BeginsScalar v s c) → BeginsHere c (record d { value = v }) t g.frames
 begins-here d v c t s k unset place g =
-    begins-in d v c t s g.frames k unset place g.left g.low g.room g.goes
-
--- or a value that is awaited.
-pub value-here : (d : PartialDocument) (v : PartialValue) (c : ℕ) (t : List ℕ) (s : Arrived)
-    → Known (with_byte c) d t (between_tokens s) → d.fault ≡ None → d.position ≡ length t → BeginsItem c
-    → (g : BeginsValue v s) → BeginsHere c (record d { value = v }) t g.frames
-value-here d v c t s k unset place item g =
-    begins-in d v c t s g.frames k unset place g.left g.low g.room (g.goes c item)
+    begins-in d v c t s g.frames k unset place g.left g.low g.goes
 
 -- It stands where the value has moved on already.
-pub stands-at : (d : PartialDocument) (v : PartialValue) (c : ℕ) (t : List ℕ) (s : Arrived)
+pub stands-at : (d : Document) (v : OpenValue) (c : ℕ) (t : List ℕ) (s : Arrived)
     → Known (with_byte c) d t (between_tokens s) → d.token ≡ token.Nothing → d.fault ≡ None → d.position ≡ length t
     → StandsAt c (record d { value = v }) t s
 stands-at d v c t s k none unset place = record {
@@ -409,7 +396,7 @@ stands-at d v c t s k none unset place = record {
 }
 
 -- It is wrong there: the document is refused.
-pub wrong-refused : (d : PartialDocument) (v : PartialValue) (c : ℕ) (t : List ℕ) (s : Arrived) (kind : FaultKind)
+pub wrong-refused : (d : Document) (v : OpenValue) (c : ℕ) (t : List ℕ) (s : Arrived) (kind : FaultKind)
     → StandsAt c d t s → Everywhere c (λ p u j. completed p u s j ≡ fault (fault_kind kind) j j)
     → IsRefused d anything (t ++ c ∷ []) (fault_kind kind) d.position
 wrong-refused d v c t s kind at wrong p u reading comes =
@@ -419,13 +406,13 @@ wrong-refused d v c t s kind at wrong p u reading comes =
     (j, read ∙ wrong p w j (byte-here c t u) ∙ ap (λ i. fault (fault_kind kind) i j) (sym at.position))
 
 -- By strict settings each of a document's readings is strict, where its mode is off.
-reading-strict : (d : PartialDocument) (p : Settings) → is_active d.settings.mode ≡ false → IsReading d p
+reading-strict : (d : Document) (p : Settings) → is_active d.settings.mode ≡ false → IsReading d p
     → is_active p.mode ≡ false
 reading-strict d p off (inl h) = ap (λ (q : Settings). is_active q.mode) h.0 ∙ off
 reading-strict d p off (inr h) = ap (λ (q : Settings). is_active q.mode) h.0
 
 -- and there is no fault that partial reading alone passes over.
-reading-first : (n : Next) (d : PartialDocument) (t : List ℕ) (o : Opened) (p : Settings) → Known n d t o
+reading-first : (n : Next) (d : Document) (t : List ℕ) (o : Opened) (p : Settings) → Known n d t o
     → is_active d.settings.mode ≡ false → IsReading d p → d.first ≡ None
 reading-first n d t o p k off (inl h) = k.same off h.1
 reading-first n d t o p k off (inr h) = h.1
@@ -436,7 +423,7 @@ record Whole (s : Arrived) : Type 0 where
   blanks : ℕ
   is : s ≡ at_end value blanks
 
-whole-end : (v : PartialValue) (s : Arrived) → IsLeft v s → v.awaits ≡ awaits.Nothing → Whole s
+whole-end : (v : OpenValue) (s : Arrived) → IsLeft v s → v.awaits ≡ awaits.Nothing → Whole s
 whole-end v (at_value b fs) h none =
     let never : ⊥ = subst IsBeforeValue (sym h.0 ∙ none) h.1 in absurd never
 whole-end v (between_parts b k xs fs) h none =
@@ -467,14 +454,14 @@ trailing-answered p t u c x n off read ends other =
     )
 
 -- what is read there
-trailing-read : (d : PartialDocument) (c : ℕ) (t u : List ℕ) (s : Arrived) (w : Whole s) (p : Settings) → StandsAt c d t s
+trailing-read : (d : Document) (c : ℕ) (t u : List ℕ) (s : Arrived) (w : Whole s) (p : Settings) → StandsAt c d t s
     → IsReading d p
     → prefix_answer (rules_as owned p) ((t ++ c ∷ []) ++ u) ≡ done w.value (length t - w.blanks)
 trailing-read d c t u s w p at reading =
     reads-after (with_byte c) anything d t (c ∷ []) (between_tokens s) p at.known (follows-byte c) reading u tt
     ∙ ap (λ s. completed p ((t ++ c ∷ []) ++ u) s (length t)) w.is
 
-trailing-at : (d : PartialDocument) (c : ℕ) (t u : List ℕ) (s : Arrived) (p : Settings) → StandsAt c d t s
+trailing-at : (d : Document) (c : ℕ) (t u : List ℕ) (s : Arrived) (p : Settings) → StandsAt c d t s
     → IsLeft d.value s → d.value.awaits ≡ awaits.Nothing → is_blank c ≡ false → IsReading d p
     → is_active p.mode ≡ false → d.first ≡ None
     → IsAnswered p ((t ++ c ∷ []) ++ u) trailing_characters d.position
@@ -485,7 +472,7 @@ trailing-at d c t u s p at left none other reading off first =
     (trailing-answered p t u c w.value w.blanks off (trailing-read d c t u s w p at reading) ends other)
 
 -- With partial reading off it is refused,
-pub trailing-ended : (d : PartialDocument) (c : ℕ) (t : List ℕ) (s : Arrived) → StandsAt c d t s → IsLeft d.value s
+pub trailing-ended : (d : Document) (c : ℕ) (t : List ℕ) (s : Arrived) → StandsAt c d t s → IsLeft d.value s
     → d.value.awaits ≡ awaits.Nothing → is_blank c ≡ false → is_active d.settings.mode ≡ false
     → IsEnded d anything (t ++ c ∷ []) trailing_characters d.position
 trailing-ended d c t s at left none other off p u reading comes =
@@ -493,8 +480,8 @@ trailing-ended d c t s at left none other off p u reading comes =
     (reading-first (with_byte c) d t (between_tokens s) p at.known off reading)
 
 -- else passed over.
-pub trailing-noted : (d : PartialDocument) (c : ℕ) (t : List ℕ) (s : Arrived) → StandsAt c d t s → IsLeft d.value s
-    → d.value.awaits ≡ awaits.Nothing → is_blank c ≡ false → is_active d.settings.mode ≡ true → (new : PartialDocument)
+pub trailing-noted : (d : Document) (c : ℕ) (t : List ℕ) (s : Arrived) → StandsAt c d t s → IsLeft d.value s
+    → d.value.awaits ≡ awaits.Nothing → is_blank c ≡ false → is_active d.settings.mode ≡ true → (new : Document)
     → new ≡ with_first d (noted_in d.first fault_of.TrailingCharacters d.position)
     → HasTakenIn anything new (t ++ c ∷ [])
 trailing-noted d c t s at left none other on new is =
@@ -522,10 +509,10 @@ trailing-noted d c t s at left none other on new is =
     subst (λ d. HasTakenIn anything d (t ++ c ∷ [])) (sym is) all
 
 -- What is missing before the byte is the fault by strict settings;
-closes-fault : (d : PartialDocument) (c : ℕ) (t u : List ℕ) (s : Arrived) (kind : FaultKind) (p : Settings)
-    → StandsAt c d t s → ClosesBefore d.value s c (fault_kind kind) → IsReading d p → is_active p.mode ≡ false
+closes-fault : (d : Document) (c : ℕ) (t u : List ℕ) (s : Arrived) (kind : FaultKind) (p : Settings) (v : OpenValue)
+    → StandsAt c d t s → ClosesBefore v s c (fault_kind kind) → IsReading d p → is_active p.mode ≡ false
     → IsFaulty p ((t ++ c ∷ []) ++ u) (fault_kind kind) d.position
-closes-fault d c t u s kind p at g reading off =
+closes-fault d c t u s kind p v at g reading off =
     let w = (t ++ c ∷ []) ++ u in
     let j = length t in
     let read =
@@ -535,46 +522,49 @@ closes-fault d c t u s kind p at g reading off =
     )
 
 -- where the mode is off, for good;
-pub closes-refused : (d : PartialDocument) (c : ℕ) (t : List ℕ) (s : Arrived) (kind : FaultKind) → StandsAt c d t s
-    → ClosesBefore d.value s c (fault_kind kind) → is_active d.settings.mode ≡ false
+pub closes-refused : (d : Document) (c : ℕ) (t : List ℕ) (s : Arrived) (kind : FaultKind) (v : OpenValue)
+    → StandsAt c d t s → ClosesBefore v s c (fault_kind kind) → is_active d.settings.mode ≡ false
     → IsRefused d anything (t ++ c ∷ []) (fault_kind kind) d.position
-closes-refused d c t s kind at g off p u reading comes =
-    closes-fault d c t u s kind p at g reading (reading-strict d p off reading)
+closes-refused d c t s kind v at g off p u reading comes =
+    closes-fault d c t u s kind p v at g reading (reading-strict d p off reading)
 
--- else the container ends there, and each that the byte ends.
-pub closes-noted : (d : PartialDocument) (v : PartialValue) (c : ℕ) (t : List ℕ) (s : Arrived) (kind : FaultKind)
-    → StandsAt c d t s → (g : ClosesBefore d.value s c (fault_kind kind)) → ClosesOver v g.next c
-    → is_active d.settings.mode ≡ true → (new : PartialDocument)
-    → new ≡ with_first d (noted_in d.first kind d.position)
-    → HasTakenIn anything (record new { value = v }) (t ++ c ∷ [])
-closes-noted d v c t s kind at g over on new is =
+-- else the container ends there, before the byte.
+pub closes-noted : (d : Document) (v : OpenValue) (c : ℕ) (t : List ℕ) (s : Arrived) (kind : FaultKind)
+    → StandsAt c d t s → (g : ClosesBefore v s c (fault_kind kind)) → is_active d.settings.mode ≡ true
+    → HasTakenIn (with_byte c) (record d { value = v; first = noted_in d.first kind d.position }) t
+closes-noted d v c t s kind at g on =
     let noted = with_first d (noted_in d.first kind d.position) in
     let next = record noted { value = v } in
     let o = between_tokens s in
-    let o' = between_tokens over.next in
+    let o' = between_tokens g.next in
     let p = d.settings in
-    let known : Known anything noted (t ++ c ∷ []) o' =
-    known-noted (with_byte c) anything d t (c ∷ []) o o' at.known (follows-byte c) kind d.position on
+    let n = with_byte c in
+    let here : (u : List ℕ) → Comes n u → slice_get (t ++ u) (length t) ≡ Some c =
+    λ u comes. subst (λ v. slice_get (t ++ v) (length t) ≡ Some c) (sym comes.1) (byte-first c t comes.0) in
+    let known : Known n noted (t ++ []) o' =
+    known-noted n n d t [] o o' at.known (λ u comes. comes) kind d.position on
     (λ unset u comes.
-    let w = (t ++ c ∷ []) ++ u in
-    let here = byte-here c t u in
-    g.goes p w (length t) here on ∙ over.goes p w (length t) here on ∙ ap (completed p w over.next) (one-more c t))
+    subst (λ v. completed p (v ++ u) s (length t) ≡ completed p (v ++ u) g.next (length v)) (sym (append-nil t))
+    (g.goes p (t ++ u) (length t) (here u comes) on))
     (λ first u comes.
-    faulty-answers (strictly p) ((t ++ c ∷ []) ++ u) (fault_kind kind) d.position
-    (closes-fault d c t u s kind (strictly p) at g (inr (refl, first)) refl)) in
-    let all : HasTakenIn anything next (t ++ c ∷ []) =
+    let q = strictly p in
+    let read = reads-so n d t o q at.known (inr (refl, first)) u comes in
+    faulty-answers q ((t ++ []) ++ u) (fault_kind kind) d.position
+    (subst (λ v. IsFaulty q (v ++ u) (fault_kind kind) d.position) (sym (append-nil t)) (
+      length t,
+      read ∙ g.fails q (t ++ u) (length t) (here u comes) refl ∙ ap (λ i. fault (fault_kind kind) i (length t)) (sym at.position),
+    ))) in
     record {
       opened = o';
-      known = known-as anything noted next (t ++ c ∷ []) o' refl refl refl known;
-      held = λ unset. (at.token, over.left);
-    } in
-    subst (λ (d : PartialDocument). HasTakenIn anything (record d { value = v }) (t ++ c ∷ [])) (sym is) all
+      known = known-as n noted next t o' refl refl refl (subst (λ v. Known n noted v o') (append-nil t) known);
+      held = λ unset. (at.token, g.left);
+    }
 
 -- Where no token is unfinished a document stands as another with its value, settings, faults and position.
-pub arrived-as : (d new : PartialDocument) (t : List ℕ) → d.fault ≡ None → d.token ≡ token.Nothing
+pub arrived-as : (d new : Document) (t : List ℕ) → d.fault ≡ None → d.token ≡ token.Nothing
     → new.settings ≡ d.settings → new.fault ≡ d.fault → new.first ≡ d.first → new.token ≡ d.token
-    → new.position ≡ d.position → ((s : Arrived) → IsLeft d.value s → IsLeft new.value s) → HasArrived d t
-    → HasArrived new t
+    → new.position ≡ d.position → ((s : Arrived) → IsLeft d.value s → IsLeft new.value s) → HasCome d t
+    → HasCome new t
 arrived-as d new t unset none settings fault-is first token-is position left h =
     let b = taken-between anything d t h.read unset none in
     record {
@@ -588,9 +578,9 @@ arrived-as d new t unset none settings fault-is first token-is position left h =
     }
 
 -- Before the first byte
-pub new-arrived : (d : PartialDocument) → d.fault ≡ None → d.first ≡ None → d.token ≡ token.Nothing → d.position ≡ 0
+pub new-arrived : (d : Document) → d.fault ≡ None → d.first ≡ None → d.token ≡ token.Nothing → d.position ≡ 0
     → IsLeft d.value (at_value awaits.Value []) → ((p : Settings) → HasRead p [] (at_value awaits.Value []))
-    → HasArrived d []
+    → HasCome d []
 new-arrived d unset first none position left read =
     let s = at_value awaits.Value [] in
     let o = between_tokens s in
@@ -615,36 +605,36 @@ new-arrived d unset first none position left read =
     }
 
 -- Where a document is over, any bytes leave it so.
-over-fault : (d : PartialDocument) (t w : List ℕ) (f : Fault) → d.fault ≡ Some f → HasTakenIn anything d t
-    → HasTakenIn anything d (t ++ w)
-over-fault d t w f is h =
+over-fault : (n m : Next) (d : Document) (t w : List ℕ) (f : Fault) → Follows n w m → d.fault ≡ Some f → HasTakenIn n d t
+    → HasTakenIn m d (t ++ w)
+over-fault n m d t w f follows is h =
     let none : d.fault ≡ None → ⊥ = λ h. none-some f (sym h ∙ is) in
     record {
       opened = h.opened;
       known =
-          known-on anything anything d t w h.opened h.opened h.known (λ u comes. tt)
+          known-on n m d t w h.opened h.opened h.known follows
           (λ p reading u comes. absurd (not-reading d p f is h.known.noted reading))
           (λ first. absurd (none (h.known.noted first)));
       held = λ unset. absurd (none unset);
     }
   where
-    not-reading : (d : PartialDocument) (p : Settings) (f : Fault) → d.fault ≡ Some f
+    not-reading : (d : Document) (p : Settings) (f : Fault) → d.fault ≡ Some f
         → (d.first ≡ None → d.fault ≡ None) → IsReading d p → ⊥
     not-reading d p f is noted (inl h) = none-some f (sym h.1 ∙ is)
     not-reading d p f is noted (inr h) = none-some f (sym (noted h.1) ∙ is)
 
-over-whole : (d : PartialDocument) (t w : List ℕ) (f : Fault) → d.fault ≡ None → d.first ≡ Some f
-    → d.token ≡ token.Nothing → d.value.awaits ≡ awaits.Nothing → HasTakenIn anything d t
-    → HasTakenIn anything d (t ++ w)
-over-whole d t w f unset first none whole h =
-    let b = taken-between anything d t h unset none in
+over-whole : (n m : Next) (d : Document) (t w : List ℕ) (f : Fault) → Follows n w m → d.fault ≡ None → d.first ≡ Some f
+    → d.token ≡ token.Nothing → d.value.awaits ≡ awaits.Nothing → HasTakenIn n d t
+    → HasTakenIn m d (t ++ w)
+over-whole n m d t w f follows unset first none whole h =
+    let b = taken-between n d t h unset none in
     let e = whole-end d.value b.state b.left whole in
     let o' = between_tokens (at_end e.value (e.blanks + length w)) in
     let never : d.first ≡ None → ⊥ = λ h. none-some f (sym h ∙ first) in
     record {
       opened = o';
       known =
-          known-on anything anything d t w (between_tokens b.state) o' b.known (λ u comes. tt)
+          known-on n m d t w (between_tokens b.state) o' b.known follows
           (λ p reading u comes.
           let place : length t - e.blanks ≡ length (t ++ w) - (e.blanks + length w) =
           omega (arith, length-append t w) in
@@ -653,17 +643,17 @@ over-whole d t w f unset first none whole h =
       held = λ _. (none, subst (IsLeft d.value) e.is b.left);
     }
 
-pub over-takes : (d : PartialDocument) (t w : List ℕ) → IsOver d → HasTakenIn anything d t
-    → HasTakenIn anything d (t ++ w)
-over-takes d t w (inl h) read = over-fault d t w h.0 h.1 read
-over-takes d t w (inr h) read = by d.fault refl
+pub over-takes : (n m : Next) (d : Document) (t w : List ℕ) → Follows n w m → IsOver d → HasTakenIn n d t
+    → HasTakenIn m d (t ++ w)
+over-takes n m d t w follows (inl h) read = over-fault n m d t w h.0 follows h.1 read
+over-takes n m d t w follows (inr h) read = by d.fault refl
   where
-    by : (x : Option Fault) → d.fault ≡ x → HasTakenIn anything d (t ++ w)
-    by None unset = over-whole d t w h.0 unset h.1 h.2 h.3 read
-    by (Some f) is = over-fault d t w f is read
+    by : (x : Option Fault) → d.fault ≡ x → HasTakenIn m d (t ++ w)
+    by None unset = over-whole n m d t w h.0 follows unset h.1 h.2 h.3 read
+    by (Some f) is = over-fault n m d t w f follows is read
 
 -- The bytes that were taken are counted.
-scalar-as : (d new : PartialDocument) (k : Token) (w : List ℕ) → new.settings ≡ d.settings → new.name ≡ d.name
+scalar-as : (d new : Document) (k : Token) (w : List ℕ) → new.settings ≡ d.settings → new.name ≡ d.name
     → new.word ≡ d.word → new.number ≡ d.number → new.string ≡ d.string → HoldsScalar d k w → HoldsScalar new k w
 scalar-as d new token.Word w settings names words numbers strings h = (
   subst (λ x. HoldsWord new.name x w) (sym words) (subst (λ x. HoldsWord x d.word w) (sym names) h.0),
@@ -677,7 +667,7 @@ scalar-as d new token.Text w settings names words numbers strings h =
 scalar-as d new token.Nothing w settings names words numbers strings h = h
 scalar-as d new token.Key w settings names words numbers strings h = h
 
-pub counted-holding : (d : PartialDocument) (j : ℕ) (t : List ℕ) (o : Opened) → Holding d t o
+pub counted-holding : (d : Document) (j : ℕ) (t : List ℕ) (o : Opened) → Holding d t o
     → Holding (record d { position = j }) t o
 counted-holding d j t (between_tokens s) h = h
 counted-holding d j t (in_scalar fs b) h =
@@ -687,7 +677,6 @@ counted-holding d j t (in_scalar fs b) h =
       scalar-as d new d.token h.0 refl refl refl refl refl h.2,
       h.3,
       h.4,
-      h.5,
     )
 counted-holding d j t (in_key fs ms b) h = (
   h.0,
@@ -696,10 +685,11 @@ counted-holding d j t (in_key fs ms b) h = (
   record { rest = h.3.rest; is = h.3.is; taken = h.3.taken },
   h.4,
   h.5,
+  h.6,
 )
 
 -- What was taken does not depend on the position.
-pub moved : (n : Next) (d : PartialDocument) (j : ℕ) (t : List ℕ) → HasTakenIn n d t
+pub moved : (n : Next) (d : Document) (j : ℕ) (t : List ℕ) → HasTakenIn n d t
     → HasTakenIn n (record d { position = j }) t
 moved n d j t h = record {
   opened = h.opened;
@@ -707,22 +697,12 @@ moved n d j t h = record {
   held = λ unset. counted-holding d j t h.opened (h.held unset);
 }
 
-pub counted : (d : PartialDocument) (j : ℕ) (t : List ℕ) → HasTakenIn anything d t → j ≡ length t
-    → HasArrived (record d { position = j }) t
+pub counted : (d : Document) (j : ℕ) (t : List ℕ) → HasTakenIn anything d t → j ≡ length t
+    → HasCome (record d { position = j }) t
 counted d j t h is = record { read = moved anything d j t h; position = is }
 
--- What is neither taken nor closes what is open stands after the whole value.
-pub over-else : (v : PartialValue) (s : Arrived) (c : ℕ) (w : Transition) → IsEnding w → (w ≡ went.Taken → ⊥)
-    → ((k : FaultKind) → w ≡ went.Closed k → ⊥) → Goes v s c w → Goes v s c went.Over
-over-else v s c went.Taken e taken closed g = absurd (taken refl)
-over-else v s c (went.Closed k) e taken closed g = absurd (closed k refl)
-over-else v s c went.Over e taken closed g = g
-over-else v s c went.Scalar e taken closed g = absurd e
-over-else v s c went.Key e taken closed g = absurd e
-over-else v s c (went.Wrong k) e taken closed g = absurd e
-
 -- What stands open before the byte
-pub between-before : (c : ℕ) (d : PartialDocument) (t : List ℕ) → HasArrived d t → d.fault ≡ None
+pub between-before : (c : ℕ) (d : Document) (t : List ℕ) → HasCome d t → d.fault ≡ None
     → d.token ≡ token.Nothing → Between (with_byte c) d t
 between-before c d t h unset none =
     let b = taken-between anything d t h.read unset none in

@@ -1,13 +1,14 @@
-pub mod Spines
-pub mod ReplacedTexts
-pub mod Settled
-pub mod ShownTexts
+pub mod Arms
 pub mod Arrivals
-pub mod OpenValues
-pub mod Documents
+pub mod Between
 pub mod Chunks
-pub mod Received
-pub mod GrownTexts
-pub mod WholeLiterals
+pub mod Documents
+pub mod Leading
 pub mod LinePlaces
-mod Rows
+pub mod Over
+pub mod Passing
+pub mod Placing
+pub mod Received
+pub mod Settling
+pub mod Slots
+pub mod WholeLiterals

@@ -20,14 +20,14 @@ use Rattle.jiter_steps.specs.declared.parse.ContainerKind.{ContainerKind}
 use Rattle.jiter_steps.specs.declared.parse.ContainerKind.TheVariants as shape
 use Rattle.jiter_steps.specs.declared.parse.Start.TheVariants as start
 use Rattle.jiter_incremental.specs.Arrived.{owned}
-use Rattle.jiter_incremental.specs.PartialDocument.{IsScalarWithin}
-use Rattle.jiter_incremental.specs.PartialValue.{BeginsItem}
+use Rattle.jiter_incremental.specs.Between.{BeginsItem}
+use Rattle.jiter_incremental.specs.Document.{IsScalarWithin}
 use Rattle.jiter_value.specs.Settings.{rules_as}
 use Rattle.jiter_value.specs.Stacks.{empty_tree}
 use Rattle.jiter_incremental.specs.declared.names.Name.TheVariants as name
 use Rattle.jiter_value.specs.declared.settings.Settings.{Settings}
 use Rattle.jiter_incremental.proofs.Documents.Tokens.{begins-so, held-stands, word-done}
-use Rattle.jiter_incremental.proofs.OpenValues.{opens-item}
+use Rattle.jiter_incremental.proofs.Between.{opens-item}
 
 module _ (chunk : List ℕ) (at : ℕ) (l : Literal) (e : ℕ) (starts : start_of (get_or chunk at 0) ≡ start.Literal l)
     (read : literal_at chunk l at ≡ taken tt e) (some : at < e) (within : e ≤ length chunk) where

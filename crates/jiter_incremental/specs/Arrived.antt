@@ -1,5 +1,5 @@
 -- A document that arrives in chunks: what its bytes so far leave open, and what the rest of it completes that to.
-use Rattle.std.specs.Prelude.{◌≡◌, ℕ, ◌-◌, List, [], ◌∷◌, ◌++◌, length, map, Option, Some, None}
+use Rattle.std.specs.Prelude.{◌≡◌, ℕ, ◌+◌, ◌-◌, List, [], ◌∷◌, ◌++◌, length, Option, Some, None}
 use Rattle.jiter_scan.specs.Kind.{Kind, eof_object, eof_value}
 use Rattle.jiter_scan.specs.Scanned.{taken, failed}
 use Rattle.jiter_scan.specs.Word.{Extent}
@@ -12,13 +12,11 @@ use Rattle.jiter_steps.specs.declared.parse.ContainerKind.{ContainerKind}
 use Rattle.jiter_steps.specs.declared.parse.ContainerKind.TheVariants as shape
 use Rattle.jiter_value.specs.Owned.{owned_text}
 use Rattle.jiter_value.specs.Settings.{Keeping, each, rules_as}
-use Rattle.jiter_incremental.specs.Spine.{OpenFrame, begun, filled, spine_of, AwaitsPart, IsOfKey}
+use Rattle.jiter_incremental.specs.Slot.{OpenFrame, begun, filled, AwaitsPart, IsOfKey}
 use Rattle.jiter_value.specs.Stacks.{PartTree, built}
-use Rattle.jiter_value.specs.Value.{view}
-use Rattle.jiter_incremental.specs.declared.partial_value.Awaits.{Awaits}
-use Rattle.jiter_incremental.specs.declared.partial_value.Awaits.TheVariants as awaits
+use Rattle.jiter_incremental.specs.declared.reader.Awaits.{Awaits}
+use Rattle.jiter_incremental.specs.declared.reader.Awaits.TheVariants as awaits
 use Rattle.jiter_value.specs.declared.settings.Settings.{Settings}
-use Rattle.jiter_value.specs.declared.value.JsonValue.{JsonValue}
 
 -- What the bytes so far leave open, where no token is unfinished: inside these containers a value is awaited, or its
 -- colon; inside them stands a container of these parts, of which another is awaited, a comma or the end; or the value
@@ -55,12 +53,19 @@ IsBetweenParts awaits.Next = Unit {0}
 IsBetweenParts awaits.Comma = Unit {0}
 IsBetweenParts other = ⊥
 
--- The same is held: what is awaited, the spine, the root and the last key.
-abbrev pub Holds : Awaits → List JsonValue → JsonValue → Text → Arrived → Type 0
-Holds a spine root k (at_value b fs) = (a ≡ b) × IsBeforeValue b × AwaitsPart spine fs × IsOfKey k fs
-Holds a spine root k (between_parts b h xs fs) =
-    (a ≡ b) × IsBetweenParts b × (map view spine ≡ spine_of fs (built h xs))
-Holds a spine root k (at_end v n) = (a ≡ awaits.Nothing) × (spine ≡ []) × (view root ≡ v)
+-- What is held of the value so far: what is awaited, how many containers are open, the last key, and the value.
+pub record OpenValue : Type 0 where
+  pub awaits : Awaits
+  pub depth : ℕ
+  pub key : Text
+  pub tree : Tree
+
+-- It leaves this open.
+abbrev pub IsLeft : OpenValue → Arrived → Type 0
+IsLeft v (at_value b fs) = (v.awaits ≡ b) × IsBeforeValue b × AwaitsPart v.depth v.tree fs × IsOfKey v.key fs
+IsLeft v (between_parts b h xs fs) =
+    (v.awaits ≡ b) × IsBetweenParts b × (v.depth ≡ length fs + 1) × (v.tree ≡ filled fs (built h xs))
+IsLeft v (at_end x n) = (v.awaits ≡ awaits.Nothing) × (v.depth ≡ 0) × (v.tree ≡ x)
 
 module _ (r : Rules Text Tree) (t : List ℕ) where
   -- where a value begins, or the fault there

@@ -1,15 +1,14 @@
--- A reading of a document that arrives in chunks: what it holds of the bytes that were pushed, and what they answer.
-use Rattle.std.specs.Prelude.{◌≡◌, ℕ, Bool, Err, List, None, Ok, Option, Some, length, true}
+-- A parser of a document that comes in chunks: what it holds of the bytes that were pushed, and what they answer.
+use Rattle.std.specs.Prelude.{◌≡◌, ℕ, ◌+◌, ◌≤◌, Bool, Err, List, None, Ok, Option, Some, length}
 use Rattle.jiter_scan.specs.declared.errors.JsonError.{JsonError}
 use Rattle.jiter_scan.specs.declared.partial_mode.PartialMode.TheVariants.{Off}
-use Rattle.jiter_incremental.specs.DocumentEnds.{AnswersSo}
-use Rattle.jiter_incremental.specs.Growing.{IsGrowing}
-use Rattle.jiter_incremental.specs.PartialDocument.{strictly}
-use Rattle.jiter_incremental.specs.Together.{IsTogether}
+use Rattle.jiter_steps.specs.Node.{nesting_limit}
+use Rattle.jiter_incremental.specs.Document.{HasArrived}
+use Rattle.jiter_incremental.specs.Reader.{document}
 use Rattle.jiter_value.specs.Owned.{owned_tree}
 use Rattle.jiter_value.specs.Parses.{Parses}
 use Rattle.jiter_value.specs.Value.{view}
-use Rattle.jiter_incremental.specs.declared.incremental_parser.Settled.{Settled}
+use Rattle.jiter_incremental.specs.declared.reader.Reader.{Reader}
 use Rattle.jiter_value.specs.declared.settings.Settings.{Settings}
 use Rattle.jiter_value.specs.declared.value.JsonValue.{JsonValue}
 
@@ -17,24 +16,19 @@ use Rattle.jiter_value.specs.declared.value.JsonValue.{JsonValue}
 pub record Received : Type 0 where
   pub settings : Settings
   pub position : ℕ
-  pub held : Settled
+  pub reader : Reader
+  pub root : JsonValue
 
-abbrev pub received : Settled → Received
-received s = record {
-  settings = s.document.settings;
-  position = s.document.position;
-  held = s;
-}
+abbrev pub received : Reader → JsonValue → Received
+received r v = record { settings = r.settings; position = r.base + r.at; reader = r; root = v }
 
--- The reading has received the bytes t: the value so far is together, and it is told what they answer in the document's
--- mode and with partial reading off, the fault or the value. It is known where plain bytes may be put after an unfinished
--- string.
-pub record HasReceived (r : Received) (t : List ℕ) : Type 0 where
-  pub together : IsTogether r.held.document r.held.depth r.held.shown t
-  pub position : r.position ≡ length t
-  pub mode : AnswersSo r.settings t r.held.fault (Some (view r.held.document.value.root))
-  pub strict : AnswersSo (strictly r.settings) t r.held.strict (Some (view r.held.document.value.root))
-  pub growing : r.held.growing ≡ true → IsGrowing r.held.document
+-- The parser has received the bytes t, and is between two chunks.
+pub record HasReceived (p : Received) (t : List ℕ) : Type 0 where
+  pub arrived : HasArrived (document p.reader (view p.root)) t
+  pub between : p.reader.at ≡ 0
+  pub low : p.reader.depth ≤ nesting_limit + 1
+  pub settings : p.settings ≡ p.reader.settings
+  pub position : p.position ≡ length t
 
 -- Read as a whole with partial reading off, these bytes have this fault, or, where there is none, a value.
 abbrev pub WouldFinish : Bool → List ℕ → Option JsonError → Type 0

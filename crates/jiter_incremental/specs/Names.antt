@@ -6,7 +6,7 @@ use Rattle.jiter_steps.specs.Literal.{literal_at, literal_tree, word_of}
 use Rattle.jiter_steps.specs.Tree.{Tree, float}
 use Rattle.jiter_steps.specs.declared.parse.Start.{Start}
 use Rattle.jiter_steps.specs.declared.parse.Start.TheVariants as start
-use Rattle.jiter_incremental.specs.PartialValue.{text_of}
+use Rattle.jiter_incremental.specs.Between.{text_of}
 use Rattle.jiter_incremental.specs.declared.names.Name.{Name}
 use Rattle.jiter_incremental.specs.declared.names.Name.TheVariants as name
 

@@ -1,39 +1,47 @@
 //! The result for the bytes so far, if the input ended after them.
-ghost use Rattle.std.specs.Prelude.{◌≡◌, List, None, is_some, option_map, true, ℕ};
+ghost use Rattle.std.specs.Prelude.{◌≡◌, ◌+◌, ◌^◌, ◌<◌, List, None, Some, is_some, option_map, true, ℕ};
+ghost use Rattle.jiter_incremental.specs.Arrived.{Arrived, IsLeft, at_value, end_of, shown};
+ghost use Rattle.jiter_incremental.specs.Between.{after_value};
+ghost use Rattle.jiter_incremental.specs.Document.{HasArrived, strictly};
+ghost use Rattle.jiter_incremental.specs.Ends.{AnswersSo};
+ghost use Rattle.jiter_incremental.specs.Reader.{document};
+ghost use Rattle.jiter_incremental.specs.declared.reader.Token.TheVariants as token_kind;
 ghost use Rattle.jiter_scan.specs.Kind.{fault_kind};
 ghost use Rattle.jiter_scan.specs.PartialMode.{is_active};
-ghost use Rattle.jiter_incremental.specs.Arrived.{shown};
-ghost use Rattle.jiter_incremental.specs.DocumentEnds.{AnswersSo, IsEndFault, KeepsText, is_broken, is_shown, kind_at_end, so_far};
-ghost use Rattle.jiter_incremental.specs.PartialDocument.{HasArrived, strictly};
+ghost use Rattle.jiter_value.specs.Value.{view};
 
-use crate::partial_document::{PartialDocument, Token};
+use crate::reader::{Awaits, Reader, Token};
+use crate::slot::innermost_kind;
 use jiter_scan::errors::{Fault, FaultKind, fault_at};
+use jiter_value::value::JsonValue;
 
-impl PartialDocument {
-    /// Returns whether the unfinished scalar is a value if the input ends here.
-    pub fn is_shown(&self) -> bool
-        ensures { result ≡ is_shown self.now }
-    {
-        match self.token {
-            Token::Number => self.number.is_whole(),
-            Token::Text => self.settings.mode.allow_trailing_str() && self.string.is_text(true),
-            _ => false,
+impl Reader {
+    // After an item or member, or an opening bracket.
+    fn container_end(&self, root: &JsonValue<'static>) -> Option<FaultKind> {
+        if self.depth == 0 {
+            None
+        } else {
+            Some(innermost_kind(root, self.depth).end_kind())
+        }
+    }
+
+    // With partial reading off, and no token unfinished.
+    fn end_between(&self, root: &JsonValue<'static>) -> Option<FaultKind> {
+        match self.awaits {
+            Awaits::Value | Awaits::Next => Some(FaultKind::EofWhileParsingValue),
+            Awaits::Colon => Some(FaultKind::EofWhileParsingObject),
+            _ => self.container_end(root),
         }
     }
 
     // With partial reading off. A number can be complete without a byte after it.
-    fn end_kind(&self) -> Option<FaultKind>
-        requires arrived { (t : List ℕ) × HasArrived self.now t }
-        requires unset { self.now.fault ≡ None }
-        ensures { (t : List ℕ) → (h : HasArrived self.now t)
-            → option_map fault_kind result ≡ kind_at_end self.now h.read.opened }
-    {
+    fn end_kind(&self, root: &JsonValue<'static>) -> Option<FaultKind> {
         match self.token {
-            Token::Nothing => self.value.end_fault(),
+            Token::Nothing => self.end_between(root),
             Token::Word => Some(FaultKind::EofWhileParsingValue),
             Token::Number => {
                 if self.number.is_whole() {
-                    self.value.container_end()
+                    self.container_end(root)
                 } else {
                     Some(FaultKind::EofWhileParsingValue)
                 }
@@ -42,81 +50,59 @@ impl PartialDocument {
         }
     }
 
-    fn end_fault(&self) -> Option<Fault>
-        requires arrived { (t : List ℕ) × HasArrived self.now t }
-        requires unset { self.now.fault ≡ None }
-        ensures { (t : List ℕ) → (h : HasArrived self.now t)
-            → IsEndFault self.now (kind_at_end self.now h.read.opened) result }
-    {
-        match self.end_kind() {
-            Some(kind) => Some(fault_at(kind, self.position)),
+    fn end_fault(&self, root: &JsonValue<'static>) -> Option<Fault> {
+        match self.end_kind(root) {
+            Some(kind) => Some(fault_at(kind, self.position())),
             None => None,
         }
     }
 
     /// Returns the first error with partial reading off, or `None` if the bytes so far are a document.
-    pub fn strict_fault(&self) -> Option<Fault>
-        requires { (t : List ℕ) × HasArrived self.now t }
-        ensures { (t : List ℕ) → (h : HasArrived self.now t)
-            → AnswersSo (strictly self.now.settings) t result (shown (so_far self.now h.read.opened)) }
+    pub fn strict_fault(&self, root: &JsonValue<'static>) -> Option<Fault>
+        requires arrived { (t : List ℕ) × HasArrived (document self.now (view root.now)) t }
+        requires room { self.now.base + self.now.at < 2 ^ 64 }
+        ensures { (t : List ℕ) → HasArrived (document self.now (view root.now)) t
+            → AnswersSo (strictly self.now.settings) t result (Some (view root.now)) }
     {
         if self.first.is_some() {
             return self.first;
         }
-        self.end_fault()
+        self.end_fault(root)
     }
 
-    // The mode keeps the unfinished string, but its bytes are invalid UTF-8.
-    fn is_broken(&self) -> bool
-        ensures broken { result ≡ is_broken self.now }
-        ensures kept { KeepsText self.now }
-    {
-        matches!(self.token, Token::Text)
-            && self.settings.mode.allow_trailing_str()
-            && !self.string.is_text(true)
-    }
-
-    fn has_value(&self) -> bool
-        requires arrived { (t : List ℕ) × HasArrived self.now t }
-        requires unset { self.now.fault ≡ None }
-        ensures { (t : List ℕ) → (h : HasArrived self.now t)
-            → result ≡ is_some (shown (so_far self.now h.read.opened)) }
-    {
-        0 < self.value.depth() || self.is_shown() || self.value.is_whole()
+    fn has_value(&self) -> bool {
+        0 < self.depth || self.shown || self.is_whole()
     }
 
     // A partial mode can fail at the end for two reasons: the string that it keeps is invalid, or there is no value
     // yet.
-    fn partial_fault(&self) -> Option<Fault>
-        requires arrived { (t : List ℕ) × HasArrived self.now t }
-        requires unset { self.now.fault ≡ None }
-        requires active { is_active self.now.settings.mode ≡ true }
-        ensures { (t : List ℕ) → (h : HasArrived self.now t)
-            → AnswersSo self.now.settings t result (shown (so_far self.now h.read.opened)) }
-    {
-        if self.is_broken() {
+    #[inline(always)]
+    fn partial_fault(&self, root: &JsonValue<'static>) -> Option<Fault> {
+        if self.keeps() && !self.shown {
             let index = self.begin + 1 + self.string.text().len();
             return Some(fault_at(FaultKind::InvalidUnicodeCodePoint, index));
         }
         if self.has_value() {
             return None;
         }
-        self.end_fault()
+        self.end_fault(root)
     }
 
     /// Returns the error of the bytes so far in the document's mode, or `None` if they have a value.
-    pub fn mode_fault(&self) -> Option<Fault>
-        requires { (t : List ℕ) × HasArrived self.now t }
-        ensures { (t : List ℕ) → (h : HasArrived self.now t)
-            → AnswersSo self.now.settings t result (shown (so_far self.now h.read.opened)) }
+    #[inline(always)]
+    pub fn mode_fault(&self, root: &JsonValue<'static>) -> Option<Fault>
+        requires arrived { (t : List ℕ) × HasArrived (document self.now (view root.now)) t }
+        requires room { self.now.base + self.now.at < 2 ^ 64 }
+        ensures { (t : List ℕ) → HasArrived (document self.now (view root.now)) t
+            → AnswersSo self.now.settings t result (Some (view root.now)) }
     {
         if self.fault.is_some() {
             return self.fault;
         }
         if self.settings.mode.is_active() {
-            self.partial_fault()
+            self.partial_fault(root)
         } else {
-            self.strict_fault()
+            self.strict_fault(root)
         }
     }
 }

@@ -3,16 +3,15 @@ ghost use Rattle.std.specs.Prelude.{◌≡◌, ◌+◌, ◌-◌, ◌^◌, ◌<�
 ghost use Rattle.std.specs.Prelude.{OnErr, OnOk, length, take, true, ℕ};
 ghost use Rattle.std.specs.List.{flat_map};
 ghost use Rattle.jiter_steps.specs.Blank.{past_blanks};
+ghost use Rattle.jiter_incremental.specs.Document.{MayRefuseAt};
+ghost use Rattle.jiter_incremental.specs.Ends.{AnswersSo};
 ghost use Rattle.jiter_incremental.specs.IncrementalParser.{HasReceived, WouldFinish, received};
-ghost use Rattle.jiter_incremental.specs.DocumentEnds.{AnswersSo};
-ghost use Rattle.jiter_incremental.specs.PartialDocument.{HasArrived, MayRefuseAt, StaysSo};
 ghost use Rattle.jiter_value.specs.Owned.{owned_tree};
 ghost use Rattle.jiter_value.specs.Parses.{Parses};
 ghost use Rattle.jiter_value.specs.Value.{view};
 ghost use Rattle.jiter_value.specs.declared.settings.Settings.{Settings};
 
-use crate::growing::is_plain;
-use crate::partial_document::PartialDocument;
+use crate::reader::Reader;
 use jiter_scan::errors::Fault;
 use jiter_scan::memory::AllocFailed;
 use jiter_scan::{JsonError, JsonErrorType, PartialMode};
@@ -21,21 +20,6 @@ use jiter_value::value::JsonValue;
 use std::alloc::{AllocError, Global};
 use std::marker::Model;
 
-// A document between two chunks: its value is assembled, and the result for the bytes so far is known.
-#[derive(Drop)]
-pub(crate) struct Settled {
-    pub(crate) document: PartialDocument,
-    // the number of open containers, and whether the value holds the unfinished scalar
-    pub(crate) depth: usize,
-    pub(crate) shown: bool,
-    // whether a string or a key is unfinished, and the bytes so far are complete characters and escapes
-    pub(crate) growing: bool,
-    // the error of the bytes so far in the document's mode; more bytes may remove it
-    pub(crate) fault: Option<Fault>,
-    // the same with partial reading off
-    pub(crate) strict: Option<Fault>,
-}
-
 fn told(fault: Option<Fault>, value: JsonValue<'static>) -> Result<JsonValue<'static>, JsonError>
     ensures { (p : Settings) → (t : List ℕ) → AnswersSo p t fault (Some (view value.entry))
         → Parses owned_tree ⊥ p.allow_inf_nan p.mode t result }
@@ -43,80 +27,6 @@ fn told(fault: Option<Fault>, value: JsonValue<'static>) -> Result<JsonValue<'st
     match fault {
         Some(fault) => Err(JsonError::from(fault)),
         None => Ok(value),
-    }
-}
-
-impl Settled {
-    // After a final error (`document.fault`) the value isn't assembled: no result uses it then.
-    fn settle(&mut self)
-        requires { (t : List ℕ) × HasArrived self.old.document t }
-        ensures received { (t : List ℕ) → HasArrived self.old.document t → HasReceived (received self.new) t }
-        ensures same { StaysSo self.old.document self.new.document }
-    {
-        self.fault = self.document.mode_fault();
-        self.strict = self.document.strict_fault();
-        self.growing = false;
-        if self.document.fault.is_none() {
-            let (depth, shown) = self.document.settle();
-            self.depth = depth;
-            self.shown = shown;
-            self.growing = self.document.is_growing();
-        }
-    }
-
-    // Undoes `settle`: bytes can be taken only while the containers are separate.
-    fn unsettle(&mut self)
-        requires { (t : List ℕ) × HasReceived (received self.old) t }
-        ensures arrived { (t : List ℕ) → HasReceived (received self.old) t → HasArrived self.new.document t }
-        ensures same { StaysSo self.old.document self.new.document }
-    {
-        if self.document.fault.is_none() {
-            self.document.unsettle(self.depth, self.shown);
-        }
-    }
-
-    // The slow path: separates the value, takes the chunk, and assembles the value again.
-    #[inline(never)]
-    fn take_apart(&mut self, chunk: &[u8]) -> Result<(), AllocFailed>
-        requires received { (t : List ℕ) × HasReceived (received self.old) t }
-        requires room { self.old.document.position + length chunk.now < 2 ^ 64 }
-        ensures ok { (t : List ℕ) → HasReceived (received self.old) t
-            → OnOk result (HasReceived (received self.new) (t ++ chunk.now)) }
-        ensures refused { (t : List ℕ) → HasReceived (received self.old) t → OnErr result
-            (HasReceived (received self.new)
-            (t ++ take (self.new.document.position - self.old.document.position) chunk.now)) }
-        ensures wanted { (t : List ℕ) → HasReceived (received self.old) t
-            → OnErr result (MayRefuseAt (t ++ chunk.now) self.new.document.position) }
-        ensures within { (self.old.document.position ≤ self.new.document.position)
-            × (self.new.document.position ≤ self.old.document.position + length chunk.now) }
-        ensures settings { self.new.document.settings ≡ self.old.document.settings }
-    {
-        self.unsettle();
-        let taken = self.document.take_all(chunk);
-        self.settle();
-        taken
-    }
-
-    // The fast path: plain bytes that continue a string go into the assembled value.
-    #[inline(always)]
-    fn take(&mut self, chunk: &[u8]) -> Result<(), AllocFailed>
-        requires received { (t : List ℕ) × HasReceived (received self.old) t }
-        requires room { self.old.document.position + length chunk.now < 2 ^ 64 }
-        ensures ok { (t : List ℕ) → HasReceived (received self.old) t
-            → OnOk result (HasReceived (received self.new) (t ++ chunk.now)) }
-        ensures refused { (t : List ℕ) → HasReceived (received self.old) t → OnErr result
-            (HasReceived (received self.new)
-            (t ++ take (self.new.document.position - self.old.document.position) chunk.now)) }
-        ensures wanted { (t : List ℕ) → HasReceived (received self.old) t
-            → OnErr result (MayRefuseAt (t ++ chunk.now) self.new.document.position) }
-        ensures within { (self.old.document.position ≤ self.new.document.position)
-            × (self.new.document.position ≤ self.old.document.position + length chunk.now) }
-        ensures settings { self.new.document.settings ≡ self.old.document.settings }
-    {
-        if self.growing && is_plain(chunk) {
-            return self.grow(chunk);
-        }
-        self.take_apart(chunk)
     }
 }
 
@@ -136,7 +46,8 @@ impl Settled {
 /// ```
 #[derive(Drop)]
 pub struct IncrementalParser {
-    settled: Settled,
+    root: JsonValue<'static>,
+    reader: Reader,
 }
 
 impl Model for IncrementalParser {
@@ -148,9 +59,9 @@ impl Model for IncrementalParser {
 
     ghost coded = { Prim.hlevel codes };
 
-    ghost view = { λ a. received a.settled };
+    ghost view = { λ a. received a.reader a.root };
 
-    ghost invariant = { λ a. (t : List ℕ) × HasReceived (received a.settled) t };
+    ghost invariant = { λ a. (t : List ℕ) × HasReceived (received a.reader a.root) t };
 }
 
 impl IncrementalParser {
@@ -168,16 +79,10 @@ impl IncrementalParser {
             allow_inf_nan,
             mode: allow_partial,
         };
-        let mut settled = Settled {
-            document: PartialDocument::new(alloc, settings),
-            depth: 0,
-            shown: false,
-            growing: false,
-            fault: None,
-            strict: None,
-        };
-        settled.settle();
-        IncrementalParser { settled }
+        IncrementalParser {
+            root: JsonValue::Null,
+            reader: Reader::new(alloc, settings),
+        }
     }
 
     /// Takes a chunk: the bytes that follow those so far.
@@ -205,19 +110,12 @@ impl IncrementalParser {
             × (self.new.position ≤ self.old.position + length chunk.now) }
         ensures settings { self.new.settings ≡ self.old.settings }
     {
-        if self
-            .settled
-            .document
-            .position
-            .checked_add(chunk.len())
-            .is_none()
-        {
+        if self.reader.position().checked_add(chunk.len()).is_none() {
             return Err(AllocError);
         }
-        if chunk.is_empty() {
-            return Ok(());
-        }
-        self.settled.take(chunk)?;
+        let read = self.reader.read(&mut self.root, chunk);
+        self.reader.leave_chunk();
+        read?;
         Ok(())
     }
 
@@ -226,7 +124,7 @@ impl IncrementalParser {
         ensures position { result ≡ self.now.position }
         ensures counts { (t : List ℕ) → HasReceived self.now t → result ≡ length t }
     {
-        self.settled.document.position
+        self.reader.position()
     }
 
     /// Returns what [`JsonValue::parse_owned`] returns for all bytes so far, in this parser's mode. Does not allocate.
@@ -239,9 +137,9 @@ impl IncrementalParser {
             (λ v. Parses owned_tree ⊥ self.now.settings.allow_inf_nan self.now.settings.mode t (Ok v.now))
             (λ e. Parses owned_tree ⊥ self.now.settings.allow_inf_nan self.now.settings.mode t (Err e)) }
     {
-        match self.settled.fault {
+        match self.reader.mode_fault(&self.root) {
             Some(fault) => Err(JsonError::from(fault)),
-            None => Ok(self.settled.document.value.root()),
+            None => Ok(&self.root),
         }
     }
 
@@ -250,7 +148,7 @@ impl IncrementalParser {
     pub fn error(&self) -> Option<JsonError>
         ensures { (t : List ℕ) → HasReceived self.now t → WouldFinish self.now.settings.allow_inf_nan t result }
     {
-        match self.settled.strict {
+        match self.reader.strict_fault(&self.root) {
             Some(fault) => Some(JsonError::from(fault)),
             None => None,
         }
@@ -265,13 +163,8 @@ impl IncrementalParser {
         ensures { (t : List ℕ) → HasReceived self t
             → Parses owned_tree ⊥ self.settings.allow_inf_nan self.settings.mode t result }
     {
-        let IncrementalParser { settled } = self;
-        let Settled {
-            document,
-            fault,
-            ..
-        } = settled;
-        told(fault, document.into_root())
+        let IncrementalParser { root, reader } = self;
+        told(reader.mode_fault(&root), root)
     }
 
     /// Returns what [`JsonValue::parse_owned`] returns for all bytes with partial reading off, whatever this parser's
@@ -284,13 +177,8 @@ impl IncrementalParser {
         ensures { (t : List ℕ) → HasReceived self t
             → Parses owned_tree ⊥ self.settings.allow_inf_nan PartialMode.Off t result }
     {
-        let IncrementalParser { settled } = self;
-        let Settled {
-            document,
-            strict,
-            ..
-        } = settled;
-        told(strict, document.into_root())
+        let IncrementalParser { root, reader } = self;
+        told(reader.strict_fault(&root), root)
     }
 }
 

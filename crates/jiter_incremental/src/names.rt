@@ -1,7 +1,7 @@
 //! The words that are values: the literals (RFC 8259, 3) and the non-finite numbers.
 ghost use Rattle.std.specs.Prelude.{◌≡◌, IfOk};
 ghost use Rattle.jiter_steps.specs.Tree.{float};
-ghost use Rattle.jiter_incremental.specs.PartialValue.{text_of};
+ghost use Rattle.jiter_incremental.specs.Between.{text_of};
 ghost use Rattle.jiter_incremental.specs.Names.{name_tree, name_word};
 ghost use Rattle.jiter_value.specs.Value.{view};
 

@@ -10,30 +10,28 @@ use Rattle.jiter_scan.proofs.Runs.{run_end-passes}
 use Rattle.jiter_scan.proofs.Standing.{slice-one, slice_range-split}
 use Rattle.jiter_steps.specs.Blank.{is_blank, past_blanks}
 use Rattle.jiter_steps.proofs.Grammar.Blanks.{no_blank-after, past_blanks-after, past_blanks-bound}
+use Rattle.jiter_incremental.specs.Between.{IsScalarStart}
+use Rattle.jiter_incremental.specs.Document.{Document, HasCome, HasTakenIn, Holding, HoldsScalar, MayRefuseAt, Opened, anything, between_tokens, in_key, in_scalar}
 use Rattle.jiter_incremental.specs.Names.{name_start}
-use Rattle.jiter_incremental.specs.PartialDocument.{HasArrived, HasTakenIn, HoldsScalar, Holding}
-use Rattle.jiter_incremental.specs.PartialDocument.{MayRefuseAt, Opened, anything, between_tokens, in_key, in_scalar}
-use Rattle.jiter_incremental.specs.PartialValue.{IsScalarStart}
 use Rattle.jiter_incremental.specs.declared.names.Name.{Name}
 use Rattle.jiter_incremental.specs.declared.names.Name.TheVariants as name
-use Rattle.jiter_incremental.specs.declared.partial_document.PartialDocument.{PartialDocument}
-use Rattle.jiter_incremental.specs.declared.partial_document.Token.{Token}
-use Rattle.jiter_incremental.specs.declared.partial_document.Token.TheVariants as token
+use Rattle.jiter_incremental.specs.declared.reader.Token.{Token}
+use Rattle.jiter_incremental.specs.declared.reader.Token.TheVariants as token
 use Rattle.jiter_incremental.proofs.Documents.Bytes.{two-parts}
 use Rattle.jiter_incremental.proofs.Documents.Ends.{no-blank}
 use Rattle.jiter_incremental.proofs.Documents.Tokens.{stands-last}
 use Rattle.jiter_incremental.proofs.Documents.{known-before, taken-between, takes-byte}
-use Rattle.jiter_incremental.proofs.OpenValues.{goes-blank}
+use Rattle.jiter_incremental.proofs.Between.{goes-blank}
 
 -- a blank is taken
-blank-taken : (d : PartialDocument) (t : List ℕ) (c : ℕ) → HasTakenIn anything d t → d.fault ≡ None
+blank-taken : (d : Document) (t : List ℕ) (c : ℕ) → HasTakenIn anything d t → d.fault ≡ None
     → d.token ≡ token.Nothing → is_blank c ≡ true → HasTakenIn anything d (t ++ c ∷ [])
 blank-taken d t c h unset none blank =
     let b = taken-between anything d t h unset none in
     takes-byte d d.value c t b.state (known-before c d t (between_tokens b.state) b.known) none
     (goes-blank d.value b.state c blank b.left)
 
-module _ (d : PartialDocument) (t : List ℕ) (h : HasTakenIn anything d t) (unset : d.fault ≡ None)
+module _ (d : Document) (t : List ℕ) (h : HasTakenIn anything d t) (unset : d.fault ≡ None)
     (none : d.token ≡ token.Nothing) (s : List ℕ) (i : ℕ) where
   -- and each of so many
   blanks-taken : (n : ℕ) → i + n ≤ length s → ((k : ℕ) → i ≤ k → k < i + n → is_blank (get_or s k 0) ≡ true)
@@ -64,7 +62,7 @@ module _ (d : PartialDocument) (t : List ℕ) (h : HasTakenIn anything d t) (uns
       blanks-taken n (omega arith) (λ k from to. run_end-passes is_blank s i k from (omega arith))
 
 -- After bytes of a chunk that were taken the blanks are taken too.
-pub blanks-after : (d : PartialDocument) (chunk : List ℕ) (at e r : ℕ) (t : List ℕ) → at ≤ e → e ≤ length chunk
+pub blanks-after : (d : Document) (chunk : List ℕ) (at e r : ℕ) (t : List ℕ) → at ≤ e → e ≤ length chunk
     → d.fault ≡ None → d.token ≡ token.Nothing → at + r ≡ past_blanks chunk e
     → HasTakenIn anything d (t ++ slice_range chunk at e) → HasTakenIn anything d (t ++ slice_range chunk at (at + r))
 blanks-after d chunk at e r t le within unset none is h =
@@ -92,11 +90,11 @@ refuse-here t c other = record {
 }
 
 -- a byte is no blank
-record HasByte (t : List ℕ) : Type 0 where
-  place : ℕ
-  byte : ℕ
-  here : slice_get t place ≡ Some byte
-  other : is_blank byte ≡ false
+pub record HasByte (t : List ℕ) : Type 0 where
+  pub place : ℕ
+  pub byte : ℕ
+  pub here : slice_get t place ≡ Some byte
+  pub other : is_blank byte ≡ false
 
 before-more : (s r : List ℕ) (i c : ℕ) → slice_get s i ≡ Some c → slice_get (s ++ r) i ≡ Some c
 before-more s r i c here =
@@ -105,7 +103,7 @@ before-more s r i c here =
     (sym (get_or_append_left s r c i lt ∙ get_or_from_slice_get s i c c here))
 
 -- after it too
-refuse-after : (t : List ℕ) (c : ℕ) → HasByte t → MayRefuseAt (t ++ c ∷ []) (length t)
+pub refuse-after : (t : List ℕ) (c : ℕ) → HasByte t → MayRefuseAt (t ++ c ∷ []) (length t)
 refuse-after t c b =
     let lt = slice_get_within t b.place b.byte b.here in
     let stops = blank-stops (t ++ c ∷ []) b.place b.byte (before-more t (c ∷ []) b.place b.byte b.here) b.other in
@@ -126,7 +124,7 @@ name-starts : (k : Name) → IsScalarStart (name_start k)
 name-starts (name.Literal l) = tt
 name-starts other = tt
 
-scalar-begins : (d : PartialDocument) (k : Token) (w : List ℕ) → HoldsScalar d k w
+scalar-begins : (d : Document) (k : Token) (w : List ℕ) → HoldsScalar d k w
     → (c : ℕ) × (rest : List ℕ) × (w ≡ c ∷ rest) × (is_blank c ≡ false)
 scalar-begins d token.Word w h =
     let b = h.2 in (b.first, b.rest, b.is, no-blank b.first (subst IsScalarStart (sym b.starts) (name-starts d.name)))
@@ -135,7 +133,7 @@ scalar-begins d token.Number w h =
 scalar-begins d token.Text w h = (34, h.rest, h.is, refl)
 scalar-begins d other w h = absurd h
 
-held-byte : (d : PartialDocument) (t : List ℕ) (o : Opened) → Holding d t o → d.token ≢ token.Nothing → HasByte t
+pub held-byte : (d : Document) (t : List ℕ) (o : Opened) → Holding d t o → d.token ≢ token.Nothing → HasByte t
 held-byte d t (between_tokens s) h begun = absurd (begun h.0)
 held-byte d t (in_scalar fs b) h begun =
     let f = h.1 in
@@ -159,10 +157,15 @@ held-byte d t (in_key fs ms b) h begun =
     }
 
 -- Inside a token memory may be refused.
-pub refuse-in : (d : PartialDocument) (t : List ℕ) (c : ℕ) → HasArrived d t → d.fault ≡ None → d.token ≢ token.Nothing
+pub refuse-in : (d : Document) (t : List ℕ) (c : ℕ) → HasCome d t → d.fault ≡ None → d.token ≢ token.Nothing
     → MayRefuseAt (t ++ c ∷ []) (length t)
 refuse-in d t c h unset begun =
     refuse-after t c (held-byte d t h.read.opened (h.read.held unset) begun)
+
+-- a byte that is passed is a blank
+pub first-blank : (s : List ℕ) (i : ℕ) → i < past_blanks s i → is_blank (get_or s i 0) ≡ true
+unfolding past_blanks
+first-blank s i more = run_end-passes is_blank s i i (omega arith) more
 
 -- a byte that is not passed is no blank
 pub not-passed : (s : List ℕ) (i : ℕ) → i < length s → past_blanks s i ≡ i → is_blank (get_or s i 0) ≡ false

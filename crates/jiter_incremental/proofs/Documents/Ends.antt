@@ -47,30 +47,25 @@ use Rattle.jiter_steps.specs.Read.{if_forgiven, scalar_at}
 use Rattle.jiter_steps.specs.StringReading.{content_at, kept, text_form, whole}
 use Rattle.jiter_steps.specs.Tree.{string}
 use Rattle.jiter_steps.specs.Step.{colon, value_first}
-use Rattle.jiter_incremental.specs.Arrived.{Arrived, at_value, between_parts, at_end, shown, end_of, leads_on, owned}
-use Rattle.jiter_incremental.specs.DocumentEnds.{AnswersSo, so_far, token_tree}
-use Rattle.jiter_incremental.specs.PartialDocument.{Opened, between_tokens, in_scalar, in_key, opened_to, EndsRight, ReadsAt, strictly}
-use Rattle.jiter_incremental.specs.PartialValue.{IsScalarStart, after_value}
-use Rattle.jiter_value.specs.Settings.{answer_as, rules_as}
-use Rattle.jiter_incremental.specs.Spine.{OpenFrame, begun, filled}
-use Rattle.jiter_value.specs.Stacks.{built}
-use Rattle.jiter_incremental.specs.declared.partial_value.Awaits.TheVariants as awaits
-use Rattle.jiter_value.specs.declared.settings.Settings.{Settings}
-use Rattle.jiter_incremental.specs.DocumentEnds.{IsEndFault, KeepsText, broken_as, is_broken, kind_as, kind_at_end, shown_as}
-use Rattle.jiter_incremental.specs.Arrived.{value_then}
-use Rattle.jiter_incremental.specs.declared.partial_value.Awaits.{Awaits}
-use Rattle.jiter_incremental.specs.DocumentStrings.{IsOfString}
+use Rattle.jiter_incremental.specs.Arrived.{Arrived, at_end, at_value, between_parts, end_of, leads_on, owned, shown, value_then}
+use Rattle.jiter_incremental.specs.Between.{IsScalarStart, after_value, text_of}
+use Rattle.jiter_incremental.specs.Document.{BeginsAs, Document, EndsRight, HasCome, Holding, HoldsScalar, HoldsString, IsAllowed, Opened, ReadsAt, TakenFrom, between_tokens, in_key, in_scalar, opened_to, shown_as, strictly, token_tree}
+use Rattle.jiter_incremental.specs.Ends.{AnswersSo, IsEndFault, KeepsText, broken_as, is_broken, kind_as, kind_at_end, so_far}
 use Rattle.jiter_incremental.specs.Names.{name_start}
-use Rattle.jiter_incremental.specs.PartialDocument.{BeginsAs, HasArrived, Holding, HoldsScalar, HoldsString, IsAllowed, TakenFrom}
-use Rattle.jiter_incremental.specs.PartialValue.{text_of}
+use Rattle.jiter_incremental.specs.Slot.{OpenFrame, begun, filled}
+use Rattle.jiter_incremental.specs.Strings.{IsOfString}
+use Rattle.jiter_value.specs.Settings.{answer_as, rules_as}
+use Rattle.jiter_value.specs.Stacks.{built}
+use Rattle.jiter_incremental.specs.declared.reader.Awaits.TheVariants as awaits
+use Rattle.jiter_value.specs.declared.settings.Settings.{Settings}
+use Rattle.jiter_incremental.specs.declared.reader.Awaits.{Awaits}
 use Rattle.jiter_value.specs.Owned.{owned_text}
 use Rattle.jiter_incremental.specs.declared.names.Name.{Name}
 use Rattle.jiter_incremental.specs.declared.names.Name.TheVariants as name
-use Rattle.jiter_incremental.specs.declared.partial_document.PartialDocument.{PartialDocument}
-use Rattle.jiter_incremental.specs.declared.partial_document.Token.{Token}
-use Rattle.jiter_incremental.specs.declared.partial_document.Token.TheVariants as token
+use Rattle.jiter_incremental.specs.declared.reader.Token.{Token}
+use Rattle.jiter_incremental.specs.declared.reader.Token.TheVariants as token
 use Rattle.jiter_incremental.proofs.Arrivals.{Sticks, all-close, fault-closes, led-answers, led-end, off-answers}
-use Rattle.jiter_incremental.proofs.OpenValues.{scalar-read}
+use Rattle.jiter_incremental.proofs.Between.{scalar-read}
 use Rattle.jiter_incremental.proofs.Documents.Strings.{begin_of, is-held, is-placed, text-low}
 use Rattle.jiter_incremental.proofs.Documents.Tokens.{held-end, held-stands, number-done, number-failed, word-failed}
 use Rattle.jiter_value.proofs.MadeTexts.{rules_as-advances}
@@ -211,7 +206,7 @@ name-starts name.NaN = tt
 name-starts name.Infinity = tt
 name-starts name.MinusInfinity = tt
 
-module _ (d : PartialDocument) (t : List ℕ) (b : ℕ) (w : List ℕ) (from : TakenFrom d t b w) where
+module _ (d : Document) (t : List ℕ) (b : ℕ) (w : List ℕ) (from : TakenFrom d t b w) where
   all-stand : Stands t b (b + length w) w
   all-stand =
       subst (λ v. Stands v b (b + length w) w) (append-nil t) (held-stands from.prefix w t b from.is from.begin [])
@@ -332,7 +327,7 @@ module _ (d : PartialDocument) (t : List ℕ) (b : ℕ) (w : List ℕ) (from : T
 
 -- ---- the fault of the end
 
-pub end-some : (d : PartialDocument) (k : Option Kind) (x : Option FaultKind) (kind : FaultKind) (f : Fault)
+pub end-some : (d : Document) (k : Option Kind) (x : Option FaultKind) (kind : FaultKind) (f : Fault)
     → option_map fault_kind x ≡ k → x ≡ Some kind → f ≡ record { kind = kind; index = d.position }
     → IsEndFault d k (Some f)
 end-some d k x kind f told is made = (
@@ -340,7 +335,7 @@ end-some d k x kind f told is made = (
   ap (λ (g : Fault). g.index) made,
 )
 
-pub end-none : (d : PartialDocument) (k : Option Kind) (x : Option FaultKind) → option_map fault_kind x ≡ k → x ≡ None
+pub end-none : (d : Document) (k : Option Kind) (x : Option FaultKind) → option_map fault_kind x ≡ k → x ≡ None
     → IsEndFault d k None
 end-none d k x told is = sym told ∙ ap (option_map fault_kind) is
 
@@ -362,7 +357,7 @@ fault-found p t (Some f) o v h some = (h.0, sym (ap (answer_as owned p) (append-
 fault-found p t None o v h some = absurd (false≢true some)
 
 -- the fault of the end
-pub end-answered : (d : PartialDocument) (p : Settings) (t : List ℕ) (x : Option Kind) (k : Kind) (stop : ℕ)
+pub end-answered : (d : Document) (p : Settings) (t : List ℕ) (x : Option Kind) (k : Kind) (stop : ℕ)
     (r : Option Fault) (v : Option Tree) → x ≡ Some k → IsEndFault d x r → d.position ≡ length t
     → answer_as owned p t ≡ fault k (length t) stop → AnswersSo p t r v
 end-answered d p t x k stop None v is end place h = absurd (none-some k (sym end ∙ is))
@@ -373,24 +368,24 @@ end-answered d p t x k stop (Some f) v is end place h = (
 )
 
 -- what is left open after the scalar, where it is a value there
-far-shown : (d : PartialDocument) (k : Token) (fs : List OpenFrame) (b : ℕ) → d.token ≡ k → shown_as d k ≡ true
+far-shown : (d : Document) (k : Token) (fs : List OpenFrame) (b : ℕ) → d.token ≡ k → shown_as d k ≡ true
     → so_far d (in_scalar fs b) ≡ after_value (token_tree d k) fs
 far-shown d k fs b is sure =
     ap (λ j. if shown_as d j then after_value (token_tree d j) fs else at_value awaits.Value fs) is
     ∙ if-true (shown_as d k) _ _ sure
 
-far-hidden : (d : PartialDocument) (k : Token) (fs : List OpenFrame) (b : ℕ) → d.token ≡ k → shown_as d k ≡ false
+far-hidden : (d : Document) (k : Token) (fs : List OpenFrame) (b : ℕ) → d.token ≡ k → shown_as d k ≡ false
     → so_far d (in_scalar fs b) ≡ at_value awaits.Value fs
 far-hidden d k fs b is sure =
     ap (λ j. if shown_as d j then after_value (token_tree d j) fs else at_value awaits.Value fs) is
     ∙ if-false (shown_as d k) _ _ sure
 
-kind-whole : (d : PartialDocument) (fs : List OpenFrame) (b : ℕ) → d.token ≡ token.Number → is_whole d.number.stage ≡ true
+kind-whole : (d : Document) (fs : List OpenFrame) (b : ℕ) → d.token ≡ token.Number → is_whole d.number.stage ≡ true
     → kind_at_end d (in_scalar fs b) ≡ end_of (after_value (token_tree d token.Number) fs)
 kind-whole d fs b is sure =
     ap (λ k. kind_as d k (in_scalar fs b)) is ∙ if-true (is_whole d.number.stage) _ _ sure
 
-kind-cut : (d : PartialDocument) (fs : List OpenFrame) (b : ℕ) → d.token ≡ token.Number → is_whole d.number.stage ≡ false
+kind-cut : (d : Document) (fs : List OpenFrame) (b : ℕ) → d.token ≡ token.Number → is_whole d.number.stage ≡ false
     → kind_at_end d (in_scalar fs b) ≡ Some eof_value
 kind-cut d fs b is sure =
     ap (λ k. kind_as d k (in_scalar fs b)) is ∙ if-false (is_whole d.number.stage) _ _ sure
@@ -404,7 +399,7 @@ ends-after t v (items_frame xs ∷ fs) = tt
 ends-after t v (members_frame ms k ∷ fs) = tt
 
 -- With partial reading off: between two tokens,
-module _ (d : PartialDocument) (t : List ℕ) (place : d.position ≡ length t) where
+module _ (d : Document) (t : List ℕ) (place : d.position ≡ length t) where
   abbrev p : Settings
   p = strictly d.settings
 
@@ -529,7 +524,7 @@ and-true-right : (a b : Bool) → (a && b) ≡ true → b ≡ true
 and-true-right true b h = h
 and-true-right false b h = absurd (false≢true h)
 
-broken-text : (d : PartialDocument) (k : Token) → d.token ≡ k → broken_as d k ≡ true → d.token ≡ token.Text
+broken-text : (d : Document) (k : Token) → d.token ≡ k → broken_as d k ≡ true → d.token ≡ token.Text
 broken-text d token.Text is h = is
 broken-text d token.Nothing is h = absurd (false≢true h)
 broken-text d token.Word is h = absurd (false≢true h)
@@ -557,7 +552,7 @@ end-some-of : (a : Awaits) → (k : Kind) × (end_of (at_value a []) ≡ Some k)
 end-some-of awaits.Colon = (eof_object, refl)
 end-some-of a = (eof_value, refl)
 
-module _ (d : PartialDocument) (t : List ℕ) (on : is_active d.settings.mode ≡ true) where
+module _ (d : Document) (t : List ℕ) (on : is_active d.settings.mode ≡ true) where
   abbrev q : Settings
   q = d.settings
 
@@ -704,18 +699,18 @@ module _ (d : PartialDocument) (t : List ℕ) (on : is_active d.settings.mode �
   )
 
 -- The value, where there is one; else the fault.
-pub value-answered : (d : PartialDocument) (t : List ℕ) (v : Option Tree) (k : Option Kind) → is_some v ≡ true
+pub value-answered : (d : Document) (t : List ℕ) (v : Option Tree) (k : Option Kind) → is_some v ≡ true
     → IsAnsweredSo d.settings t v k → AnswersSo d.settings t None v
 value-answered d t (Some v) k sure (with_value w l e h) = (w, refl, (e, h))
 value-answered d t None k sure a = absurd (false≢true sure)
 
-pub none-answered : (d : PartialDocument) (t : List ℕ) (v : Option Tree) (k : Option Kind) (r : Option Fault)
+pub none-answered : (d : Document) (t : List ℕ) (v : Option Tree) (k : Option Kind) (r : Option Fault)
     → is_some v ≡ false → IsEndFault d k r → d.position ≡ length t → IsAnsweredSo d.settings t v k
     → AnswersSo d.settings t r v
 none-answered d t (Some v) k r none end place a = absurd (false≢true (sym none))
 none-answered d t None k r none end place (with_fault l stop h) = end-answered d d.settings t k l stop r None refl end place h
 
-pub broken-answered : (d : PartialDocument) (t : List ℕ) (o : Opened) (v : Option Tree) (f : Fault) (i : ℕ)
+pub broken-answered : (d : Document) (t : List ℕ) (o : Opened) (v : Option Tree) (f : Fault) (i : ℕ)
     → is_active d.settings.mode ≡ true → Holding d t o → KeepsText d → is_broken d ≡ true
     → prefix_answer (rules_as owned d.settings) t ≡ opened_to d.settings t o (length t)
     → i ≡ d.begin + 1 + length d.string.text.text
@@ -728,7 +723,7 @@ broken-answered d t o v f i on held keeps bad led place made =
     )
 
 -- Its place is none that is too large.
-pub broken-low : (d : PartialDocument) (t : List ℕ) (h : HasArrived d t) → d.fault ≡ None → is_broken d ≡ true
+pub broken-low : (d : Document) (t : List ℕ) (h : HasCome d t) → d.fault ≡ None → is_broken d ≡ true
     → d.begin + 1 + length d.string.text.text ≤ d.position
 broken-low d t h unset bad =
     let k : IsOfString d.token = inl (broken-text d d.token refl bad) in

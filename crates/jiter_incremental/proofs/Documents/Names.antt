@@ -16,16 +16,13 @@ use Rattle.jiter_scan.specs.Stands.{Stands}
 use Rattle.jiter_scan.specs.Word.{Extent, word_at}
 use Rattle.jiter_scan.specs.declared.partial_number.PartialNumber.{PartialNumber}
 use Rattle.jiter_scan.specs.declared.partial_number.Stage.TheVariants as stage
-use Rattle.jiter_incremental.specs.Arrived.{at_value}
+use Rattle.jiter_incremental.specs.Arrived.{IsLeft, at_value}
+use Rattle.jiter_incremental.specs.Document.{BeginsAs, Document, HasTakenIn, HoldsMinus, HoldsScalar, HoldsWord, IsAllowed, IsRefused, Known, anything, in_scalar}
 use Rattle.jiter_incremental.specs.Names.{name_start}
-use Rattle.jiter_incremental.specs.PartialDocument.{BeginsAs, HasTakenIn, HoldsMinus, HoldsScalar, HoldsWord}
-use Rattle.jiter_incremental.specs.PartialDocument.{IsAllowed, IsRefused, Known, anything, in_scalar}
-use Rattle.jiter_incremental.specs.PartialValue.{IsLeft}
-use Rattle.jiter_incremental.specs.Spine.{OpenFrame, HasRoomInside}
+use Rattle.jiter_incremental.specs.Slot.{OpenFrame}
 use Rattle.jiter_incremental.specs.declared.names.Name.TheVariants as name
-use Rattle.jiter_incremental.specs.declared.partial_document.PartialDocument.{PartialDocument}
-use Rattle.jiter_incremental.specs.declared.partial_document.Token.TheVariants as token
-use Rattle.jiter_incremental.specs.declared.partial_value.Awaits.TheVariants as awaits
+use Rattle.jiter_incremental.specs.declared.reader.Token.TheVariants as token
+use Rattle.jiter_incremental.specs.declared.reader.Awaits.TheVariants as awaits
 use Rattle.jiter_incremental.proofs.Documents.Tokens.{Keeps, held-end, held-stands, known-on, minus-fails, minus-goes}
 use Rattle.jiter_incremental.proofs.Documents.Tokens.{number-failed, reading-names, scalar-refused, scalar-token, stands-prefix}
 
@@ -88,7 +85,7 @@ minus-alone n w h is = begun-minus w (subst (IsBegun w) is h.begun)
 
 -- ---- the letter after the minus
 
-module _ (d : PartialDocument) (t : List ℕ) (fs : List OpenFrame) (b : ℕ) (known : Known anything d t (in_scalar fs b))
+module _ (d : Document) (t : List ℕ) (fs : List OpenFrame) (b : ℕ) (known : Known anything d t (in_scalar fs b))
     (h : HoldsMinus d t fs b)
   where
     abbrev both : List ℕ
@@ -98,7 +95,7 @@ module _ (d : PartialDocument) (t : List ℕ) (fs : List OpenFrame) (b : ℕ) (k
     both-last = ap (λ v. v ++ 73 ∷ []) h.is ∙ append_assoc h.prefix (45 ∷ []) (73 ∷ [])
 
     -- where names are allowed, a word is held
-    pub name-taken : (e : PartialDocument) → Keeps d e → e.value ≡ d.value → e.begin ≡ d.begin → e.token ≡ token.Word
+    pub name-taken : (e : Document) → Keeps d e → e.value ≡ d.value → e.begin ≡ d.begin → e.token ≡ token.Word
         → e.name ≡ name.MinusInfinity → e.word.word.now ≡ codes "Infinity" → e.word.seen ≡ 1
         → d.settings.allow_inf_nan ≡ true → HasTakenIn anything e (t ++ 73 ∷ [])
     name-taken e k value begin tok is word one allowed = record {
@@ -120,7 +117,6 @@ module _ (d : PartialDocument) (t : List ℕ) (fs : List OpenFrame) (b : ℕ) (k
             )),
         subst (λ v. IsLeft v (at_value awaits.Value fs)) (sym value) h.left,
         h.low,
-        subst (λ v. HasRoomInside v.spine.items) (sym value) h.room,
       );
     }
 

@@ -36,64 +36,31 @@ use Rattle.jiter_steps.proofs.Reading.Bodies.{StopWithin, body_at-long, body_at-
 use Rattle.jiter_steps.proofs.Reading.StringForms.{content-kept}
 use Rattle.jiter_steps.proofs.Reading.Values.{inside_at-starts}
 use Rattle.jiter_steps.proofs.Reading.WholeTexts.{whole-is}
-use Rattle.jiter_incremental.specs.Arrived.{at_value, owned}
-use Rattle.jiter_incremental.specs.DocumentStrings.{IsClosedAs, IsKeyAs, IsOfString, IsTextAs}
-use Rattle.jiter_incremental.specs.PartialDocument.{Comes, EndsRight, Follows, HasArrived, HasTakenIn, Holding, HoldsScalar, HoldsString}
-use Rattle.jiter_incremental.specs.PartialDocument.{IsInString, IsReadAs, IsReading, IsRefused, Known, Next, Opened, ReadsAt}
-use Rattle.jiter_incremental.specs.PartialDocument.{TakenFrom, Takes, anything, between_tokens, in_key, in_scalar, noted_in}
-use Rattle.jiter_incremental.specs.PartialDocument.{opened_to, strictly, with_byte, with_first}
-use Rattle.jiter_incremental.specs.PartialValue.{IsLeft, completed, text_of}
+use Rattle.jiter_incremental.specs.Arrived.{IsLeft, OpenValue, at_value, owned}
+use Rattle.jiter_incremental.specs.Between.{completed, text_of}
+use Rattle.jiter_incremental.specs.Document.{Comes, Document, EndsRight, Follows, HasCome, HasTakenIn, Holding, HoldsScalar, HoldsString, IsReadAs, IsReading, IsRefused, Known, Next, Opened, ReadsAt, TakenFrom, anything, between_tokens, in_key, in_scalar, noted_in, opened_to, strictly, with_byte, with_first}
+use Rattle.jiter_incremental.specs.Slot.{OpenFrame, filled}
+use Rattle.jiter_incremental.specs.Strings.{IsClosedAs, IsInString, IsKeyAs, IsOfString, IsTextAs, Takes}
 use Rattle.jiter_value.specs.Owned.{owned_text}
 use Rattle.jiter_value.specs.Settings.{answer_as, rules_as}
-use Rattle.jiter_incremental.specs.Spine.{OpenFrame, spine_of}
 use Rattle.jiter_value.specs.Value.{view}
-use Rattle.jiter_incremental.specs.declared.partial_document.PartialDocument.{PartialDocument}
-use Rattle.jiter_incremental.specs.declared.partial_document.Token.{Token}
-use Rattle.jiter_incremental.specs.declared.partial_document.Token.TheVariants as token
-use Rattle.jiter_incremental.specs.declared.partial_value.Awaits.TheVariants as awaits
-use Rattle.jiter_incremental.specs.declared.partial_value.PartialValue.{PartialValue}
+use Rattle.jiter_incremental.specs.declared.reader.Token.{Token}
+use Rattle.jiter_incremental.specs.declared.reader.Token.TheVariants as token
+use Rattle.jiter_incremental.specs.declared.reader.Awaits.TheVariants as awaits
 use Rattle.jiter_value.specs.declared.settings.Settings.{Settings}
 use Rattle.jiter_value.proofs.MadeTexts.{rules_as-advances}
 
 -- the same document, with this string and this first fault
-abbrev pub turned : PartialDocument → PartialString → Option Fault → PartialDocument
-turned d s f = record {
-  alloc = d.alloc;
-  settings = d.settings;
-  position = d.position;
-  begin = d.begin;
-  token = d.token;
-  name = d.name;
-  word = d.word;
-  number = d.number;
-  string = s;
-  tape = d.tape;
-  value = d.value;
-  fault = d.fault;
-  first = f;
-}
+abbrev pub turned : Document → PartialString → Option Fault → Document
+turned d s f = record d { string = s; first = f }
 
 -- with this string
-abbrev pub with_string : PartialDocument → PartialString → PartialDocument
+abbrev pub with_string : Document → PartialString → Document
 with_string d s = turned d s d.first
 
 -- and between two tokens, with this value
-abbrev pub with_value : PartialDocument → PartialValue → PartialDocument
-with_value d v = record {
-  alloc = d.alloc;
-  settings = d.settings;
-  position = d.position;
-  begin = d.begin;
-  token = token.Nothing;
-  name = d.name;
-  word = d.word;
-  number = d.number;
-  string = d.string;
-  tape = d.tape;
-  value = v;
-  fault = d.fault;
-  first = d.first;
-}
+abbrev pub with_value : Document → OpenValue → Document
+with_value d v = record d { token = token.Nothing; value = v }
 
 -- Where a string or a key is unfinished, within the limit of nesting
 abbrev pub IsInside : Opened → Type 0
@@ -128,7 +95,7 @@ no-token k (inr e) n = absurd (cc)
 key-text : (k : Token) → k ≡ token.Key → k ≡ token.Text → ⊥
 key-text k e n = absurd (cc)
 
-in-string : (d : PartialDocument) (t : List ℕ) (b : ℕ) (w : List ℕ) → TakenFrom d t b w → HoldsString d w
+in-string : (d : Document) (t : List ℕ) (b : ℕ) (w : List ℕ) → TakenFrom d t b w → HoldsString d w
     → InString d.string t b
 in-string d t b w f h = record {
   prefix = f.prefix;
@@ -139,12 +106,12 @@ in-string d t b w f h = record {
 }
 
 -- what is held of a string
-held-scalar : (d : PartialDocument) (k : Token) (w : List ℕ) → d.token ≡ k → IsOfString k → HoldsScalar d d.token w
+held-scalar : (d : Document) (k : Token) (w : List ℕ) → d.token ≡ k → IsOfString k → HoldsScalar d d.token w
     → (k ≡ token.Text) × HoldsString d w
 held-scalar d k w e (inl x) h = (x, subst (λ k. HoldsScalar d k w) (e ∙ x) h)
 held-scalar d k w e (inr x) h = absurd (subst (λ k. HoldsScalar d k w) (e ∙ x) h)
 
-module _ (d : PartialDocument) (t : List ℕ) (k : IsOfString d.token) where
+module _ (d : Document) (t : List ℕ) (k : IsOfString d.token) where
   pub is-inside : (o : Opened) → Holding d t o → IsInside o
   is-inside (between_tokens s) h = no-token d.token k h.0
   is-inside (in_scalar fs b) h = h.4
@@ -186,9 +153,9 @@ module _ (d : PartialDocument) (t : List ℕ) (k : IsOfString d.token) where
           subst (λ k. HoldsScalar (turned d s f) k (h.0 ++ v)) (sym x.0) (string-longer h.0 x.1),
           h.3,
           h.4,
-          h.5,
         )
-    goes-on (in_key fs ms b) h = (h.0 ++ v, from-longer b h.0 h.1, h.2, string-longer h.0 h.3, h.4, h.5)
+    goes-on (in_key fs ms b) h =
+        (h.0 ++ v, from-longer b h.0 h.1, h.2, string-longer h.0 h.3, h.4, h.5, h.6)
 
 -- What is known, more bytes after
 reads-more : (p : Settings) (t v u : List ℕ) (f : Option Fault) (o : Opened) → IsInside o → ReadsAt p t (v ++ u) f o
@@ -206,7 +173,7 @@ ends-inside t (between_tokens s) i = absurd i
 ends-inside t (in_scalar fs b) i = tt
 ends-inside t (in_key fs ms b) i = tt
 
-module _ (n m : Next) (d : PartialDocument) (t v : List ℕ) (o : Opened) (i : IsInside o) (known : Known n d t o)
+module _ (n m : Next) (d : Document) (t v : List ℕ) (o : Opened) (i : IsInside o) (known : Known n d t o)
     (follows : Follows n v m) where
   pub known-more : (s : PartialString) → Known m (with_string d s) (t ++ v) o
   known-more s = record {
@@ -229,7 +196,7 @@ module _ (n m : Next) (d : PartialDocument) (t v : List ℕ) (o : Opened) (i : I
       (subst (λ f. ReadsAt (strictly d.settings) t (v ++ u) f o) r.1 (known.strict (v ++ u) (follows u c))))
 
 -- the same string, with nothing more known of it
-pub known-same : (n : Next) (d : PartialDocument) (s : PartialString) (t : List ℕ) (o : Opened) → Known n d t o
+pub known-same : (n : Next) (d : Document) (s : PartialString) (t : List ℕ) (o : Opened) → Known n d t o
     → Known n (with_string d s) t o
 known-same n d s t o known = record {
   mode = known.mode;
@@ -240,7 +207,7 @@ known-same n d s t o known = record {
 }
 
 -- Bytes are taken into the string.
-pub taken-on : (d : PartialDocument) (s : PartialString) (t v : List ℕ) → IsOfString d.token → d.fault ≡ None
+pub taken-on : (d : Document) (s : PartialString) (t v : List ℕ) → IsOfString d.token → d.fault ≡ None
     → ((w : List ℕ) → HasTaken d.string w → HasTaken s (w ++ v)) → HasTakenIn anything d t
     → HasTakenIn anything (with_string d s) (t ++ v)
 taken-on d s t v k unset more h =
@@ -253,7 +220,7 @@ taken-on d s t v k unset more h =
     }
 
 -- or none, and it is as it was.
-pub taken-same : (d : PartialDocument) (s : PartialString) (t : List ℕ) → IsOfString d.token → d.fault ≡ None
+pub taken-same : (d : Document) (s : PartialString) (t : List ℕ) → IsOfString d.token → d.fault ≡ None
     → ((w : List ℕ) → HasTaken d.string w → HasTaken s w) → HasTakenIn anything d t
     → HasTakenIn anything (with_string d s) t
 taken-same d s t k unset same h =
@@ -396,7 +363,7 @@ module _ (p : Settings) (T : List ℕ) where
       ∙ resume-fault r T fs k x b (unforgiven k bad)
 
 -- A key that is read leads on after it.
-module _ (d : PartialDocument) (v : PartialValue) (n m : Next) (t w : List ℕ) (fs : List OpenFrame) (ms : List (Text × Tree))
+module _ (d : Document) (v : OpenValue) (n m : Next) (t w : List ℕ) (fs : List OpenFrame) (ms : List (Text × Tree))
     (b : ℕ) (k : Text) (known : Known n d t (in_key fs ms b)) (follows : Follows n w m) (unset : d.fault ≡ None)
     (left : IsLeft v (at_value awaits.Colon (members_frame ms k ∷ fs))) (begun : b < length (t ++ w))
     (is : IsKeyAs d m (t ++ w) b k)
@@ -436,26 +403,26 @@ module _ (d : PartialDocument) (v : PartialValue) (n m : Next) (t w : List ℕ) 
   }
 
 -- What is said of a document where a string is unfinished
-pub of-string : (d : PartialDocument) → IsInString d → IsOfString d.token
+pub of-string : (d : Document) → IsInString d → IsOfString d.token
 of-string d (inl x) = inl x.2
 of-string d (inr x) = inr x.2
 
-pub unset-in : (d : PartialDocument) → IsInString d → d.fault ≡ None
+pub unset-in : (d : Document) → IsInString d → d.fault ≡ None
 unset-in d (inl x) = x.1
 unset-in d (inr x) = x.1
 
-pub arrived-in : (d : PartialDocument) → IsInString d → (t : List ℕ) × HasArrived d t
+pub arrived-in : (d : Document) → IsInString d → (t : List ℕ) × HasCome d t
 arrived-in d (inl x) = x.0
 arrived-in d (inr x) = x.0
 
 -- The text that was read is put where it was awaited: as a key,
-module _ (d new : PartialDocument) (s : PartialString) (n m : Next) (t w text : List ℕ) (unset : d.fault ≡ None)
+module _ (d new : Document) (s : PartialString) (n m : Next) (t w text : List ℕ) (unset : d.fault ≡ None)
     (follows : Follows n w m) where
   pub key-put : (o : Opened) (k : List ℕ) → k ≡ text → d.token ≡ token.Key → Known n d t o → Holding d t o
       → IsTextAs d m (t ++ w) o text
       → ((n m : Next) (t w : List ℕ) (fs : List OpenFrame) (ms : List (Text × Tree)) (b : ℕ)
       → Known n (with_string d s) t (in_key fs ms b) → Follows n w m → d.fault ≡ None
-      → map view d.value.spine.items ≡ spine_of fs (object (members_of ms)) → b < length (t ++ w)
+      → d.value.depth ≡ length fs + 1 → d.value.tree ≡ filled fs (object (members_of ms)) → b < length (t ++ w)
       → IsKeyAs (with_string d s) m (t ++ w) b (text_of k) → HasTakenIn m new (t ++ w))
       → HasTakenIn m new (t ++ w)
   key-put (between_tokens a) k e is known held read put = absurd read
@@ -464,7 +431,7 @@ module _ (d new : PartialDocument) (s : PartialString) (n m : Next) (t w text : 
   key-put (in_key fs ms b) k e is known held read put =
       let low : b < length (t ++ w) =
       omega (arith, size d.string t b (in-string d t b held.0 held.1 held.3), length-append t w) in
-      put n m t w fs ms b (known-same n d s t (in_key fs ms b) known) follows unset held.5 low
+      put n m t w fs ms b (known-same n d s t (in_key fs ms b) known) follows unset held.5 held.6 low
       (subst (λ x. IsKeyAs d m (t ++ w) b (text_of x)) (sym e) read)
 
   -- or as a value.
@@ -481,7 +448,7 @@ module _ (d new : PartialDocument) (s : PartialString) (n m : Next) (t w text : 
   value-put (in_key fs ms b) v e not known held read put = absurd (not held.2)
 
 -- What was read is refused with a fault of the string.
-pub refused-so : (n m : Next) (d : PartialDocument) (t v : List ℕ) (o : Opened) (k : Kind) (x : ℕ) → IsInside o
+pub refused-so : (n m : Next) (d : Document) (t v : List ℕ) (o : Opened) (k : Kind) (x : ℕ) → IsInside o
     → Known n d t o → Follows n v m → is_forgiven k ≡ false
     → ((p : Settings) (u : List ℕ) → IsReading d p → Comes m u → slice_get ((t ++ v) ++ u) (begin_of o) ≡ Some 34)
     → ((p : Settings) (u : List ℕ) → IsReading d p → Comes m u
@@ -493,7 +460,7 @@ refused-so n m d t v o k x i known follows bad quote fails = λ p u r c. (
       ∙ opened-fails p ((t ++ v) ++ u) o k x (length (t ++ v)) i (quote p u r c) bad (fails p u r c),
 )
 
-module _ (d : PartialDocument) (k : IsOfString d.token) (unset : d.fault ≡ None) (t : List ℕ) (h : HasArrived d t) where
+module _ (d : Document) (k : IsOfString d.token) (unset : d.fault ≡ None) (t : List ℕ) (h : HasCome d t) where
   abbrev o : Opened
   o = h.read.opened
 
@@ -575,7 +542,7 @@ module _ (d : PartialDocument) (k : IsOfString d.token) (unset : d.fault ≡ Non
     content keep answer is = content-closed d.string t (begin_of o) string-in keep answer is none
 
     -- a text that each reading takes is the string's,
-    text-is : (e : PartialDocument) (q : Opened) → IsInside q → begin_of q ≡ begin_of o
+    text-is : (e : Document) (q : Opened) → IsInside q → begin_of q ≡ begin_of o
         → ((p : Settings) (u : List ℕ) → IsReading e p
         → content_at (form_of p q) (on u) (begin_of o + 1)
         ≡ text_or true (begin_of o + 1) string-in.taken_so.escaped text (length t + 1))
@@ -654,7 +621,7 @@ module _ (d : PartialDocument) (k : IsOfString d.token) (unset : d.fault ≡ Non
                   (strict-fails (on u) u (on-is u))
 
         -- and else noted.
-        abbrev noted : PartialDocument
+        abbrev noted : Document
         noted = with_first d (noted_in d.first fault_of.InvalidUnicodeCodePoint index)
 
         noted-some : (f : Option Fault) (kind : FaultKind) (i : ℕ) → noted_in f kind i ≡ None → ⊥
@@ -718,9 +685,9 @@ module _ (d : PartialDocument) (k : IsOfString d.token) (unset : d.fault ≡ Non
               (sym (noted-reading p r)) (form-closed true is o held (on u) u (on-is u)))
 
 -- At its quote the string is whole, and the document is in it still.
-module _ (d : PartialDocument) (s : PartialString) (chunk : List ℕ) (at : ℕ)
+module _ (d : Document) (s : PartialString) (chunk : List ℕ) (at : ℕ)
     (goes : (w : List ℕ) → HasTaken d.string w → Goes s w chunk at went.Quote) where
-  quote-arrived : (t : List ℕ) → IsOfString d.token → d.fault ≡ None → HasArrived d t → HasArrived (with_string d s) t
+  quote-arrived : (t : List ℕ) → IsOfString d.token → d.fault ≡ None → HasCome d t → HasCome (with_string d s) t
   quote-arrived t k unset h = record {
     read = taken-same d s t k unset (λ w x. (goes w x).0) h.read;
     position = h.position;
@@ -741,7 +708,7 @@ module _ (d : PartialDocument) (s : PartialString) (chunk : List ℕ) (at : ℕ)
   pub quote-whole : IsInString d → s.escape ≡ None
   quote-whole inside = (quote-at inside).0
 
-  pub quote-takes : IsInString d → (new : PartialDocument) → Takes (with_string d s) new (34 ∷ [])
+  pub quote-takes : IsInString d → (new : Document) → Takes (with_string d s) new (34 ∷ [])
       → Takes d new (slice_range chunk at (at + 1))
   quote-takes inside new takes = λ t h.
       subst (λ w. HasTakenIn anything new (t ++ w)) (sym (slice-one chunk at 34 (quote-at inside).1))

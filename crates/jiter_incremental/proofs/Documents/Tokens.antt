@@ -40,25 +40,19 @@ use Rattle.jiter_steps.specs.declared.parse.Literal.TheVariants as literal
 use Rattle.jiter_steps.specs.declared.parse.Start.{Start}
 use Rattle.jiter_steps.specs.declared.parse.Start.TheVariants as start
 use Rattle.jiter_incremental.proofs.Chunks.{range-long}
-use Rattle.jiter_incremental.specs.Arrived.{Arrived, at_value, owned}
+use Rattle.jiter_incremental.specs.Arrived.{Arrived, IsLeft, at_value, owned}
+use Rattle.jiter_incremental.specs.Between.{BeginsItem, BeginsKey}
+use Rattle.jiter_incremental.specs.Document.{BeginsAs, BeginsHere, Comes, Document, EndsBefore, EndsRight, Follows, HasCome, HasTakenIn, Holding, HoldsMinus, HoldsScalar, HoldsString, HoldsWord, IsAllowed, IsNumberWithin, IsReadAs, IsReading, IsRefused, Known, NameBegins, Next, Opened, ReadsAt, StandsAt, TakenFrom, WordBegins, anything, between_tokens, in_key, in_scalar, opened_to, own_number, strictly, with_byte}
 use Rattle.jiter_incremental.specs.Names.{name_bytes, name_extent, name_start, name_tree, name_word}
-use Rattle.jiter_incremental.specs.PartialDocument.{EndsBefore, IsNumberWithin}
-use Rattle.jiter_incremental.specs.PartialDocument.{BeginsAs, BeginsHere, Comes, EndsRight, Follows, HasArrived, HasTakenIn}
-use Rattle.jiter_incremental.specs.PartialDocument.{Holding, HoldsMinus, HoldsScalar, HoldsString, HoldsWord, IsAllowed}
-use Rattle.jiter_incremental.specs.PartialDocument.{IsReadAs, IsReading, IsRefused, Known, NameBegins, Next, Opened, ReadsAt}
-use Rattle.jiter_incremental.specs.PartialDocument.{StandsAt, TakenFrom, WordBegins, anything, between_tokens, in_key, in_scalar}
-use Rattle.jiter_incremental.specs.PartialDocument.{opened_to, own_number, strictly, with_byte}
-use Rattle.jiter_incremental.specs.PartialValue.{BeginsItem, BeginsKey, IsLeft}
+use Rattle.jiter_incremental.specs.Slot.{OpenFrame}
 use Rattle.jiter_value.specs.Owned.{owned_text, tree_as}
 use Rattle.jiter_value.specs.Settings.{answer_as, rules_as}
-use Rattle.jiter_incremental.specs.Spine.{OpenFrame, HasRoomInside}
 use Rattle.jiter_value.specs.Value.{view}
 use Rattle.jiter_incremental.specs.declared.names.Name.{Name}
 use Rattle.jiter_incremental.specs.declared.names.Name.TheVariants as name
-use Rattle.jiter_incremental.specs.declared.partial_document.PartialDocument.{PartialDocument}
-use Rattle.jiter_incremental.specs.declared.partial_document.Token.{Token}
-use Rattle.jiter_incremental.specs.declared.partial_document.Token.TheVariants as token
-use Rattle.jiter_incremental.specs.declared.partial_value.Awaits.TheVariants as awaits
+use Rattle.jiter_incremental.specs.declared.reader.Token.{Token}
+use Rattle.jiter_incremental.specs.declared.reader.Token.TheVariants as token
+use Rattle.jiter_incremental.specs.declared.reader.Awaits.TheVariants as awaits
 use Rattle.jiter_value.specs.declared.settings.Settings.{Settings}
 
 -- ---- bytes in a text
@@ -238,7 +232,7 @@ module _ (w : List ℕ) (n m : ℕ) (c : ℕ)
 -- ---- what is known of a document
 
 -- The same is known of it.
-pub record Keeps (d e : PartialDocument) : Type 0 where
+pub record Keeps (d e : Document) : Type 0 where
   pub settings : e.settings ≡ d.settings
   pub fault : e.fault ≡ d.fault
   pub first : e.first ≡ d.first
@@ -263,7 +257,7 @@ reads-on p t w u None o h r =
     ∙ ap (λ v. opened_to p v o (length (t ++ w))) (sym (append_assoc t w u))
 
 -- Bytes are taken inside a token.
-pub known-on : (n m : Next) (d e : PartialDocument) (t w : List ℕ) (o : Opened) → IsInToken o → Keeps d e → Follows n w m
+pub known-on : (n m : Next) (d e : Document) (t w : List ℕ) (o : Opened) → IsInToken o → Keeps d e → Follows n w m
     → Known n d t o → Known m e (t ++ w) o
 known-on n m d e t w o h k follows known = record {
   mode = λ u comes. subst (λ q. ReadsAt q (t ++ w) u e.fault o) (sym k.settings)
@@ -278,7 +272,7 @@ known-on n m d e t w o h k follows known = record {
       ∙ known.same (sym (ap (λ q. is_active q.mode) k.settings) ∙ off) (sym k.fault ∙ none);
 }
 
-pub known-same : (n : Next) (d e : PartialDocument) (t : List ℕ) (o : Opened) → Keeps d e → Known n d t o → Known n e t o
+pub known-same : (n : Next) (d e : Document) (t : List ℕ) (o : Opened) → Keeps d e → Known n d t o → Known n e t o
 known-same n d e t o k known = record {
   mode = λ u comes. subst (λ q. ReadsAt q t u e.fault o) (sym k.settings)
       (subst (λ f. ReadsAt d.settings t u f o) (sym k.fault) (known.mode u comes));
@@ -290,13 +284,13 @@ known-same n d e t o k known = record {
       ∙ known.same (sym (ap (λ q. is_active q.mode) k.settings) ∙ off) (sym k.fault ∙ none);
 }
 
-pub number-known : (n : Next) (d : PartialDocument) (m : PartialNumber) (t : List ℕ) (o : Opened) → Known n d t o
+pub number-known : (n : Next) (d : Document) (m : PartialNumber) (t : List ℕ) (o : Opened) → Known n d t o
     → Known n (record d { number = m }) t o
 number-known n d m t o =
     known-same n d (record d { number = m }) t o record { settings = refl; fault = refl; first = refl }
 
 -- what is read by settings that it is still read by
-known-reads : (n : Next) (d : PartialDocument) (t : List ℕ) (o : Opened) (p : Settings) (u : List ℕ) → Known n d t o
+known-reads : (n : Next) (d : Document) (t : List ℕ) (o : Opened) (p : Settings) (u : List ℕ) → Known n d t o
     → IsReading d p → Comes n u → prefix_answer (rules_as owned p) (t ++ u) ≡ opened_to p (t ++ u) o (length t)
 known-reads n d t o p u k (inl (is, none)) comes =
     subst (λ q. prefix_answer (rules_as owned q) (t ++ u) ≡ opened_to q (t ++ u) o (length t)) (sym is)
@@ -305,18 +299,18 @@ known-reads n d t o p u k (inr (is, none)) comes =
     subst (λ q. prefix_answer (rules_as owned q) (t ++ u) ≡ opened_to q (t ++ u) o (length t)) (sym is)
     (subst (λ f. ReadsAt (strictly d.settings) t u f o) none (k.strict u comes))
 
-pub reading-names : (d : PartialDocument) (p : Settings) → IsReading d p → p.allow_inf_nan ≡ d.settings.allow_inf_nan
+pub reading-names : (d : Document) (p : Settings) → IsReading d p → p.allow_inf_nan ≡ d.settings.allow_inf_nan
 reading-names d p (inl (is, none)) = ap (λ q. q.allow_inf_nan) is
 reading-names d p (inr (is, none)) = ap (λ q. q.allow_inf_nan) is
 
-reading-allows : (d : PartialDocument) (p : Settings) (k : Name) → IsReading d p → IsAllowed d.settings k → IsAllowed p k
+reading-allows : (d : Document) (p : Settings) (k : Name) → IsReading d p → IsAllowed d.settings k → IsAllowed p k
 reading-allows d p (name.Literal l) h ok = tt
 reading-allows d p name.NaN h ok = reading-names d p h ∙ ok
 reading-allows d p name.Infinity h ok = reading-names d p h ∙ ok
 reading-allows d p name.MinusInfinity h ok = reading-names d p h ∙ ok
 
 -- A scalar with a fault is refused.
-pub scalar-refused : (n m : Next) (d : PartialDocument) (t w : List ℕ) (fs : List OpenFrame) (b : ℕ) (k : Kind) (i : ℕ)
+pub scalar-refused : (n m : Next) (d : Document) (t w : List ℕ) (fs : List OpenFrame) (b : ℕ) (k : Kind) (i : ℕ)
     → Known n d t (in_scalar fs b) → Follows n w m → is_forgiven k ≡ false
     → ((p : Settings) (u : List ℕ) → IsReading d p → Comes m u
     → value_in (rules_as owned p) (t ++ (w ++ u)) (length fs) b ≡ fault k i b)
@@ -335,7 +329,7 @@ pub follows-here : (c : ℕ) → Follows (with_byte c) (c ∷ []) anything
 follows-here c = λ u comes. (u, refl)
 
 -- a scalar, of which these bytes begin with the one that comes
-pub scalar-begins : (d e : PartialDocument) (t : List ℕ) (c : ℕ) (w : List ℕ) (fs : List OpenFrame) → BeginsHere c d t fs
+pub scalar-begins : (d e : Document) (t : List ℕ) (c : ℕ) (w : List ℕ) (fs : List OpenFrame) → BeginsHere c d t fs
     → Keeps d e → e.value ≡ d.value → e.begin ≡ d.position → HoldsScalar e e.token (c ∷ w)
     → HasTakenIn anything e (t ++ c ∷ w)
 scalar-begins d e t c w fs h k value begin held = record {
@@ -348,7 +342,6 @@ scalar-begins d e t c w fs h k value begin held = record {
     held,
     subst (λ v. IsLeft v (at_value awaits.Value fs)) (sym value) h.left,
     h.low,
-    subst (λ v. HasRoomInside v.spine.items) (sym value) h.room,
   );
 }
 
@@ -361,7 +354,7 @@ word-held k o c h is one = record {
       ∙ ap (λ n. word_from o.word.now n t (b + 1)) (sym one);
 }
 
-pub word-begins : (d e : PartialDocument) (k : Name) (t : List ℕ) (c : ℕ) (fs : List OpenFrame) → BeginsHere c d t fs
+pub word-begins : (d e : Document) (k : Name) (t : List ℕ) (c : ℕ) (fs : List OpenFrame) → BeginsHere c d t fs
     → Keeps d e → e.value ≡ d.value → e.begin ≡ d.position → e.token ≡ token.Word → e.name ≡ k
     → HoldsWord k e.word (c ∷ []) → IsAllowed d.settings k → start_of c ≡ name_start k
     → HasTakenIn anything e (t ++ c ∷ [])
@@ -375,7 +368,7 @@ word-begins d e k t c fs h keeps value begin tok is held ok starts =
     )))
 
 -- a number, with bytes after its first one
-pub number-begins : (d e : PartialDocument) (t : List ℕ) (c : ℕ) (w : List ℕ) (fs : List OpenFrame) → BeginsHere c d t fs
+pub number-begins : (d e : Document) (t : List ℕ) (c : ℕ) (w : List ℕ) (fs : List OpenFrame) → BeginsHere c d t fs
     → Keeps d e → e.value ≡ d.value → e.begin ≡ d.position → e.token ≡ token.Number → e.number ≡ d.number
     → start_of c ≡ start.Number → HoldsNumber d.number (c ∷ w) → HasTakenIn anything e (t ++ c ∷ w)
 number-begins d e t c w fs h keeps value begin tok is starts held =
@@ -390,7 +383,7 @@ pub infinity-first : (c : ℕ) → start_of c ≡ start.Number → begins_decima
 infinity-first c h named n = grind (arith, nat_tests, h, named, n)
 
 -- a name where names are not allowed
-pub name-denied : (d : PartialDocument) (k : Name) (t : List ℕ) (c : ℕ) (fs : List OpenFrame) → BeginsHere c d t fs
+pub name-denied : (d : Document) (k : Name) (t : List ℕ) (c : ℕ) (fs : List OpenFrame) → BeginsHere c d t fs
     → NameBegins k c → d.settings.allow_inf_nan ≡ false
     → IsRefused d anything (t ++ c ∷ []) expected_value d.position
 name-denied d k t c fs h begins off =
@@ -405,10 +398,10 @@ name-denied d k t c fs h begins off =
     ∙ begins.denied (t ++ c ∷ u) (length t) here)))
 
 -- a string
-string-held : (e : PartialDocument) (c : ℕ) → c ≡ 34 → HasTaken e.string [] → HoldsString e (c ∷ [])
+string-held : (e : Document) (c : ℕ) → c ≡ 34 → HasTaken e.string [] → HoldsString e (c ∷ [])
 string-held e c is fresh = record { rest = []; is = ap (λ x. x ∷ []) is; taken = fresh }
 
-pub string-begins : (d e : PartialDocument) (t : List ℕ) (c : ℕ) (fs : List OpenFrame) → BeginsHere c d t fs → Keeps d e
+pub string-begins : (d e : Document) (t : List ℕ) (c : ℕ) (fs : List OpenFrame) → BeginsHere c d t fs → Keeps d e
     → e.value ≡ d.value → e.begin ≡ d.position → e.token ≡ token.Text → c ≡ 34 → HasTaken e.string []
     → HasTakenIn anything e (t ++ c ∷ [])
 string-begins d e t c fs h keeps value begin tok is fresh =
@@ -416,14 +409,14 @@ string-begins d e t c fs h keeps value begin tok is fresh =
     (subst (λ o. HoldsScalar e o (c ∷ [])) (sym tok) (string-held e c is fresh))
 
 -- a key
-key-reads : (p : Settings) (t u : List ℕ) (c : ℕ) (f : Option Fault) (d : PartialDocument) (s : Arrived)
+key-reads : (p : Settings) (t u : List ℕ) (c : ℕ) (f : Option Fault) (d : Document) (s : Arrived)
     → (k : BeginsKey d.value s c) → ReadsAt p t (c ∷ u) f (between_tokens s)
     → ReadsAt p t (c ∷ u) f (in_key k.frames k.members (length t))
 key-reads p t u c (Some f) d s k r = r
 key-reads p t u c None d s k r = r ∙ k.goes p (t ++ c ∷ u) (length t) (stands-last t u c)
 
 -- what is known where a key begins
-pub key-known : (d : PartialDocument) (t : List ℕ) (c : ℕ) (s : Arrived) → StandsAt c d t s → (k : BeginsKey d.value s c)
+pub key-known : (d : Document) (t : List ℕ) (c : ℕ) (s : Arrived) → StandsAt c d t s → (k : BeginsKey d.value s c)
     → Known (with_byte c) d t (in_key k.frames k.members (length t))
 key-known d t c s h k = record {
   mode = λ u comes. subst (λ v. ReadsAt d.settings t v d.fault (in_key k.frames k.members (length t))) (sym comes.1)
@@ -438,7 +431,7 @@ key-known d t c s h k = record {
   same = h.known.same;
 }
 
-pub key-begins : (d e : PartialDocument) (t : List ℕ) (c : ℕ) (s : Arrived) → StandsAt c d t s → BeginsKey d.value s c
+pub key-begins : (d e : Document) (t : List ℕ) (c : ℕ) (s : Arrived) → StandsAt c d t s → BeginsKey d.value s c
     → Keeps d e → e.value ≡ d.value → e.begin ≡ d.position → e.token ≡ token.Key → HasTaken e.string []
     → HasTakenIn anything e (t ++ c ∷ [])
 key-begins d e t c s h k keeps value begin tok fresh =
@@ -453,14 +446,15 @@ key-begins d e t c s h k keeps value begin tok fresh =
         tok,
         string-held e c k.quote fresh,
         ap (λ v. v.awaits) value ∙ k.awaits,
-        ap (λ v. map view v.spine.items) value ∙ k.left,
+        ap (λ v. v.depth) value ∙ k.deep,
+        ap (λ v. v.tree) value ∙ k.left,
       );
     }
 
 -- ---- tokens that go on and end
 
 -- The word or the number that is unfinished: where it begins, and its bytes so far
-pub record Unfinished (d : PartialDocument) (t : List ℕ) (k : Token) : Type 0 where
+pub record Unfinished (d : Document) (t : List ℕ) (k : Token) : Type 0 where
   pub frames : List OpenFrame
   pub begin : ℕ
   pub bytes : List ℕ
@@ -469,7 +463,6 @@ pub record Unfinished (d : PartialDocument) (t : List ℕ) (k : Token) : Type 0 
   pub held : HoldsScalar d k bytes
   pub left : IsLeft d.value (at_value awaits.Value frames)
   pub low : length frames ≤ nesting_limit
-  pub room : HasRoomInside d.value.spine.items
 
 -- a word's or a number's token
 abbrev pub IsPlain : Token → Type 0
@@ -483,7 +476,7 @@ plain-key : (k : Token) → IsPlain k → k ≡ token.Key → ⊥
 plain-key k (inl e) n = absurd (cc)
 plain-key k (inr e) n = absurd (cc)
 
-unfinished-in : (d : PartialDocument) (t : List ℕ) (k : Token) (o : Opened) → d.token ≡ k → IsPlain k
+unfinished-in : (d : Document) (t : List ℕ) (k : Token) (o : Opened) → d.token ≡ k → IsPlain k
     → Known anything d t o → Holding d t o → Unfinished d t k
 unfinished-in d t k (between_tokens s) is plain known h = absurd (plain-nothing k plain (sym is ∙ h.0))
 unfinished-in d t k (in_scalar fs b) is plain known h = record {
@@ -495,19 +488,18 @@ unfinished-in d t k (in_scalar fs b) is plain known h = record {
   held = subst (λ k. HoldsScalar d k h.0) is h.2;
   left = h.3;
   low = h.4;
-  room = h.5;
 }
 unfinished-in d t k (in_key fs ms b) is plain known h = absurd (plain-key k plain (sym is ∙ h.2))
 
-unfinished : (d : PartialDocument) (t : List ℕ) (k : Token) → IsPlain k → HasArrived d t → d.fault ≡ None
+unfinished : (d : Document) (t : List ℕ) (k : Token) → IsPlain k → HasCome d t → d.fault ≡ None
     → d.token ≡ k → Unfinished d t k
 unfinished d t k plain h unset is = unfinished-in d t k h.read.opened is plain h.read.known (h.read.held unset)
 
-pub word-open : (d : PartialDocument) (t : List ℕ) → HasArrived d t → d.fault ≡ None → d.token ≡ token.Word
+pub word-open : (d : Document) (t : List ℕ) → HasCome d t → d.fault ≡ None → d.token ≡ token.Word
     → Unfinished d t token.Word
 word-open d t h unset is = unfinished d t token.Word (inl refl) h unset is
 
-pub number-open : (d : PartialDocument) (t : List ℕ) → HasArrived d t → d.fault ≡ None → d.token ≡ token.Number
+pub number-open : (d : Document) (t : List ℕ) → HasCome d t → d.fault ≡ None → d.token ≡ token.Number
     → Unfinished d t token.Number
 number-open d t h unset is = unfinished d t token.Number (inr refl) h unset is
 
@@ -520,7 +512,7 @@ begins-more w v s h = record {
   starts = h.starts;
 }
 
-module _ (d : PartialDocument) (t : List ℕ) (k : Token) (x : Unfinished d t k) where
+module _ (d : Document) (t : List ℕ) (k : Token) (x : Unfinished d t k) where
   bytes-end : x.begin + length x.bytes ≡ length t
   bytes-end = held-end x.from.prefix x.bytes t x.begin x.from.is x.from.begin
 
@@ -535,7 +527,7 @@ module _ (d : PartialDocument) (t : List ℕ) (k : Token) (x : Unfinished d t k)
   next-stands u c = ap (slice_get (t ++ c ∷ u)) bytes-end ∙ stands-last t u c
 
   -- The bytes w are taken into it.
-  pub token-on : (e : PartialDocument) (w : List ℕ) → Keeps d e → e.value ≡ d.value → e.begin ≡ d.begin
+  pub token-on : (e : Document) (w : List ℕ) → Keeps d e → e.value ≡ d.value → e.begin ≡ d.begin
       → HoldsScalar e e.token (x.bytes ++ w) → HasTakenIn anything e (t ++ w)
   token-on e w keeps value begin held = record {
     opened = in_scalar x.frames x.begin;
@@ -552,7 +544,6 @@ module _ (d : PartialDocument) (t : List ℕ) (k : Token) (x : Unfinished d t k)
       held,
       subst (λ v. IsLeft v (at_value awaits.Value x.frames)) (sym value) x.left,
       x.low,
-      subst (λ v. HasRoomInside v.spine.items) (sym value) x.room,
     );
   }
 
@@ -593,7 +584,7 @@ module _ (k : Name) (o m : PartialWord) (w : List ℕ) (c : ℕ) (h : HoldsWord 
         let tail = word_at-sound t left j (j + 1) tt (leads t j here) in
         sym (slice-stands t b (j + 1) (w ++ left) (stands-append t b j (j + 1) w left s tail)) ∙ h.spelled
 
-module _ (d : PartialDocument) (t : List ℕ) (x : Unfinished d t token.Word) (m : PartialWord) (c : ℕ) where
+module _ (d : Document) (t : List ℕ) (x : Unfinished d t token.Word) (m : PartialWord) (c : ℕ) where
   abbrev o : PartialWord
   o = d.word
 
@@ -606,7 +597,7 @@ module _ (d : PartialDocument) (t : List ℕ) (x : Unfinished d t token.Word) (m
       → word_from d.word.word.now d.word.seen t j ≡ word_by d.word.word.now m.seen t j seen.Part)
       → HasTakenIn anything (record d { word = m }) (t ++ c ∷ [])
   word-goes-on is same leads =
-      let e : PartialDocument = record d { word = m } in
+      let e : Document = record d { word = m } in
       token-on d t token.Word x e (c ∷ []) record { settings = refl; fault = refl; first = refl } refl refl
       (subst (λ k. HoldsScalar e k (x.bytes ++ c ∷ [])) (sym is) (
         word-on d.name d.word m x.bytes c x.held.0 same leads,
@@ -659,12 +650,12 @@ number-same n m w h text stage = record {
       h.goes names t b stands ∙ ap (λ s. number_from names s t (b + length w)) (sym stage);
 }
 
-pub number-stays : (d : PartialDocument) (m : PartialNumber) (t : List ℕ) → HasArrived d t → d.fault ≡ None
+pub number-stays : (d : Document) (m : PartialNumber) (t : List ℕ) → HasCome d t → d.fault ≡ None
     → d.token ≡ token.Number → string_bytes m.text ≡ string_bytes d.number.text → m.stage ≡ d.number.stage
-    → HasArrived (record d { number = m }) t
+    → HasCome (record d { number = m }) t
 number-stays d m t h unset is text stage =
     let x = number-open d t h unset is in
-    let e : PartialDocument = record d { number = m } in
+    let e : Document = record d { number = m } in
     record {
       read =
           record {
@@ -677,24 +668,23 @@ number-stays d m t h unset is text stage =
                   (number-same d.number m x.bytes x.held.0 text stage, x.held.1),
               x.left,
               x.low,
-              x.room,
             );
           };
       position = h.position;
     }
 
 -- It goes on with these bytes.
-pub number-takes : (d : PartialDocument) (m : PartialNumber) (t v : List ℕ) → HasArrived d t → d.fault ≡ None
+pub number-takes : (d : Document) (m : PartialNumber) (t v : List ℕ) → HasCome d t → d.fault ≡ None
     → d.token ≡ token.Number → ((w : List ℕ) → HoldsNumber d.number w → HoldsNumber m (w ++ v))
     → HasTakenIn anything (record d { number = m }) (t ++ v)
 number-takes d m t v h unset is more =
     let x = number-open d t h unset is in
-    let e : PartialDocument = record d { number = m } in
+    let e : Document = record d { number = m } in
     token-on d t token.Number x e v record { settings = refl; fault = refl; first = refl } refl refl
     (subst (λ k. HoldsScalar e k (x.bytes ++ v)) (sym is)
     (more x.bytes x.held.0, begins-more x.bytes v start.Number x.held.1))
 
-module _ (d : PartialDocument) (t : List ℕ) (x : Unfinished d t token.Number) (c : ℕ) where
+module _ (d : Document) (t : List ℕ) (x : Unfinished d t token.Number) (c : ℕ) where
   -- what is said of the byte after its bytes
   extent-by : (w : Went) → Leads d.number.stage c w → (names : Bool) (u : List ℕ)
       → number_extent names (t ++ c ∷ u) x.begin ≡ number_by names (t ++ c ∷ u) (length t) w
@@ -743,7 +733,6 @@ module _ (d : PartialDocument) (t : List ℕ) (x : Unfinished d t token.Number) 
     place = x.from.place;
     left = x.left;
     low = x.low;
-    room = x.room;
   }
 
 -- ---- a number that lies whole in a chunk, with the byte after it
@@ -762,7 +751,7 @@ range-first chunk at e lt le =
     ∙ ap (λ w. w ++ slice_range chunk (at + 1) e)
     (slice-one chunk at (get_or chunk at 0) (slice_get-get_or chunk at 0 (omega arith)))
 
-module _ (d : PartialDocument) (t : List ℕ) (fs : List OpenFrame) (chunk : List ℕ) (at : ℕ) (v : Tree) (e : ℕ)
+module _ (d : Document) (t : List ℕ) (fs : List OpenFrame) (chunk : List ℕ) (at : ℕ) (v : Tree) (e : ℕ)
     (here : BeginsHere (get_or chunk at 0) d t fs) (h : IsNumberWithin chunk at v e) where
   abbrev first : ℕ
   first = get_or chunk at 0

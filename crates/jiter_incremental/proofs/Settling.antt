@@ -1,0 +1,134 @@
+-- A document whose unfinished scalar is in the value so far, or apart from it.
+use Rattle.std.proofs.Common.{◌≡◌, ℕ, zero, suc, ◌+◌, ◌-◌, ◌<◌, ◌≤◌, Bool, true, false, List, [], ◌∷◌, ◌++◌, length, take, drop, get_or, refl, sym, subst, ap, ◌∙◌}
+use Rattle.std.proofs.Common.{arith, inl, inr}
+use Rattle.std.specs.Prelude.{slice_get, slice_index, slice_range, None, Some}
+use Rattle.std.proofs.lemmas.Bool.{false≢true}
+use Rattle.std.proofs.lemmas.Option.{slice_get-get_or}
+use Rattle.jiter_scan.proofs.Standing.{slice-one}
+use Rattle.jiter_scan.specs.PartialNumber.{HoldsNumber}
+use Rattle.jiter_steps.specs.PartialString.{HasTaken}
+use Rattle.jiter_steps.specs.Tree.{Tree}
+use Rattle.jiter_incremental.specs.Arrived.{Arrived, OpenValue}
+use Rattle.jiter_incremental.specs.Document.{BeginsAs, Comes, Document, HasCome, HasReadIn, HasTakenIn, Holding, HoldsScalar, HoldsString}
+use Rattle.jiter_incremental.specs.Document.{HoldsWord, IsAllowed, IsMoved, Known, Next, Opened, Settled, TakenFrom, anything, between_tokens}
+use Rattle.jiter_incremental.specs.Document.{in_key, in_scalar, is_shown, shown_as, with_byte, with_parts}
+use Rattle.jiter_incremental.specs.Names.{name_start}
+use Rattle.jiter_incremental.specs.Reader.{HasReadTo, IsAt, IsHere, Moves, Steps, after_level, ahead, ahead_as, document, next_of}
+use Rattle.jiter_incremental.specs.Slot.{OpenFrame, filled}
+use Rattle.jiter_incremental.specs.declared.reader.Awaits.{Awaits}
+use Rattle.jiter_incremental.specs.declared.reader.Awaits.TheVariants as awaits
+use Rattle.jiter_incremental.specs.declared.reader.Reader.{Reader}
+use Rattle.jiter_incremental.specs.declared.reader.Token.{Token}
+use Rattle.jiter_incremental.specs.declared.reader.Token.TheVariants as token
+
+-- What is known whatever comes is known of what comes.
+pub known-any : (m : Next) (d : Document) (t : List ℕ) (o : Opened) → Known anything d t o → Known m d t o
+known-any m d t o k = record {
+  mode = λ u comes. k.mode u tt;
+  strict = λ u comes. k.strict u tt;
+  ends = k.ends;
+  noted = k.noted;
+  same = k.same;
+}
+
+pub read-any : (m : Next) (d : Document) (t : List ℕ) → HasReadIn anything d t → HasReadIn m d t
+read-any m d t h = record { opened = h.opened; known = known-any m d t h.opened h.known; held = h.held }
+
+-- No scalar is unfinished, or none that is a value.
+pub shown-nothing : (d : Document) → d.token ≡ token.Nothing → is_shown d ≡ false
+shown-nothing d is = ap (shown_as d) is
+
+pub shown-word : (d : Document) → d.token ≡ token.Word → is_shown d ≡ false
+shown-word d is = ap (shown_as d) is
+
+pub shown-key : (d : Document) → d.token ≡ token.Key → is_shown d ≡ false
+shown-key d is = ap (shown_as d) is
+
+-- A scalar that is no value stays apart,
+pub reads-apart : (n : Next) (d : Document) (t : List ℕ) → HasTakenIn n d t → d.shown ≡ false
+    → (d.fault ≡ None → is_shown d ≡ false) → HasReadIn n d t
+reads-apart n d t h hidden off = record {
+  opened = h.opened;
+  known = h.known;
+  held = λ unset. record {
+    apart = d;
+    held = h.held unset;
+    shows = hidden ∙ sym (off unset);
+    same = refl;
+    moved = subst (λ b. IsMoved b d d) (sym hidden) (refl, refl, refl);
+  };
+}
+
+-- and what stays apart is held as before.
+holding-parts : (d : Document) (b : Bool) (t : List ℕ) (o : Opened) → Holding d t o → Holding (record d { shown = b }) t o
+holding-parts d b t (between_tokens s) h = h
+holding-parts d b t (in_scalar fs i) h = (
+  h.0,
+  record { prefix = h.1.prefix; is = h.1.is; begin = h.1.begin; place = h.1.place },
+  by d.token h.2,
+  h.3,
+  h.4,
+) where
+  by : (k : Token) → HoldsScalar d k h.0 → HoldsScalar (record d { shown = b }) k h.0
+  by token.Word s = s
+  by token.Number s = s
+  by token.Text s = record { rest = s.rest; is = s.is; taken = s.taken }
+  by token.Nothing s = s
+  by token.Key s = s
+holding-parts d b t (in_key fs ms i) h = (
+  h.0,
+  record { prefix = h.1.prefix; is = h.1.is; begin = h.1.begin; place = h.1.place },
+  h.2,
+  record { rest = h.3.rest; is = h.3.is; taken = h.3.taken },
+  h.4,
+  h.5,
+  h.6,
+)
+
+same-parts : (d e : Document) → d ≡ with_parts e d.shown d.number d.string d.value → d.number ≡ e.number
+    → d.string ≡ e.string → d.value ≡ e.value → d ≡ record e { shown = d.shown }
+same-parts d e same number string value =
+    same ∙ ap (λ n. with_parts e d.shown n d.string d.value) number
+    ∙ ap (λ s. with_parts e d.shown e.number s d.value) string
+    ∙ ap (λ v. with_parts e d.shown e.number e.string v) value
+
+pub apart-read : (n : Next) (d : Document) (t : List ℕ) → HasReadIn n d t → d.shown ≡ false → HasTakenIn n d t
+apart-read n d t h hidden = record {
+  opened = h.opened;
+  known = h.known;
+  held = λ unset.
+      let s = h.held unset in
+      let m = subst (λ b. IsMoved b s.apart d) hidden s.moved in
+      let is = same-parts d s.apart s.same m.0 m.1 m.2 in
+      subst (λ e. Holding e t h.opened) (sym is) (holding-parts s.apart d.shown t h.opened s.held);
+}
+
+-- One byte is taken.
+pub one-slice : (chunk : List ℕ) (at : ℕ) → at < length chunk → slice_range chunk at (at + 1) ≡ slice_index chunk at ∷ []
+one-slice chunk at within = slice-one chunk at (get_or chunk at 0) (slice_get-get_or chunk at 0 within)
+
+module _ (level : ℕ) (chunk : List ℕ) (i : Reader) (v : Tree) (j : Reader) (w : Tree) where
+  -- The next byte is taken,
+  pub steps-one : i.at < length chunk → Moves level chunk i j 1 → j.shown ≡ false
+      → ((x : Tree) → j.fault ≡ None → is_shown (document j x) ≡ false)
+      → ((t : List ℕ) (outer : List OpenFrame) → IsAt level outer → HasReadTo chunk i (filled outer v) t
+      → HasTakenIn anything (document j (filled outer w)) (t ++ slice_index chunk i.at ∷ []))
+      → Steps level chunk i v j w 1
+  steps-one inside moves hidden off goes = record {
+    goes = λ t outer at h.
+        let d = document j (filled outer w) in
+        let u = t ++ slice_index chunk i.at ∷ [] in
+        subst (λ s. HasReadIn (ahead j chunk (i.at + 1)) d (t ++ s)) (sym (one-slice chunk i.at inside))
+        (read-any (ahead j chunk (i.at + 1)) d u
+        (reads-apart anything d u (goes t outer at h) hidden (off (filled outer w))));
+    moves = moves;
+  }
+
+-- After a value the next byte is known to come.
+pub ahead-level : (k : Token) (a : Awaits) (n : ℕ) (chunk : List ℕ) (i : ℕ) → k ≡ token.Nothing → a ≡ after_level n
+    → i < length chunk → ahead_as k a chunk i ≡ with_byte (slice_index chunk i)
+ahead-level k a zero chunk i none is within = rw (none, is) (ap next_of (slice_get-get_or chunk i 0 within))
+ahead-level k a (suc n) chunk i none is within = rw (none, is) (ap next_of (slice_get-get_or chunk i 0 within))
+
+pub none-slice : (chunk : List ℕ) (at : ℕ) → slice_range chunk at (at + 0) ≡ []
+none-slice chunk at = let nothing : at + 0 - at ≡ 0 = omega arith in ap (λ n. take n (drop at chunk)) nothing

@@ -1,0 +1,36 @@
+use Rattle.std.proofs.Common.{subst, sym}
+use Rattle.std.proofs.lemmas.Bool.{ne_eqb}
+use Rattle.std.specs.Prelude.{slice_index}
+use Rattle.jiter_value.specs.Value.{view}
+use Rattle.jiter_incremental.specs.Document.{WordBegins}
+use Rattle.jiter_incremental.specs.Reader.{Steps}
+use Rattle.jiter_incremental.specs.declared.names.Name.TheVariants as name
+use Rattle.jiter_incremental.proofs.Documents.Tokens.{infinity-begins, infinity-first, nan-begins}
+use Rattle.jiter_incremental.proofs.Placing.{word-step}
+use Rattle.jiter_incremental.proofs.reader.Reader.begin_float_name.Goals as goal
+
+pub returns-then-chunk-self-eq78 : goal.returns-then-chunk-self-eq78
+returns-then-chunk-self-eq78 c =
+    let i = c.args.self.now in
+    let level = c.args.level in
+    let chunk = c.args.chunk.now in
+    let v = view c.args.slot.now in
+    let is = c.if-chunk-self-eq78.true in
+    subst (λ j. Steps level chunk i v j v 1) (sym c.begin_word.ensures.is)
+    (word-step level chunk i v c.requires.here c.requires.token c.requires.awaited c.requires.other name.NaN
+    c.begin_word.new.self.word c.requires.low c.requires.starts c.if-not-self.false
+    (subst (WordBegins name.NaN) (sym is) nan-begins.allowed) c.begin_word.ensures.word.0 c.begin_word.ensures.word.1)
+
+pub returns-else-chunk-self-eq78 : goal.returns-else-chunk-self-eq78
+returns-else-chunk-self-eq78 c =
+    let i = c.args.self.now in
+    let level = c.args.level in
+    let chunk = c.args.chunk.now in
+    let v = view c.args.slot.now in
+    let byte = slice_index chunk i.at in
+    let is = infinity-first byte c.requires.starts c.requires.named (ne_eqb byte 78 c.if-chunk-self-eq78.false) in
+    subst (λ j. Steps level chunk i v j v 1) (sym c.begin_word-else-chunk-self-eq78.ensures.is)
+    (word-step level chunk i v c.requires.here c.requires.token c.requires.awaited c.requires.other name.Infinity
+    c.begin_word-else-chunk-self-eq78.new.self.word c.requires.low c.requires.starts c.if-not-self.false
+    (subst (WordBegins name.Infinity) (sym is) infinity-begins.allowed) c.begin_word-else-chunk-self-eq78.ensures.word.0
+    c.begin_word-else-chunk-self-eq78.ensures.word.1)

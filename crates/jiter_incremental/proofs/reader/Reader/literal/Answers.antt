@@ -1,0 +1,39 @@
+use Rattle.std.proofs.Common.{◌-◌, subst, sym}
+use Rattle.jiter_steps.specs.StringDecoder.{text_view}
+use Rattle.jiter_steps.specs.Tree.{Tree}
+use Rattle.jiter_value.specs.Value.{view}
+use Rattle.jiter_incremental.specs.Reader.{Steps}
+use Rattle.jiter_incremental.specs.Slot.{IsPut}
+use Rattle.jiter_incremental.specs.declared.reader.Reader.{Reader}
+use Rattle.jiter_incremental.proofs.Placing.{scalar-put, word-step}
+use Rattle.jiter_incremental.proofs.Documents.Tokens.{literal-begins}
+use Rattle.jiter_incremental.specs.declared.names.Name.TheVariants as name
+use Rattle.std.specs.Prelude.{slice_index}
+use Rattle.jiter_incremental.proofs.WholeLiterals.{literal-scalar}
+use Rattle.jiter_incremental.proofs.reader.Reader.literal.Goals as goal
+
+pub returns-in-Some : goal.returns-in-Some
+returns-in-Some c =
+    let i = c.args.self.now in
+    let level = c.args.level in
+    let chunk = c.args.chunk.now in
+    let v = view c.args.slot.now in
+    let w = view c.put.new.slot in
+    let e = c.in-Some.end in
+    let found = c.in-Some.ensures in
+    let put = subst (λ (x : Tree). IsPut level v (text_view i.key) x w) c.literal_value.ensures c.put.ensures.put in
+    subst (λ (j : Reader). Steps level chunk i v j w (e - j.at)) (sym c.put.ensures.is)
+    (scalar-put level chunk i v c.requires.here c.requires.token c.requires.awaited c.requires.other c.put.new.self.key _ w e
+    c.requires.low put (literal-scalar chunk i.at c.args.literal e c.requires.starts found.value found.within.0 found.within.1))
+
+pub returns-in-None : goal.returns-in-None
+returns-in-None c =
+    let i = c.args.self.now in
+    let level = c.args.level in
+    let chunk = c.args.chunk.now in
+    let v = view c.args.slot.now in
+    let word = c.begin_word.new.self.word in
+    subst (λ j. Steps level chunk i v j v 1) (sym c.begin_word.ensures.is)
+    (word-step level chunk i v c.requires.here c.requires.token c.requires.awaited c.requires.other (name.Literal c.args.literal)
+    word c.requires.low c.requires.starts tt (literal-begins (slice_index chunk i.at) c.args.literal c.requires.starts)
+    c.begin_word.ensures.word.0 c.begin_word.ensures.word.1)

@@ -1,0 +1,11 @@
+use Rattle.std.proofs.Common.{[], refl}
+use Rattle.jiter_incremental.specs.Document.{anything}
+use Rattle.jiter_incremental.proofs.Between.{none-read}
+use Rattle.jiter_incremental.proofs.Documents.{new-arrived}
+use Rattle.jiter_incremental.proofs.Settling.{reads-apart}
+use Rattle.jiter_incremental.proofs.reader.Reader.new.Goals as goal
+
+pub returns-clause-arrived : goal.returns-clause-arrived
+returns-clause-arrived c =
+    let h = new-arrived _ refl refl refl refl (refl, tt, refl, tt) none-read in
+    record { read = reads-apart anything _ [] h.read refl (λ _. refl); position = h.position }

@@ -1,0 +1,599 @@
+//! Reads a document that comes in chunks (RFC 8259). A push goes down the open path of the value so far by recursion,
+//! and goes on there: the value is never taken apart.
+ghost use Rattle.std.specs.Prelude.{◌≡◌, ◌⊎◌, ◌+◌, ◌-◌, ◌^◌, ◌<◌, ◌≤◌, ◌++◌, ◌∷◌, [], IfOk, List, None, Ok, OnErr, OnOk, Some, length};
+ghost use Rattle.std.specs.Prelude.{false, slice_index, take, true, ℕ};
+ghost use Rattle.jiter_incremental.specs.Arrived.{Arrived, IsLeft};
+ghost use Rattle.jiter_incremental.specs.Between.{IsAfter, IsBeforePart};
+ghost use Rattle.jiter_incremental.specs.Document.{HasArrived, HasTakenIn, IsOver, MayRefuseAt, StandsAt, anything, noted_in};
+ghost use Rattle.jiter_incremental.specs.Reader.{IsHere, IsStill, Leads, Ready, Refuses, Stays, Steps, Went, after_level};
+ghost use Rattle.jiter_incremental.specs.Reader.{document, noted, refused};
+ghost use Rattle.jiter_incremental.specs.Slot.{HasPart, HasRoomAt, IsPut};
+ghost use Rattle.jiter_incremental.specs.declared.reader.Awaits.TheVariants as awaited;
+ghost use Rattle.jiter_incremental.specs.declared.reader.Token.TheVariants as kind;
+ghost use Rattle.jiter_incremental.specs.declared.reader.Turn.TheVariants as turned;
+ghost use Rattle.jiter_scan.specs.Ascii.{comma};
+ghost use Rattle.jiter_steps.specs.Blank.{is_blank};
+ghost use Rattle.jiter_steps.specs.Node.{nesting_limit};
+ghost use Rattle.jiter_steps.specs.StringDecoder.{text_view};
+ghost use Rattle.jiter_steps.specs.Tree.{Tree, null};
+ghost use Rattle.jiter_steps.specs.Step.{begins_part, closer_of};
+ghost use Rattle.jiter_value.specs.Stacks.{PartTree, built};
+ghost use Rattle.jiter_value.specs.Value.{view};
+
+use crate::names::Name;
+use crate::slot::{kind_of, put_in};
+use jiter_scan::errors::{Fault, FaultKind, fault_at};
+use jiter_scan::memory::AllocFailed;
+use jiter_scan::partial_number::PartialNumber;
+use jiter_scan::partial_word::PartialWord;
+use jiter_steps::blank::past_blanks;
+use jiter_steps::parse::ContainerKind;
+use jiter_steps::partial_string::PartialString;
+use jiter_value::settings::Settings;
+use jiter_value::value::JsonValue;
+use std::alloc::Global;
+use std::borrow::CowStr;
+
+/// Which scalar or key is unfinished.
+#[derive(Clone, Copy, Debug)]
+pub enum Token {
+    /// None.
+    Nothing,
+    /// A literal, `NaN`, `Infinity` or `-Infinity`.
+    Word,
+    /// A number.
+    Number,
+    /// A string that is a value.
+    Text,
+    /// A key.
+    Key,
+}
+
+/// What comes next, between two tokens.
+#[derive(Clone, Copy, Debug)]
+pub enum Awaits {
+    /// A value: the document's, or a member's after its colon.
+    Value,
+    /// The colon after a key.
+    Colon,
+    /// The first item or member of a container, or its closing bracket.
+    First,
+    /// An item or member, after a comma.
+    Next,
+    /// A comma or the closing bracket, after an item or member.
+    Comma,
+    /// Nothing: the document's value is complete.
+    Nothing,
+}
+
+/// What a step did in an open container.
+#[derive(Clone, Copy, Debug)]
+pub enum Turn {
+    /// The container goes on.
+    More,
+    /// A container inside it begins.
+    Opened,
+    /// It ends.
+    Closed,
+}
+
+/// All that is known of the bytes so far, except the value.
+#[derive(Drop)]
+pub struct Reader {
+    pub(crate) alloc: Global,
+    pub(crate) settings: Settings,
+    // how many bytes came before this chunk, and the index in it
+    pub(crate) base: usize,
+    pub(crate) at: usize,
+    // the position of the unfinished token
+    pub(crate) begin: usize,
+    // the number of open containers
+    pub(crate) depth: usize,
+    pub(crate) awaits: Awaits,
+    pub(crate) token: Token,
+    // whether the value holds the unfinished token
+    pub(crate) shown: bool,
+    pub(crate) name: Name,
+    pub(crate) word: PartialWord,
+    pub(crate) number: PartialNumber,
+    pub(crate) string: PartialString,
+    pub(crate) tape: Vec<u8>,
+    pub(crate) key: CowStr<'static>,
+    // the first error in the document's mode; no later byte changes it
+    pub(crate) fault: Option<Fault>,
+    // the first error with partial reading off
+    pub(crate) first: Option<Fault>,
+}
+
+// Whitespace (RFC 8259, 2).
+#[inline(always)]
+pub(crate) fn is_blank(byte: u8) -> bool
+    ensures { result ≡ is_blank byte }
+{
+    matches!(byte, b' ' | b'\t' | b'\n' | b'\r')
+}
+
+fn first_of(first: Option<Fault>, fault: Fault) -> Option<Fault>
+    ensures { result ≡ noted_in first fault.kind fault.index }
+{
+    match first {
+        Some(other) => Some(other),
+        None => Some(fault),
+    }
+}
+
+#[inline(always)]
+fn is_first(awaits: Awaits) -> bool
+    ensures first { result ≡ true → awaits ≡ awaited.First }
+    ensures other { result ≡ false → ¬ (awaits ≡ awaited.First) }
+{
+    matches!(awaits, Awaits::First)
+}
+
+// What comes next after a value inside so many containers.
+#[inline(always)]
+fn after_part(depth: usize) -> Awaits
+    ensures { result ≡ after_level depth }
+{
+    if depth == 0 {
+        Awaits::Nothing
+    } else {
+        Awaits::Comma
+    }
+}
+
+impl Reader {
+    /// Returns a reader that has taken no bytes. Does not allocate.
+    pub fn new(alloc: Global, settings: Settings) -> Reader
+        ensures arrived { HasArrived (document result null) [] }
+        ensures settings { result.settings ≡ settings }
+        ensures start { (result.base ≡ 0) × (result.at ≡ 0) }
+    {
+        Reader {
+            alloc,
+            settings,
+            base: 0,
+            at: 0,
+            begin: 0,
+            depth: 0,
+            awaits: Awaits::Value,
+            token: Token::Nothing,
+            shown: false,
+            name: Name::NaN,
+            word: Name::NaN.begun(),
+            number: PartialNumber::new(alloc),
+            string: PartialString::new(alloc),
+            tape: Vec::new(alloc),
+            key: CowStr::Borrowed(""),
+            fault: None,
+            first: None,
+        }
+    }
+
+    /// Returns how many bytes were taken.
+    #[inline(always)]
+    pub fn position(&self) -> usize
+        requires { self.now.base + self.now.at < 2 ^ 64 }
+        ensures { result ≡ self.now.base + self.now.at }
+    {
+        self.base + self.at
+    }
+
+    // A final error: no later byte changes it.
+    pub(crate) fn refuse(&mut self, kind: FaultKind, index: usize)
+        ensures { self.new ≡ refused self.old kind index }
+    {
+        let fault = fault_at(kind, index);
+        self.first = first_of(self.first, fault);
+        self.fault = Some(fault);
+    }
+
+    // An error only with partial reading off: the mode forgives it and goes on.
+    pub(crate) fn note(&mut self, kind: FaultKind, index: usize)
+        ensures { self.new ≡ noted self.old kind index }
+    {
+        self.first = first_of(self.first, fault_at(kind, index));
+    }
+
+    // Whether no byte changes the results any more. A final error is in `first` too, so one test settles most bytes.
+    #[inline(always)]
+    pub(crate) fn is_over(&self) -> bool
+        requires { self.now.first ≡ None → self.now.fault ≡ None }
+        ensures over { (v : Tree) → result ≡ true → IsOver (document self.now v) }
+        ensures unset { result ≡ false → self.now.fault ≡ None }
+    {
+        match self.first {
+            None => false,
+            Some(_) => self.fault.is_some() || self.is_done(),
+        }
+    }
+
+    #[inline(never)]
+    fn is_done(&self) -> bool
+        ensures { result ≡ true → (self.now.token ≡ kind.Nothing) × (self.now.awaits ≡ awaited.Nothing) }
+    {
+        matches!(self.token, Token::Nothing) && self.is_whole()
+    }
+
+    /// Returns whether the document's value is complete.
+    pub fn is_whole(&self) -> bool
+        ensures whole { result ≡ true → self.now.awaits ≡ awaited.Nothing }
+        ensures open { result ≡ false → ¬ (self.now.awaits ≡ awaited.Nothing) }
+    {
+        matches!(self.awaits, Awaits::Nothing)
+    }
+
+    // The slot has capacity for the value.
+    #[inline(always)]
+    pub(crate) fn put(
+        &mut self,
+        slot: &mut JsonValue<'static>,
+        level: usize,
+        value: JsonValue<'static>,
+    )
+        requires { HasRoomAt level slot.old }
+        ensures put { IsPut level (view slot.old) (text_view self.old.key) (view value.entry) (view slot.new) }
+        ensures is { self.new ≡ record self.old {
+          token = kind.Nothing;
+          awaits = after_level level;
+          key = self.new.key;
+        } }
+    {
+        put_in(slot, level, &mut self.key, value);
+        self.token = Token::Nothing;
+        self.awaits = after_part(level);
+    }
+
+    #[inline(always)]
+    pub(crate) fn end_container(&mut self)
+        requires { 0 < self.old.depth }
+        ensures { self.new ≡ record self.old {
+          depth = self.old.depth - 1;
+          awaits = after_level (self.old.depth - 1);
+        } }
+    {
+        self.depth -= 1;
+        self.awaits = after_part(self.depth);
+    }
+
+    // A partial mode reads nothing after the value, so such a byte is an error only with partial reading off.
+    fn trail(&mut self)
+        requires unset { self.old.fault ≡ None }
+        requires room { self.old.base + self.old.at < 2 ^ 64 }
+        ensures taken { (c : ℕ) → (t : List ℕ) → (v : Tree) → (s : Arrived) → StandsAt c (document self.old v) t s
+            → IsLeft (document self.old v).value s → self.old.awaits ≡ awaited.Nothing → is_blank c ≡ false
+            → HasTakenIn anything (document self.new v) (t ++ c ∷ []) }
+        ensures still { IsStill self.old self.new }
+        ensures same { (self.new.depth ≡ self.old.depth) × (self.new.token ≡ self.old.token)
+            × (self.new.shown ≡ self.old.shown) }
+    {
+        let kind = FaultKind::TrailingCharacters;
+        if self.settings.mode.is_active() {
+            self.note(kind, self.position());
+            return;
+        }
+        self.refuse(kind, self.position());
+    }
+
+    // A comma or a closing bracket is missing before the byte. A partial mode ends the container there: `[1 x` is
+    // `[1]`. The byte isn't taken: it may end or continue a container outside, or come after the value.
+    #[inline(never)]
+    fn close_before(&mut self, slot: &JsonValue<'static>, level: usize, chunk: &[u8]) -> usize
+        requires here { IsHere level chunk.now self.old (view slot.now) }
+        requires token { self.old.token ≡ kind.Nothing }
+        requires comma { self.old.awaits ≡ awaited.Comma }
+        requires missing { (h : ContainerKind) → (xs : List (PartTree h)) → view slot.now ≡ built h xs
+            → ¬ (slice_index chunk.now self.old.at ≡ closer_of h) }
+        requires none { ¬ (slice_index chunk.now self.old.at ≡ comma) }
+        requires other { is_blank (slice_index chunk.now self.old.at) ≡ false }
+        ensures { Steps level chunk.now self.old (view slot.now) self.new (view slot.now) result }
+    {
+        let kind = kind_of(slot).comma_kind();
+        if !self.settings.mode.is_active() {
+            self.refuse(kind, self.position());
+            return 1;
+        }
+        self.note(kind, self.position());
+        self.end_container();
+        0
+    }
+
+    /// Takes the byte after a value, or ends the container before it. Returns how many bytes it took.
+    #[inline(always)]
+    pub fn after(&mut self, slot: &JsonValue<'static>, level: usize, chunk: &[u8]) -> usize
+        requires here { IsHere level chunk.now self.old (view slot.now) }
+        requires token { self.old.token ≡ kind.Nothing }
+        requires after { IsAfter self.old.awaits }
+        requires other { is_blank (slice_index chunk.now self.old.at) ≡ false }
+        ensures { Steps level chunk.now self.old (view slot.now) self.new (view slot.now) result }
+    {
+        if level == 0 {
+            self.trail();
+            return 1;
+        }
+        let byte = chunk[self.at];
+        if byte == b',' {
+            self.awaits = Awaits::Next;
+            return 1;
+        }
+        let closer = kind_of(slot).closer();
+        if byte == closer {
+            self.end_container();
+            return 1;
+        }
+        self.close_before(slot, level, chunk)
+    }
+
+    #[inline(always)]
+    fn colon(&mut self, slot: &JsonValue<'static>, level: usize, chunk: &[u8]) -> usize
+        requires here { IsHere level chunk.now self.old (view slot.now) }
+        requires token { self.old.token ≡ kind.Nothing }
+        requires awaits { self.old.awaits ≡ awaited.Colon }
+        requires other { is_blank (slice_index chunk.now self.old.at) ≡ false }
+        ensures { Steps level chunk.now self.old (view slot.now) self.new (view slot.now) result }
+    {
+        let byte = chunk[self.at];
+        if byte != b':' {
+            self.refuse(FaultKind::ExpectedColon, self.position());
+            return 1;
+        }
+        self.awaits = Awaits::Value;
+        1
+    }
+
+    // The byte is a closing bracket, or an error, where an item or member may begin.
+    #[inline(always)]
+    fn no_part(&mut self, slot: &JsonValue<'static>, level: usize, chunk: &[u8]) -> usize
+        requires here { IsHere level chunk.now self.old (view slot.now) }
+        requires token { self.old.token ≡ kind.Nothing }
+        requires before { IsBeforePart self.old.awaits }
+        requires none { (h : ContainerKind) → (xs : List (PartTree h)) → view slot.now ≡ built h xs
+            → begins_part h (slice_index chunk.now self.old.at) ≡ false }
+        requires other { is_blank (slice_index chunk.now self.old.at) ≡ false }
+        ensures { Steps level chunk.now self.old (view slot.now) self.new (view slot.now) result }
+    {
+        let byte = chunk[self.at];
+        let closer = kind_of(slot).closer();
+        if byte != closer {
+            self.refuse(FaultKind::KeyMustBeAString, self.position());
+            return 1;
+        }
+        if is_first(self.awaits) {
+            self.end_container();
+            return 1;
+        }
+        self.refuse(FaultKind::TrailingComma, self.position());
+        1
+    }
+
+    // The byte is where an item or member may begin.
+    #[inline(always)]
+    fn between(
+        &mut self,
+        slot: &mut JsonValue<'static>,
+        level: usize,
+        chunk: &[u8],
+    ) -> Result<usize, AllocFailed>
+        requires here { IsHere level chunk.now self.old (view slot.old) }
+        requires token { self.old.token ≡ kind.Nothing }
+        requires before { IsBeforePart self.old.awaits }
+        requires other { is_blank (slice_index chunk.now self.old.at) ≡ false }
+        ensures steps { IfOk result (λ n. Steps level chunk.now self.old (view slot.old) self.new (view slot.new) n) }
+        ensures stays { OnErr result (Stays level chunk.now self.old (view slot.old) self.new (view slot.new)) }
+    {
+        let kind = kind_of(slot);
+        if !kind.begins_part(chunk[self.at]) {
+            return Ok(self.no_part(slot, level, chunk));
+        }
+        match kind {
+            ContainerKind::Array => self.value(slot, level, chunk),
+            ContainerKind::Object => self.key(slot, level, chunk),
+        }
+    }
+
+    // Takes whitespace, or what begins with the next byte. No token is unfinished.
+    #[inline(always)]
+    fn next(
+        &mut self,
+        slot: &mut JsonValue<'static>,
+        level: usize,
+        chunk: &[u8],
+    ) -> Result<usize, AllocFailed>
+        requires here { IsHere level chunk.now self.old (view slot.old) }
+        requires token { self.old.token ≡ kind.Nothing }
+        ensures steps { IfOk result (λ n. Steps level chunk.now self.old (view slot.old) self.new (view slot.new) n) }
+        ensures stays { OnErr result (Stays level chunk.now self.old (view slot.old) self.new (view slot.new)) }
+        ensures wanted { OnErr result (is_blank (slice_index chunk.now self.old.at) ≡ false) }
+    {
+        let end = past_blanks(chunk, self.at);
+        if self.at < end {
+            return Ok(end - self.at);
+        }
+        match self.awaits {
+            Awaits::Value => self.value(slot, level, chunk),
+            Awaits::Colon => Ok(self.colon(slot, level, chunk)),
+            Awaits::First | Awaits::Next => self.between(slot, level, chunk),
+            _ => Ok(self.after(slot, level, chunk)),
+        }
+    }
+
+    // Takes bytes of the chunk and returns how many: none only where a container ends before the byte. If an allocation
+    // fails, nothing is taken.
+    #[inline(always)]
+    fn step(
+        &mut self,
+        slot: &mut JsonValue<'static>,
+        level: usize,
+        chunk: &[u8],
+    ) -> Result<usize, AllocFailed>
+        requires ready { Ready level chunk.now self.old (view slot.old) }
+        requires here { self.old.depth ≡ level }
+        requires inside { self.old.at < length chunk.now }
+        ensures steps { IfOk result (λ n. Steps level chunk.now self.old (view slot.old) self.new (view slot.new) n) }
+        ensures stays { OnErr result (Stays level chunk.now self.old (view slot.old) self.new (view slot.new)) }
+        ensures wanted { OnErr result (Refuses level chunk.now self.old (view slot.old) self.new) }
+        ensures opened { level < self.new.depth → self.new.fault ≡ None }
+    {
+        if self.is_over() {
+            return Ok(chunk.len() - self.at);
+        }
+        match self.token {
+            Token::Nothing => self.next(slot, level, chunk),
+            _ => self.token(slot, level, chunk),
+        }
+    }
+
+    #[inline(always)]
+    fn part(
+        &mut self,
+        slot: &mut JsonValue<'static>,
+        level: usize,
+        chunk: &[u8],
+    ) -> Result<Turn, AllocFailed>
+        requires ready { Ready level chunk.now self.old (view slot.old) }
+        requires here { self.old.depth ≡ level }
+        requires inside { self.old.at < length chunk.now }
+        ensures went { Went level chunk.now self.old (view slot.old) self.new (view slot.new) }
+        ensures wanted { OnErr result (Refuses level chunk.now self.old (view slot.old) self.new) }
+        ensures more { result ≡ Ok turned.More → (self.new.depth ≡ level) × (self.old.at < self.new.at) }
+        ensures opened { result ≡ Ok turned.Opened
+            → (self.new.depth ≡ level + 1) × (self.old.at < self.new.at) × (self.new.fault ≡ None) }
+        ensures closed { result ≡ Ok turned.Closed → self.new.depth + 1 ≡ level }
+        ensures progress { OnOk result ((self.old.at < self.new.at) ⊎ (self.new.depth < level)) }
+    {
+        let count = self.step(slot, level, chunk)?;
+        self.at += count;
+        if self.depth == level {
+            Ok(Turn::More)
+        } else if self.depth < level {
+            Ok(Turn::Closed)
+        } else {
+            Ok(Turn::Opened)
+        }
+    }
+
+    // Goes on in the last item or member of a container.
+    #[cycle(read)]
+    fn inside(
+        &mut self,
+        slot: &mut JsonValue<'static>,
+        level: usize,
+        chunk: &[u8],
+    ) -> Result<(), AllocFailed>
+        requires some { 0 < level }
+        requires ready { Ready level chunk.now self.old (view slot.old) }
+        requires deeper { level < self.old.depth }
+        requires unset { self.old.fault ≡ None }
+        requires part { HasPart (view slot.old) }
+        ensures went { Went level chunk.now self.old (view slot.old) self.new (view slot.new) }
+        ensures wanted { OnErr result (Refuses level chunk.now self.old (view slot.old) self.new) }
+        ensures depth { level ≤ self.new.depth }
+        ensures all { OnOk result (level < self.new.depth → self.new.at ≡ length chunk.now) }
+    {
+        match slot {
+            JsonValue::Array(items) => {
+                let last = items.len() - 1;
+                self.resume(&mut items[last], level + 1, chunk)
+            }
+            JsonValue::Object(members) => {
+                let last = members.len() - 1;
+                self.resume(&mut members[last].1, level + 1, chunk)
+            }
+            _ => unreachable!(),
+        }
+    }
+
+    // Goes on where the bytes so far ended: in this container or one inside it.
+    #[cycle(read)]
+    fn resume(
+        &mut self,
+        slot: &mut JsonValue<'static>,
+        level: usize,
+        chunk: &[u8],
+    ) -> Result<(), AllocFailed>
+        requires some { 0 < level }
+        requires ready { Ready level chunk.now self.old (view slot.old) }
+        requires unset { self.old.fault ≡ None }
+        ensures went { Went level chunk.now self.old (view slot.old) self.new (view slot.new) }
+        ensures wanted { OnErr result (Refuses level chunk.now self.old (view slot.old) self.new) }
+        ensures all { OnOk result (level ≤ self.new.depth → self.new.at ≡ length chunk.now) }
+    {
+        if level == self.depth {
+            return self.parts(slot, level, chunk);
+        }
+        self.inside(slot, level, chunk)?;
+        if level < self.depth {
+            return Ok(());
+        }
+        self.parts(slot, level, chunk)
+    }
+
+    // The items or members of the innermost open container, up to its end or the chunk's.
+    #[cycle(read)]
+    fn parts(
+        &mut self,
+        slot: &mut JsonValue<'static>,
+        level: usize,
+        chunk: &[u8],
+    ) -> Result<(), AllocFailed>
+        requires some { 0 < level }
+        requires ready { Ready level chunk.now self.old (view slot.old) }
+        requires here { self.old.depth ≡ level }
+        ensures went { Went level chunk.now self.old (view slot.old) self.new (view slot.new) }
+        ensures wanted { OnErr result (Refuses level chunk.now self.old (view slot.old) self.new) }
+        ensures all { OnOk result (level ≤ self.new.depth → self.new.at ≡ length chunk.now) }
+    {
+        while self.at < chunk.len() {
+            match self.part(slot, level, chunk)? {
+                Turn::More => {}
+                Turn::Opened => {
+                    self.inside(slot, level, chunk)?;
+                    if level < self.depth {
+                        return Ok(());
+                    }
+                }
+                Turn::Closed => return Ok(()),
+            }
+        }
+        Ok(())
+    }
+
+    /// Counts the bytes that were taken of a chunk.
+    pub fn leave_chunk(&mut self)
+        requires { self.old.base + self.old.at < 2 ^ 64 }
+        ensures { self.new ≡ record self.old { base = self.old.base + self.old.at; at = 0 } }
+    {
+        self.base += self.at;
+        self.at = 0;
+    }
+
+    /// Takes a chunk. If an allocation fails, the position counts the bytes that were taken; the rest can be taken
+    /// again.
+    pub fn read(&mut self, root: &mut JsonValue<'static>, chunk: &[u8]) -> Result<(), AllocFailed>
+        requires arrived { (t : List ℕ) × HasArrived (document self.old (view root.old)) t }
+        requires start { self.old.at ≡ 0 }
+        requires low { self.old.depth ≤ nesting_limit + 1 }
+        requires room { self.old.base + length chunk.now < 2 ^ 64 }
+        ensures low { self.new.depth ≤ nesting_limit + 1 }
+        ensures taken { (t : List ℕ) → HasArrived (document self.old (view root.old)) t
+            → OnOk result (HasArrived (document self.new (view root.new)) (t ++ chunk.now)) }
+        ensures refused { (t : List ℕ) → HasArrived (document self.old (view root.old)) t
+            → OnErr result (HasArrived (document self.new (view root.new)) (t ++ take self.new.at chunk.now)) }
+        ensures wanted { (t : List ℕ) → HasArrived (document self.old (view root.old)) t
+            → OnErr result (MayRefuseAt (t ++ chunk.now) (self.new.base + self.new.at)) }
+        ensures all { OnOk result (self.new.at ≡ length chunk.now) }
+        ensures within { self.new.at ≤ length chunk.now }
+        ensures same { (self.new.settings ≡ self.old.settings) × (self.new.base ≡ self.old.base) }
+    {
+        while self.at < chunk.len() {
+            if self.is_over() {
+                self.at = chunk.len();
+            } else if self.depth == 0 {
+                self.part(root, 0, chunk)?;
+            } else {
+                self.resume(root, 1, chunk)?;
+            }
+        }
+        Ok(())
+    }
+}

@@ -1,0 +1,378 @@
+//! Goes on with the token that the last chunk cut (RFC 8259, 3, 6 and 7). A number and a string that are a value if the
+//! input ends here are in the value so far.
+ghost use Rattle.std.specs.Prelude.{◌≡◌, ◌⊎◌, ◌+◌, ◌^◌, ◌<◌, IfOk, List, None, OnErr, length, slice_get, slice_index};
+ghost use Rattle.std.specs.Prelude.{Some, string_bytes, false, true, ℕ};
+ghost use Rattle.jiter_incremental.specs.Between.{text_of};
+ghost use Rattle.jiter_incremental.specs.Document.{Next, HasMoved, HasReadIn, bytes_in, is_shown, token_tree};
+ghost use Rattle.jiter_incremental.specs.Names.{name_word};
+ghost use Rattle.jiter_incremental.specs.Reader.{Hides, IsApart, IsAt, IsHere, Shows, Stays, Steps, StepsFrom, after_level};
+ghost use Rattle.jiter_incremental.specs.Reader.{document, with_shown};
+ghost use Rattle.jiter_incremental.specs.Slot.{HasRoomAt, IsPut, OpenFrame, filled};
+ghost use Rattle.jiter_incremental.specs.declared.reader.Token.TheVariants as token_kind;
+ghost use Rattle.jiter_scan.specs.Ascii as ascii;
+ghost use Rattle.jiter_scan.specs.Number.{Number};
+ghost use Rattle.jiter_scan.specs.PartialMode.{allows_trailing_strings};
+ghost use Rattle.jiter_scan.specs.PartialNumber.{Fits, IsBegun, Leads, is_whole, kept_bytes, own_view};
+ghost use Rattle.jiter_scan.specs.declared.partial_number.Went.TheVariants as number_went;
+ghost use Rattle.jiter_steps.specs.Node.{number_tree};
+ghost use Rattle.jiter_steps.specs.PartialText.{with_text};
+ghost use Rattle.jiter_steps.specs.StringDecoder.{text_view};
+ghost use Rattle.jiter_steps.specs.Tree.{Tree, null, string};
+ghost use Rattle.jiter_value.specs.Owned.{owned_text, tree_as};
+ghost use Rattle.jiter_value.specs.Value.{view};
+
+use crate::names::Name;
+use crate::reader::{Reader, Token, is_blank};
+use crate::slot::{put_in, reserve_in, take_from};
+use crate::values::text_value;
+use jiter_scan::errors::FaultKind;
+use jiter_scan::memory::AllocFailed;
+use jiter_scan::partial_number::{OwnNumber, Went as NumberWent};
+use jiter_scan::partial_word::Seen;
+use jiter_steps::partial_string::Went as StringWent;
+use jiter_value::value::JsonValue;
+use std::alloc::Global;
+use std::borrow::CowStr;
+use std::mem;
+
+// Does not allocate: a source text is moved into the value.
+fn number_value(number: OwnNumber) -> JsonValue<'static>
+    ensures value { view result ≡ tree_as owned_text (number_tree (own_view number)) }
+    ensures kept { (w : List ℕ) → bytes_in (view result) w ≡ kept_bytes number w }
+{
+    match number {
+        OwnNumber::Int(number) => JsonValue::Int(number),
+        OwnNumber::BigInt(text) => JsonValue::BigInt(CowStr::Owned(text)),
+        OwnNumber::Float(text) => JsonValue::Float(CowStr::Owned(text)),
+    }
+}
+
+// The values of this crate own their strings, so the borrowed case never occurs.
+fn owned_string(alloc: Global, text: &mut CowStr<'static>) -> String
+    ensures { (text_view text.old).owned ≡ true → string_bytes result ≡ (text_view text.old).bytes }
+{
+    match mem::replace(text, CowStr::Borrowed("")) {
+        CowStr::Owned(text) => text,
+        CowStr::Borrowed(_) => String::new(alloc),
+    }
+}
+
+// Undoes `number_value`. An integer of 64 bits holds no source text: the number kept it.
+fn own_number(alloc: Global, value: JsonValue<'static>) -> OwnNumber
+    ensures { (x : Number) → (w : List ℕ) → view value.entry ≡ tree_as owned_text (number_tree x)
+        → kept_bytes result w ≡ bytes_in (view value.entry) w }
+{
+    let mut value = value;
+    match &mut value {
+        JsonValue::BigInt(text) => OwnNumber::BigInt(owned_string(alloc, text)),
+        JsonValue::Float(text) => OwnNumber::Float(owned_string(alloc, text)),
+        JsonValue::Int(number) => OwnNumber::Int(*number),
+        _ => OwnNumber::Int(0),
+    }
+}
+
+fn own_text(alloc: Global, value: JsonValue<'static>) -> String
+    ensures { (w : List ℕ) → view value.entry ≡ string (text_of w) → string_bytes result ≡ w }
+{
+    let mut value = value;
+    match &mut value {
+        JsonValue::Str(text) => owned_string(alloc, text),
+        _ => String::new(alloc),
+    }
+}
+
+impl Reader {
+    // Whether the mode keeps the unfinished string. It never keeps a key.
+    pub(crate) fn keeps(&self) -> bool
+        ensures text { self.now.token ≡ token_kind.Text → result ≡ allows_trailing_strings self.now.settings.mode }
+        ensures key { self.now.token ≡ token_kind.Key → result ≡ false }
+    {
+        matches!(self.token, Token::Text) && self.settings.mode.allow_trailing_str()
+    }
+
+    /// Returns whether the unfinished token is a value if the input ends here.
+    pub fn is_showable(&self) -> bool
+        ensures { (v : Tree) → result ≡ is_shown (document self.now v) }
+    {
+        match self.token {
+            Token::Number => self.number.is_whole(),
+            Token::Text => self.settings.mode.allow_trailing_str() && self.string.is_text(true),
+            _ => false,
+        }
+    }
+
+    // Moves the source text or the string into the value, so nothing is copied.
+    fn shown_value(&mut self) -> JsonValue<'static>
+        requires shown { is_shown (document self.old null) ≡ true }
+        requires begun { self.old.token ≡ token_kind.Number
+            → IsBegun (string_bytes self.old.number.text) self.old.number.stage }
+        ensures value { (v : Tree) → view result ≡ token_tree (document self.old v) self.old.token }
+        ensures moved { (v : Tree) → HasMoved self.old.token (document self.old v) self.new.number self.new.string (view result) }
+        ensures same { self.new ≡ with_shown self.old self.old.shown self.new.number self.new.string self.old.key }
+    {
+        if matches!(self.token, Token::Number) {
+            return number_value(self.number.take_value());
+        }
+        text_value(self.string.take_text())
+    }
+
+    // Undoes `shown_value`.
+    fn give_back(&mut self, value: JsonValue<'static>)
+        ensures number { (x : Number) → self.old.token ≡ token_kind.Number
+            → view value.entry ≡ tree_as owned_text (number_tree x) → (self.new.number.stage ≡ self.old.number.stage)
+            × (string_bytes self.new.number.text ≡ bytes_in (view value.entry) (string_bytes self.old.number.text)) }
+        ensures text { (w : List ℕ) → self.old.token ≡ token_kind.Text → view value.entry ≡ string (text_of w)
+            → (self.new.string.text ≡ with_text self.old.string.text w)
+            × (self.new.string.escape ≡ self.old.string.escape) }
+        ensures same { self.new ≡ with_shown self.old self.old.shown self.new.number self.new.string self.old.key }
+    {
+        if matches!(self.token, Token::Number) {
+            self.number.give_back(own_number(self.alloc, value));
+        } else {
+            self.string.give_back(own_text(self.alloc, value));
+        }
+    }
+
+    /// Stores the unfinished token, if it is a value already. The slot has capacity for it.
+    pub fn show(&mut self, slot: &mut JsonValue<'static>, level: usize)
+        requires here { self.old.depth ≡ level }
+        requires unset { self.old.fault ≡ None }
+        requires hidden { self.old.shown ≡ false }
+        requires room { HasRoomAt level slot.old }
+        requires begun { self.old.token ≡ token_kind.Number
+            → IsBegun (string_bytes self.old.number.text) self.old.number.stage }
+        ensures shows { Shows level self.old (view slot.old) self.new (view slot.new) }
+        ensures same { self.new
+            ≡ with_shown self.old self.new.shown self.new.number self.new.string self.new.key }
+    {
+        if self.is_showable() {
+            let value = self.shown_value();
+            put_in(slot, level, &mut self.key, value);
+            self.shown = true;
+        }
+    }
+
+    /// Takes out what [`show`](Reader::show) stored.
+    pub fn hide(&mut self, slot: &mut JsonValue<'static>, level: usize)
+        requires here { self.old.depth ≡ level }
+        requires unset { self.old.fault ≡ None }
+        requires read { (n : Next) × (t : List ℕ) × (outer : List OpenFrame) × IsAt level outer
+            × HasReadIn n (document self.old (filled outer (view slot.old))) t }
+        ensures hides { Hides level self.old (view slot.old) self.new (view slot.new) }
+        ensures hidden { self.new.shown ≡ false }
+        ensures room { HasRoomAt level slot.old → HasRoomAt level slot.new }
+        ensures same { self.new ≡ with_shown self.old false self.new.number self.new.string self.new.key }
+    {
+        if self.shown {
+            let value = take_from(slot, level, &mut self.key);
+            self.give_back(value);
+            self.shown = false;
+        }
+    }
+
+    fn take_word(
+        &mut self,
+        slot: &mut JsonValue<'static>,
+        level: usize,
+        chunk: &[u8],
+    ) -> Result<usize, AllocFailed>
+        requires here { IsHere level chunk.now self.old (view slot.old) }
+        requires token { self.old.token ≡ token_kind.Word }
+        ensures steps { IfOk result (λ n. Steps level chunk.now self.old (view slot.old) self.new (view slot.new) n) }
+        ensures stays { OnErr result (Stays level chunk.now self.old (view slot.old) self.new (view slot.new)) }
+    {
+        let mut word = self.word;
+        match word.next(chunk[self.at]) {
+            Seen::Part => self.word = word,
+            Seen::Last => {
+                reserve_in(slot)?;
+                let value = self.name.value(self.alloc)?;
+                self.put(slot, level, value);
+            }
+            Seen::Other => self.refuse(FaultKind::ExpectedSomeIdent, self.position()),
+        }
+        Ok(1)
+    }
+
+    // The byte is the `I` of `-Infinity`.
+    fn take_name(&mut self, slot: &JsonValue<'static>, level: usize, chunk: &[u8]) -> usize
+        requires here { IsApart level chunk.now self.old (view slot.now) }
+        requires token { self.old.token ≡ token_kind.Number }
+        requires leads { Leads self.old.number.stage (slice_index chunk.now self.old.at) number_went.Named }
+        requires fits { Fits self.old.number.stage (slice_index chunk.now self.old.at) number_went.Named }
+        ensures { StepsFrom level chunk.now self.old (view slot.now) self.new (view slot.now) result }
+    {
+        if self.settings.allow_inf_nan {
+            self.name = Name::MinusInfinity;
+            self.word = Name::MinusInfinity.begun();
+            self.token = Token::Word;
+        } else {
+            self.refuse(FaultKind::InvalidNumber, self.position());
+        }
+        1
+    }
+
+    // The byte isn't part of the number, which ends before it. Takes the byte too.
+    fn end_number(&mut self, slot: &mut JsonValue<'static>, level: usize, chunk: &[u8]) -> usize
+        requires here { IsApart level chunk.now self.old (view slot.old) }
+        requires token { self.old.token ≡ token_kind.Number }
+        requires leads { Leads self.old.number.stage (slice_index chunk.now self.old.at) number_went.Over }
+        requires fits { Fits self.old.number.stage (slice_index chunk.now self.old.at) number_went.Over }
+        requires space { HasRoomAt level slot.old }
+        ensures { StepsFrom level chunk.now self.old (view slot.old) self.new (view slot.new) result }
+    {
+        let value = number_value(self.number.take_value());
+        self.put(slot, level, value);
+        if is_blank(chunk[self.at]) {
+            return 1;
+        }
+        self.after(slot, level, chunk)
+    }
+
+    // The byte fits nowhere in a number.
+    fn end_invalid(
+        &mut self,
+        slot: &JsonValue<'static>,
+        level: usize,
+        chunk: &[u8],
+        went: NumberWent,
+    ) -> usize
+        requires here { IsApart level chunk.now self.old (view slot.now) }
+        requires token { self.old.token ≡ token_kind.Number }
+        requires leads { Leads self.old.number.stage (slice_index chunk.now self.old.at) went }
+        requires fits { Fits self.old.number.stage (slice_index chunk.now self.old.at) went }
+        requires wrong { (went ≡ number_went.Invalid) ⊎ (went ≡ number_went.TooLong) }
+        ensures { StepsFrom level chunk.now self.old (view slot.now) self.new (view slot.now) result }
+    {
+        match went {
+            NumberWent::TooLong => self.refuse(FaultKind::NumberOutOfRange, self.position() + 1),
+            _ => self.refuse(FaultKind::InvalidNumber, self.position()),
+        }
+        1
+    }
+
+    // Takes bytes of the number, or the byte after it. The index of `NumberOutOfRange` is one past the digit that is
+    // too many.
+    fn take_number(
+        &mut self,
+        slot: &mut JsonValue<'static>,
+        level: usize,
+        chunk: &[u8],
+    ) -> Result<usize, AllocFailed>
+        requires here { IsHere level chunk.now self.old (view slot.old) }
+        requires token { self.old.token ≡ token_kind.Number }
+        ensures steps { IfOk result (λ n. Steps level chunk.now self.old (view slot.old) self.new (view slot.new) n) }
+        ensures stays { OnErr result (Stays level chunk.now self.old (view slot.old) self.new (view slot.new)) }
+    {
+        reserve_in(slot)?;
+        self.hide(slot, level);
+        match self.number.next(chunk[self.at]) {
+            NumberWent::Taken(stage) => {
+                let taken = self.number.more(stage, chunk, self.at);
+                self.show(slot, level);
+                taken
+            }
+            NumberWent::Over => Ok(self.end_number(slot, level, chunk)),
+            NumberWent::Named => Ok(self.take_name(slot, level, chunk)),
+            wrong => Ok(self.end_invalid(slot, level, chunk, wrong)),
+        }
+    }
+
+    fn put_text(&mut self, slot: &mut JsonValue<'static>, level: usize)
+        requires space { HasRoomAt level slot.old }
+        ensures text { self.old.token ≡ token_kind.Text
+            → IsPut level (view slot.old) (text_view self.old.key) (string (text_of self.old.string.text.text)) (view slot.new)
+            × (self.new ≡ record self.old {
+              token = token_kind.Nothing;
+              awaits = after_level level;
+              key = self.new.key;
+              string = self.new.string;
+            }) }
+        ensures key { self.old.token ≡ token_kind.Key → (view slot.new ≡ view slot.old)
+            × (text_view self.new.key ≡ text_of self.old.string.text.text)
+            × (self.new ≡ record self.old { token = token_kind.Nothing; key = self.new.key; string = self.new.string }) }
+    {
+        let text = self.string.take_text();
+        if matches!(self.token, Token::Key) {
+            self.key = CowStr::Owned(text);
+            self.token = Token::Nothing;
+        } else {
+            self.put(slot, level, text_value(text));
+        }
+    }
+
+    // `TrailingStrings` drops an incomplete character before the closing quote. With partial reading off that is an
+    // error.
+    fn close_string(&mut self, slot: &mut JsonValue<'static>, level: usize, chunk: &[u8]) -> usize
+        requires here { IsApart level chunk.now self.old (view slot.old) }
+        requires token { (self.old.token ≡ token_kind.Text) ⊎ (self.old.token ≡ token_kind.Key) }
+        requires quote { slice_get chunk.now self.old.at ≡ Some ascii.quote }
+        requires whole { self.old.string.escape ≡ None }
+        requires space { HasRoomAt level slot.old }
+        ensures { StepsFrom level chunk.now self.old (view slot.old) self.new (view slot.new) result }
+    {
+        let index = self.begin + 1 + self.string.text().len();
+        let kind = FaultKind::InvalidUnicodeCodePoint;
+        let kept = self.keeps();
+        if self.string.is_text(false) {
+            self.put_text(slot, level);
+        } else if self.string.is_text(kept) {
+            self.note(kind, index);
+            self.put_text(slot, level);
+        } else {
+            self.refuse(kind, index);
+        }
+        1
+    }
+
+    // A wrong byte counts as taken: the error is final.
+    fn take_string(
+        &mut self,
+        slot: &mut JsonValue<'static>,
+        level: usize,
+        chunk: &[u8],
+    ) -> Result<usize, AllocFailed>
+        requires here { IsHere level chunk.now self.old (view slot.old) }
+        requires token { (self.old.token ≡ token_kind.Text) ⊎ (self.old.token ≡ token_kind.Key) }
+        ensures steps { IfOk result (λ n. Steps level chunk.now self.old (view slot.old) self.new (view slot.new) n) }
+        ensures stays { OnErr result (Stays level chunk.now self.old (view slot.old) self.new (view slot.new)) }
+    {
+        reserve_in(slot)?;
+        self.hide(slot, level);
+        match self.string.next(chunk, self.at) {
+            Ok(StringWent::Taken(count)) => {
+                self.show(slot, level);
+                Ok(count)
+            }
+            Ok(StringWent::Quote) => Ok(self.close_string(slot, level, chunk)),
+            Ok(StringWent::Wrong(kind, back)) => {
+                self.refuse(kind, self.position() - back);
+                Ok(1)
+            }
+            Err(error) => {
+                self.show(slot, level);
+                Err(error)
+            }
+        }
+    }
+
+    /// Takes bytes of the unfinished token.
+    #[inline(always)]
+    pub fn token(
+        &mut self,
+        slot: &mut JsonValue<'static>,
+        level: usize,
+        chunk: &[u8],
+    ) -> Result<usize, AllocFailed>
+        requires here { IsHere level chunk.now self.old (view slot.old) }
+        requires token { ¬ (self.old.token ≡ token_kind.Nothing) }
+        ensures steps { IfOk result (λ n. Steps level chunk.now self.old (view slot.old) self.new (view slot.new) n) }
+        ensures stays { OnErr result (Stays level chunk.now self.old (view slot.old) self.new (view slot.new)) }
+    {
+        match self.token {
+            Token::Word => self.take_word(slot, level, chunk),
+            Token::Number => self.take_number(slot, level, chunk),
+            _ => self.take_string(slot, level, chunk),
+        }
+    }
+}
