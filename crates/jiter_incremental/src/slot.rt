@@ -1,16 +1,18 @@
 //! The places of the value so far. Each open container is the last item or member of the one outside it, and the
 //! outermost is the root. A slot is an open container, or the root while no container is open. Its level is how many
 //! containers are open there: 0 for the root.
-ghost use Rattle.std.specs.Prelude.{◌≡◌, ◌+◌, ◌<◌, ◌∷◌, [], List, OnOk, length};
-ghost use Rattle.jiter_incremental.specs.Slot.{HasPart, HasRoomAt, IsContainer, IsOfKey, IsPut, IsRoomy, IsTaken};
+ghost use Rattle.std.specs.Prelude.{◌≡◌, ◌+◌, ◌<◌, ◌++◌, ◌∷◌, [], List, OnErr, OnOk, length, ℕ};
+ghost use Rattle.std.specs.Str.{IsAscii};
+ghost use Rattle.jiter_incremental.specs.Between.{text_of};
+ghost use Rattle.jiter_incremental.specs.Slot.{HasPart, HasRoomAt, IsContainer, IsLast, IsOfKey, IsPut, IsReplaced, IsRoomy, IsTaken};
 ghost use Rattle.jiter_incremental.specs.Slot.{OpenFrame, around, begun, filled};
 ghost use Rattle.jiter_steps.specs.StringDecoder.{text_view};
-ghost use Rattle.jiter_steps.specs.Tree.{Tree};
+ghost use Rattle.jiter_steps.specs.Tree.{Tree, string};
 ghost use Rattle.jiter_value.specs.Stacks.{PartTree, built, empty_tree};
 ghost use Rattle.jiter_value.specs.Value.{view};
 ghost use Rattle.jiter_value.specs.declared.value.JsonValue.{out-JsonValue};
 
-use jiter_scan::memory::{AllocFailed, make_room};
+use jiter_scan::memory::{AllocFailed, make_room, push_ascii};
 use jiter_steps::parse::ContainerKind;
 use jiter_value::value::JsonValue;
 use std::alloc::Global;
@@ -120,6 +122,50 @@ pub fn take_from<'j>(slot: &mut JsonValue<'j>, level: usize, key: &mut CowStr<'j
         return mem::replace(slot, JsonValue::Null);
     }
     remove(slot, key)
+}
+
+// Bytes below 80 hex need no UTF-8 check.
+#[inline(always)]
+fn append_text(value: &mut JsonValue<'static>, bytes: &[u8]) -> Result<(), AllocFailed>
+    requires text { (w : List ℕ) × (view value.old ≡ string (text_of w)) }
+    requires ascii { IsAscii bytes.now }
+    ensures ok { (w : List ℕ) → view value.old ≡ string (text_of w)
+        → OnOk result (view value.new ≡ string (text_of (w ++ bytes.now))) }
+    ensures refused { OnErr result (view value.new ≡ view value.old) }
+{
+    match value {
+        JsonValue::Str(CowStr::Owned(text)) => push_ascii(text, bytes),
+        _ => unreachable!(),
+    }
+}
+
+/// Appends bytes below 80 hex to the string that is the last item or member, or the root. If the allocation fails,
+/// nothing changes.
+pub fn grow_in(
+    slot: &mut JsonValue<'static>,
+    level: usize,
+    bytes: &[u8],
+) -> Result<(), AllocFailed>
+    requires text { (w : List ℕ) × IsLast level (view slot.old) (string (text_of w)) }
+    requires ascii { IsAscii bytes.now }
+    ensures ok { (w : List ℕ) → OnOk result
+        (IsReplaced level (view slot.old) (string (text_of w)) (view slot.new) (string (text_of (w ++ bytes.now)))) }
+    ensures refused { OnErr result (view slot.new ≡ view slot.old) }
+{
+    if level == 0 {
+        return append_text(slot, bytes);
+    }
+    match slot {
+        JsonValue::Array(items) => {
+            let last = items.len() - 1;
+            append_text(&mut items[last], bytes)
+        }
+        JsonValue::Object(members) => {
+            let last = members.len() - 1;
+            append_text(&mut members[last].1, bytes)
+        }
+        _ => unreachable!(),
+    }
 }
 
 /// Returns the kind of the innermost of `depth` open containers.
