@@ -6,7 +6,7 @@ use Rattle.std.specs.Prelude.{Result, Ok, Err, IfOk, IfErr, Option, Some, None, 
 use Rattle.std.specs.declared.alloc.Global.{Global}
 use Rattle.jiter.specs.Cause.{json_error}
 use Rattle.jiter_incremental.specs.IncrementalParser.{HasReceived, Received, WouldFinish}
-use Rattle.jiter_incremental.specs.PartialDocument.{MayRefuseAt}
+use Rattle.jiter_incremental.specs.Document.{MayRefuseAt}
 use Rattle.jiter_print.specs.Print.{print_of}
 use Rattle.jiter_scan.specs.Kind.{Kind, kind_of, out_of_memory}
 use Rattle.jiter_scan.specs.declared.errors.JsonError.{JsonError}

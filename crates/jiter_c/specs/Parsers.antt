@@ -4,7 +4,7 @@ use Rattle.std.specs.Prelude.{Option, Some, None, Result, Ok, Err, Vec}
 use Rattle.std.specs.declared.alloc.Global.{Global}
 use Rattle.jiter.specs.Cause.{json_error}
 use Rattle.jiter_incremental.specs.IncrementalParser.{HasReceived, Received}
-use Rattle.jiter_incremental.specs.PartialDocument.{MayRefuseAt}
+use Rattle.jiter_incremental.specs.Document.{MayRefuseAt}
 use Rattle.jiter_print.specs.Print.{print_of}
 use Rattle.jiter_scan.specs.Kind.{out_of_memory}
 use Rattle.jiter_scan.specs.declared.partial_mode.PartialMode.{PartialMode}

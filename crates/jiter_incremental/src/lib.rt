@@ -5,6 +5,7 @@ pub mod ends;
 pub mod incremental_parser;
 mod line_index;
 pub mod names;
+pub mod punctuation;
 pub mod reader;
 pub mod slot;
 pub mod tokens;

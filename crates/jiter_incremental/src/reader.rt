@@ -1,33 +1,25 @@
 //! Reads a document that comes in chunks (RFC 8259). A push goes down the open path of the value so far by recursion,
 //! and goes on there: the value is never taken apart.
-ghost use Rattle.std.specs.Prelude.{◌≡◌, ◌⊎◌, ◌+◌, ◌-◌, ◌^◌, ◌<◌, ◌≤◌, ◌++◌, ◌∷◌, [], IfOk, List, None, Ok, OnErr, OnOk, Some, length};
-ghost use Rattle.std.specs.Prelude.{false, slice_index, take, true, ℕ};
-ghost use Rattle.jiter_incremental.specs.Arrived.{Arrived, IsLeft};
-ghost use Rattle.jiter_incremental.specs.Between.{IsAfter, IsBeforePart};
-ghost use Rattle.jiter_incremental.specs.Document.{HasArrived, HasTakenIn, IsOver, MayRefuseAt, StandsAt, anything, noted_in};
-ghost use Rattle.jiter_incremental.specs.Reader.{IsHere, IsStill, Leads, Ready, Refuses, Stays, Steps, Went, after_level};
+ghost use Rattle.std.specs.Prelude.{◌≡◌, ◌⊎◌, ◌+◌, ◌-◌, ◌^◌, ◌<◌, ◌≤◌, ◌++◌, [], IfOk, List, None, Ok, OnErr, OnOk, Some, length};
+ghost use Rattle.std.specs.Prelude.{false, take, true, ℕ};
+ghost use Rattle.jiter_incremental.specs.Document.{HasArrived, IsOver, MayRefuseAt, noted_in};
+ghost use Rattle.jiter_incremental.specs.Reader.{Leads, Ready, Refuses, Stays, Steps, Went, after_level};
 ghost use Rattle.jiter_incremental.specs.Reader.{document, noted, refused};
 ghost use Rattle.jiter_incremental.specs.Slot.{HasPart, HasRoomAt, IsPut};
 ghost use Rattle.jiter_incremental.specs.declared.reader.Awaits.TheVariants as awaited;
 ghost use Rattle.jiter_incremental.specs.declared.reader.Token.TheVariants as kind;
 ghost use Rattle.jiter_incremental.specs.declared.reader.Turn.TheVariants as turned;
-ghost use Rattle.jiter_scan.specs.Ascii.{comma};
-ghost use Rattle.jiter_steps.specs.Blank.{is_blank};
 ghost use Rattle.jiter_steps.specs.Node.{nesting_limit};
 ghost use Rattle.jiter_steps.specs.StringDecoder.{text_view};
 ghost use Rattle.jiter_steps.specs.Tree.{Tree, null};
-ghost use Rattle.jiter_steps.specs.Step.{begins_part, closer_of};
-ghost use Rattle.jiter_value.specs.Stacks.{PartTree, built};
 ghost use Rattle.jiter_value.specs.Value.{view};
 
 use crate::names::Name;
-use crate::slot::{kind_of, put_in};
+use crate::slot::put_in;
 use jiter_scan::errors::{Fault, FaultKind, fault_at};
 use jiter_scan::memory::AllocFailed;
 use jiter_scan::partial_number::PartialNumber;
 use jiter_scan::partial_word::PartialWord;
-use jiter_steps::blank::past_blanks;
-use jiter_steps::parse::ContainerKind;
 use jiter_steps::partial_string::PartialString;
 use jiter_value::settings::Settings;
 use jiter_value::value::JsonValue;
@@ -105,14 +97,6 @@ pub struct Reader {
     pub(crate) first: Option<Fault>,
 }
 
-// Whitespace (RFC 8259, 2).
-#[inline(always)]
-pub(crate) fn is_blank(byte: u8) -> bool
-    ensures { result ≡ is_blank byte }
-{
-    matches!(byte, b' ' | b'\t' | b'\n' | b'\r')
-}
-
 fn first_of(first: Option<Fault>, fault: Fault) -> Option<Fault>
     ensures { result ≡ noted_in first fault.kind fault.index }
 {
@@ -120,14 +104,6 @@ fn first_of(first: Option<Fault>, fault: Fault) -> Option<Fault>
         Some(other) => Some(other),
         None => Some(fault),
     }
-}
-
-#[inline(always)]
-fn is_first(awaits: Awaits) -> bool
-    ensures first { result ≡ true → awaits ≡ awaited.First }
-    ensures other { result ≡ false → ¬ (awaits ≡ awaited.First) }
-{
-    matches!(awaits, Awaits::First)
 }
 
 // What comes next after a value inside so many containers.
@@ -254,167 +230,6 @@ impl Reader {
     {
         self.depth -= 1;
         self.awaits = after_part(self.depth);
-    }
-
-    // A partial mode reads nothing after the value, so such a byte is an error only with partial reading off.
-    fn trail(&mut self)
-        requires unset { self.old.fault ≡ None }
-        requires room { self.old.base + self.old.at < 2 ^ 64 }
-        ensures taken { (c : ℕ) → (t : List ℕ) → (v : Tree) → (s : Arrived) → StandsAt c (document self.old v) t s
-            → IsLeft (document self.old v).value s → self.old.awaits ≡ awaited.Nothing → is_blank c ≡ false
-            → HasTakenIn anything (document self.new v) (t ++ c ∷ []) }
-        ensures still { IsStill self.old self.new }
-        ensures same { (self.new.depth ≡ self.old.depth) × (self.new.token ≡ self.old.token)
-            × (self.new.shown ≡ self.old.shown) }
-    {
-        let kind = FaultKind::TrailingCharacters;
-        if self.settings.mode.is_active() {
-            self.note(kind, self.position());
-            return;
-        }
-        self.refuse(kind, self.position());
-    }
-
-    // A comma or a closing bracket is missing before the byte. A partial mode ends the container there: `[1 x` is
-    // `[1]`. The byte isn't taken: it may end or continue a container outside, or come after the value.
-    #[inline(never)]
-    fn close_before(&mut self, slot: &JsonValue<'static>, level: usize, chunk: &[u8]) -> usize
-        requires here { IsHere level chunk.now self.old (view slot.now) }
-        requires token { self.old.token ≡ kind.Nothing }
-        requires comma { self.old.awaits ≡ awaited.Comma }
-        requires missing { (h : ContainerKind) → (xs : List (PartTree h)) → view slot.now ≡ built h xs
-            → ¬ (slice_index chunk.now self.old.at ≡ closer_of h) }
-        requires none { ¬ (slice_index chunk.now self.old.at ≡ comma) }
-        requires other { is_blank (slice_index chunk.now self.old.at) ≡ false }
-        ensures { Steps level chunk.now self.old (view slot.now) self.new (view slot.now) result }
-    {
-        let kind = kind_of(slot).comma_kind();
-        if !self.settings.mode.is_active() {
-            self.refuse(kind, self.position());
-            return 1;
-        }
-        self.note(kind, self.position());
-        self.end_container();
-        0
-    }
-
-    /// Takes the byte after a value, or ends the container before it. Returns how many bytes it took.
-    #[inline(always)]
-    pub fn after(&mut self, slot: &JsonValue<'static>, level: usize, chunk: &[u8]) -> usize
-        requires here { IsHere level chunk.now self.old (view slot.now) }
-        requires token { self.old.token ≡ kind.Nothing }
-        requires after { IsAfter self.old.awaits }
-        requires other { is_blank (slice_index chunk.now self.old.at) ≡ false }
-        ensures { Steps level chunk.now self.old (view slot.now) self.new (view slot.now) result }
-    {
-        if level == 0 {
-            self.trail();
-            return 1;
-        }
-        let byte = chunk[self.at];
-        if byte == b',' {
-            self.awaits = Awaits::Next;
-            return 1;
-        }
-        let closer = kind_of(slot).closer();
-        if byte == closer {
-            self.end_container();
-            return 1;
-        }
-        self.close_before(slot, level, chunk)
-    }
-
-    #[inline(always)]
-    fn colon(&mut self, slot: &JsonValue<'static>, level: usize, chunk: &[u8]) -> usize
-        requires here { IsHere level chunk.now self.old (view slot.now) }
-        requires token { self.old.token ≡ kind.Nothing }
-        requires awaits { self.old.awaits ≡ awaited.Colon }
-        requires other { is_blank (slice_index chunk.now self.old.at) ≡ false }
-        ensures { Steps level chunk.now self.old (view slot.now) self.new (view slot.now) result }
-    {
-        let byte = chunk[self.at];
-        if byte != b':' {
-            self.refuse(FaultKind::ExpectedColon, self.position());
-            return 1;
-        }
-        self.awaits = Awaits::Value;
-        1
-    }
-
-    // The byte is a closing bracket, or an error, where an item or member may begin.
-    #[inline(always)]
-    fn no_part(&mut self, slot: &JsonValue<'static>, level: usize, chunk: &[u8]) -> usize
-        requires here { IsHere level chunk.now self.old (view slot.now) }
-        requires token { self.old.token ≡ kind.Nothing }
-        requires before { IsBeforePart self.old.awaits }
-        requires none { (h : ContainerKind) → (xs : List (PartTree h)) → view slot.now ≡ built h xs
-            → begins_part h (slice_index chunk.now self.old.at) ≡ false }
-        requires other { is_blank (slice_index chunk.now self.old.at) ≡ false }
-        ensures { Steps level chunk.now self.old (view slot.now) self.new (view slot.now) result }
-    {
-        let byte = chunk[self.at];
-        let closer = kind_of(slot).closer();
-        if byte != closer {
-            self.refuse(FaultKind::KeyMustBeAString, self.position());
-            return 1;
-        }
-        if is_first(self.awaits) {
-            self.end_container();
-            return 1;
-        }
-        self.refuse(FaultKind::TrailingComma, self.position());
-        1
-    }
-
-    // The byte is where an item or member may begin.
-    #[inline(always)]
-    fn between(
-        &mut self,
-        slot: &mut JsonValue<'static>,
-        level: usize,
-        chunk: &[u8],
-    ) -> Result<usize, AllocFailed>
-        requires here { IsHere level chunk.now self.old (view slot.old) }
-        requires token { self.old.token ≡ kind.Nothing }
-        requires before { IsBeforePart self.old.awaits }
-        requires other { is_blank (slice_index chunk.now self.old.at) ≡ false }
-        ensures steps { IfOk result (λ n. Steps level chunk.now self.old (view slot.old) self.new (view slot.new) n) }
-        ensures stays { OnErr result (Stays level chunk.now self.old (view slot.old) self.new (view slot.new)) }
-    {
-        let kind = kind_of(slot);
-        if !kind.begins_part(chunk[self.at]) {
-            return Ok(self.no_part(slot, level, chunk));
-        }
-        match kind {
-            ContainerKind::Array => self.value(slot, level, chunk),
-            ContainerKind::Object => self.key(slot, level, chunk),
-        }
-    }
-
-    // Takes whitespace, or what begins with the next byte. No token is unfinished.
-    #[inline(always)]
-    fn next(
-        &mut self,
-        slot: &mut JsonValue<'static>,
-        level: usize,
-        chunk: &[u8],
-    ) -> Result<usize, AllocFailed>
-        requires here { IsHere level chunk.now self.old (view slot.old) }
-        requires token { self.old.token ≡ kind.Nothing }
-        ensures steps { IfOk result (λ n. Steps level chunk.now self.old (view slot.old) self.new (view slot.new) n) }
-        ensures stays { OnErr result (Stays level chunk.now self.old (view slot.old) self.new (view slot.new)) }
-        ensures wanted { OnErr result (is_blank (slice_index chunk.now self.old.at) ≡ false) }
-    {
-        let end = past_blanks(chunk, self.at);
-        if self.at < end {
-            return Ok(end - self.at);
-        }
-        match self.awaits {
-            Awaits::Value => self.value(slot, level, chunk),
-            Awaits::Colon => Ok(self.colon(slot, level, chunk)),
-            Awaits::First | Awaits::Next => self.between(slot, level, chunk),
-            _ => Ok(self.after(slot, level, chunk)),
-        }
     }
 
     // Takes bytes of the chunk and returns how many: none only where a container ends before the byte. If an allocation

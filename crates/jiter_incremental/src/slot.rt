@@ -1,7 +1,7 @@
 //! The places of the value so far. Each open container is the last item or member of the one outside it, and the
 //! outermost is the root. A slot is an open container, or the root while no container is open. Its level is how many
 //! containers are open there: 0 for the root.
-ghost use Rattle.std.specs.Prelude.{◌≡◌, ◌+◌, ◌<◌, ◌++◌, ◌∷◌, [], List, OnErr, OnOk, length, ℕ};
+ghost use Rattle.std.specs.Prelude.{◌≡◌, ◌+◌, ◌<◌, ◌++◌, ◌∷◌, [], List, OnErr, OnOk, length, vec_capacity, vec_len, ℕ};
 ghost use Rattle.std.specs.Str.{IsAscii};
 ghost use Rattle.jiter_incremental.specs.Between.{text_of};
 ghost use Rattle.jiter_incremental.specs.Slot.{HasPart, HasRoomAt, IsContainer, IsLast, IsOfKey, IsPut, IsReplaced, IsRoomy, IsTaken};
@@ -12,7 +12,7 @@ ghost use Rattle.jiter_value.specs.Stacks.{PartTree, built, empty_tree};
 ghost use Rattle.jiter_value.specs.Value.{view};
 ghost use Rattle.jiter_value.specs.declared.value.JsonValue.{out-JsonValue};
 
-use jiter_scan::memory::{AllocFailed, make_room, push_ascii};
+use jiter_scan::memory::{AllocFailed, make_room, push_ascii, with_capacity};
 use jiter_steps::parse::ContainerKind;
 use jiter_value::value::JsonValue;
 use std::alloc::Global;
@@ -41,6 +41,19 @@ pub fn kind_of(slot: &JsonValue<'static>) -> ContainerKind
     }
 }
 
+// The first part gets capacity for one: in deep documents most containers have no other.
+#[inline(always)]
+fn make_room_after<T: Drop>(parts: &mut Vec<T>) -> Result<(), AllocFailed>
+    ensures same { parts.new.items ≡ parts.old.items }
+    ensures room { OnOk result (vec_len parts.new < vec_capacity parts.new) }
+{
+    if parts.capacity() > 0 {
+        return make_room(parts);
+    }
+    *parts = with_capacity(*parts.allocator(), 1)?;
+    Ok(())
+}
+
 /// Reserves capacity for one more item or member of a container.
 #[inline(always)]
 pub fn reserve_in(slot: &mut JsonValue<'static>) -> Result<(), AllocFailed>
@@ -48,8 +61,8 @@ pub fn reserve_in(slot: &mut JsonValue<'static>) -> Result<(), AllocFailed>
     ensures room { OnOk result (IsContainer (view slot.old) → IsRoomy (out-JsonValue slot.new)) }
 {
     match slot {
-        JsonValue::Array(items) => make_room(items),
-        JsonValue::Object(members) => make_room(members),
+        JsonValue::Array(items) => make_room_after(items),
+        JsonValue::Object(members) => make_room_after(members),
         _ => Ok(()),
     }
 }

@@ -24,7 +24,8 @@ ghost use Rattle.jiter_value.specs.Owned.{owned_text, tree_as};
 ghost use Rattle.jiter_value.specs.Value.{view};
 
 use crate::names::Name;
-use crate::reader::{Reader, Token, is_blank};
+use crate::punctuation::is_blank;
+use crate::reader::{Reader, Token};
 use crate::slot::{grow_in, put_in, reserve_in, take_from};
 use crate::values::text_value;
 use jiter_scan::errors::FaultKind;

@@ -22,12 +22,12 @@ use Rattle.jiter_value.specs.Settings.{rules_as}
 use Rattle.jiter_value.specs.Stacks.{PartTree}
 use Rattle.jiter_value.specs.declared.settings.Settings.{Settings}
 use Rattle.jiter_incremental.specs.Arrived.{Arrived, HasRead, at_end, at_value, between_parts, container_of, leads_on, owned}
-use Rattle.jiter_incremental.specs.PartialDocument.{Opened, ReadsAt, in_key, in_scalar}
-use Rattle.jiter_incremental.specs.PartialValue.{Everywhere, completed, text_of}
-use Rattle.jiter_incremental.specs.Spine.{OpenFrame}
-use Rattle.jiter_incremental.specs.declared.partial_value.Awaits.TheVariants as awaits
-use Rattle.jiter_incremental.proofs.OpenValues.{colon-taken, comma-taken, item-begins, key-begins, key-read, leads-blank}
-use Rattle.jiter_incremental.proofs.OpenValues.{none-read, part-ends, value-begins, value-here, value-none}
+use Rattle.jiter_incremental.specs.Document.{Opened, ReadsAt, in_key, in_scalar}
+use Rattle.jiter_incremental.specs.Between.{Everywhere, completed, text_of}
+use Rattle.jiter_incremental.specs.Slot.{OpenFrame}
+use Rattle.jiter_incremental.specs.declared.reader.Awaits.TheVariants as awaits
+use Rattle.jiter_incremental.proofs.Between.{colon-taken, comma-taken, item-begins, key-begins, key-read, leads-blank}
+use Rattle.jiter_incremental.proofs.Between.{none-read, part-ends, value-begins, value-here, value-none}
 
 abbrev listed : List Tree → Tree
 listed vs = array (items_of vs)
