@@ -10,5 +10,6 @@ pub mod Passing
 pub mod Placing
 pub mod Received
 pub mod Settling
+pub mod Showing
 pub mod Slots
 pub mod WholeLiterals
