@@ -1,0 +1,185 @@
+-- A number that a chunk cut goes on, ends or is refused, in an open container whatever that is in.
+use Rattle.std.proofs.Common.{◌≡◌, ◌⊎◌, ℕ, ◌+◌, ◌-◌, ◌<◌, ◌≤◌, Bool, true, false, List, [], ◌∷◌, ◌++◌, length, refl, sym, subst, ap, ◌∙◌}
+use Rattle.std.proofs.Common.{append-nil, arith, inl, inr}
+use Rattle.std.specs.Prelude.{Option, None, Some, slice_index, slice_range, string_bytes}
+use Rattle.std.specs.declared.alloc.Global.{Global}
+use Rattle.std.specs.declared.borrow.CowStr.{CowStr}
+use Rattle.std.proofs.lemmas.Option.{none-some}
+use Rattle.jiter_scan.specs.Kind.{fault_kind, invalid_number, is_forgiven}
+use Rattle.jiter_scan.specs.PartialNumber.{Fits, HoldsNumber, Leads, number_by}
+use Rattle.jiter_scan.specs.Scanned.{failed}
+use Rattle.jiter_scan.specs.declared.errors.FaultKind.{FaultKind}
+use Rattle.jiter_scan.specs.declared.errors.FaultKind.TheVariants as fault_of
+use Rattle.jiter_scan.specs.declared.partial_number.PartialNumber.{PartialNumber}
+use Rattle.jiter_scan.specs.declared.partial_number.Went.{Went}
+use Rattle.jiter_scan.specs.declared.partial_number.Went.TheVariants as went
+use Rattle.jiter_scan.specs.declared.partial_word.PartialWord.{PartialWord}
+use Rattle.jiter_steps.specs.Blank.{is_blank}
+use Rattle.jiter_steps.specs.StringDecoder.{text_view}
+use Rattle.jiter_steps.specs.Tree.{Tree}
+use Rattle.jiter_incremental.specs.Document.{Document, HasCome, HasReadIn, HasTakenIn, IsReadAs, anything, in_scalar, is_shown, noted_in, own_number, with_byte}
+use Rattle.jiter_incremental.specs.Names.{name_word}
+use Rattle.jiter_incremental.specs.Reader.{HasReadTo, HasTakenTo, IsApart, IsAt, IsHere, Moves, Steps, StepsFrom, after_level, ahead, document, refused}
+use Rattle.jiter_incremental.specs.Slot.{IsPut, OpenFrame, filled}
+use Rattle.jiter_incremental.specs.declared.names.Name.TheVariants as name
+use Rattle.jiter_incremental.specs.declared.reader.Reader.{Reader}
+use Rattle.jiter_incremental.specs.declared.reader.Token.TheVariants as token
+use Rattle.jiter_incremental.proofs.Arms.{byte-taken}
+use Rattle.jiter_incremental.proofs.Between.{goes-blank, put-left, scalar-read}
+use Rattle.jiter_incremental.proofs.Documents.{puts, refuses}
+use Rattle.jiter_incremental.proofs.Documents.Names.{minus-alone, name-refused, name-taken}
+use Rattle.jiter_incremental.proofs.Documents.Tokens.{Unfinished, number-ends, number-known, number-minus, number-open, number-refused}
+use Rattle.jiter_incremental.proofs.Placing.{depth-of, put-there}
+use Rattle.jiter_incremental.proofs.Settling.{ahead-level, one-slice, read-any, reads-apart, shown-nothing, shown-word}
+
+-- The next byte is taken where a scalar is unfinished and apart.
+module _ (level : ℕ) (chunk : List ℕ) (i : Reader) (v : Tree) (h : IsApart level chunk i v) where
+  pub come-here : (x : Tree) (t : List ℕ) → HasTakenTo i x t → HasCome (document i x) t
+  come-here x t r = record { read = r.read; position = r.position }
+
+  moves-one : (j : Reader) → j.settings ≡ i.settings → j.base ≡ i.base → j.at ≡ i.at → j.depth ≡ i.depth
+      → Moves level chunk i j 1
+  moves-one j settings base at depth = record {
+    within = omega (arith, h.inside);
+    some = inl (omega arith);
+    still = (settings, base, at);
+    depth = (omega (arith, h.here, depth), omega (arith, h.here, depth));
+    low = omega (arith, h.here, h.low, depth);
+    deeper = λ more. absurd (omega (arith, h.here, depth, more));
+  }
+
+  pub from-one : (j : Reader) → Moves level chunk i j 1 → j.shown ≡ false
+      → ((x : Tree) → j.fault ≡ None → is_shown (document j x) ≡ false)
+      → ((t : List ℕ) (outer : List OpenFrame) → IsAt level outer → HasTakenTo i (filled outer v) t
+      → HasTakenIn anything (document j (filled outer v)) (t ++ slice_index chunk i.at ∷ []))
+      → StepsFrom level chunk i v j v 1
+  from-one j moves hidden off goes = record {
+    goes = λ t outer at r.
+        let d = document j (filled outer v) in
+        let u = t ++ slice_index chunk i.at ∷ [] in
+        subst (λ s. HasReadIn (ahead j chunk (i.at + 1)) d (t ++ s)) (sym (one-slice chunk i.at h.inside))
+        (read-any (ahead j chunk (i.at + 1)) d u
+        (reads-apart anything d u (goes t outer at r) hidden (off (filled outer v))));
+    moves = moves;
+  }
+
+  module _ (is : i.token ≡ token.Number) where
+    -- It fits nowhere in the number,
+    pub number-wrong : (kind : FaultKind) (w : Went) (at : ℕ) → is_forgiven (fault_kind kind) ≡ false
+        → Leads i.number.stage (slice_index chunk i.at) w
+        → ((names : Bool) (u : List ℕ) → number_by names u (i.base + i.at) w ≡ failed (fault_kind kind) at)
+        → StepsFrom level chunk i v (refused i kind at) v 1
+    number-wrong kind w at bad leads fails =
+        let j = refused i kind at in
+        from-one j (moves-one j refl refl refl refl) h.hidden (λ x none. absurd (none-some _ (sym none)))
+        (λ t outer place r.
+        let d = document i (filled outer v) in
+        let c = slice_index chunk i.at in
+        let x = number-open d t (come-here (filled outer v) t r) h.unset is in
+        refuses anything anything d t (c ∷ []) (in_scalar x.frames x.begin) kind at h.unset x.known (λ u comes. tt)
+        (number-refused d t x c w (fault_kind kind) at bad leads
+        (λ names u. ap (λ n. number_by names u n w) (sym r.position) ∙ fails names u))
+        (record { kind = kind; index = at }) (noted_in d.first kind at) refl refl)
+
+    -- begins a name after its minus,
+    module _ (fits : Fits i.number.stage (slice_index chunk i.at) went.Named) where
+      pub name-begins : (o : PartialWord) → o.word.now ≡ name_word name.MinusInfinity → o.seen ≡ 1
+          → i.settings.allow_inf_nan ≡ true
+          → StepsFrom level chunk i v (record i { token = token.Word; name = name.MinusInfinity; word = o }) v 1
+      name-begins o word one allowed =
+          let j = record i { token = token.Word; name = name.MinusInfinity; word = o } in
+          from-one j (moves-one j refl refl refl refl) h.hidden (λ x none. shown-word (document j x) refl)
+          (λ t outer place r.
+          let d = document i (filled outer v) in
+          let e = document j (filled outer v) in
+          let x = number-open d t (come-here (filled outer v) t r) h.unset is in
+          let minus = number-minus d t x (slice_index chunk i.at) (minus-alone d.number x.bytes x.held.0 fits.0) in
+          subst (λ b. HasTakenIn anything e (t ++ b ∷ [])) (sym fits.1)
+          (name-taken d t x.frames x.begin x.known minus e record { settings = refl; fault = refl; first = refl } refl
+          refl refl refl word one allowed))
+
+      pub name-wrong : i.settings.allow_inf_nan ≡ false
+          → StepsFrom level chunk i v (refused i fault_of.InvalidNumber (i.base + i.at)) v 1
+      name-wrong off =
+          let at = i.base + i.at in
+          let j = refused i fault_of.InvalidNumber at in
+          from-one j (moves-one j refl refl refl refl) h.hidden (λ x none. absurd (none-some _ (sym none)))
+          (λ t outer place r.
+          let d = document i (filled outer v) in
+          let e = document j (filled outer v) in
+          let x = number-open d t (come-here (filled outer v) t r) h.unset is in
+          let minus = number-minus d t x (slice_index chunk i.at) (minus-alone d.number x.bytes x.held.0 fits.0) in
+          subst (λ b. HasTakenIn anything e (t ++ b ∷ [])) (sym fits.1)
+          (refuses anything anything d t (73 ∷ []) (in_scalar x.frames x.begin) fault_of.InvalidNumber at h.unset x.known
+          (λ u comes. tt) (name-refused d t x.frames x.begin x.known minus r.position off)
+          (record { kind = fault_of.InvalidNumber; index = at }) (noted_in d.first fault_of.InvalidNumber at) refl refl))
+
+    -- or follows it.
+    abbrev ended : PartialNumber → CowStr Global → Reader
+    ended n k = record i { number = n; token = token.Nothing; awaits = after_level level; key = k }
+
+    module _ (leads : Leads i.number.stage (slice_index chunk i.at) went.Over) (n : PartialNumber) (k : CowStr Global)
+        (w : Tree) (put : IsPut level v (text_view i.key) (own_number (string_bytes i.number.text)) w) where
+      read-ended : (t : List ℕ) (outer : List OpenFrame) → IsAt level outer → HasTakenTo i (filled outer v) t
+          → HasReadTo chunk (ended n k) (filled outer w) t
+      read-ended t outer at r =
+          let d = document i (filled outer v) in
+          let c = slice_index chunk i.at in
+          let tree = own_number (string_bytes i.number.text) in
+          let x = number-open d t (come-here (filled outer v) t r) h.unset is in
+          let fs = x.frames in
+          let deep = depth-of i.depth (filled outer v) fs x.left.2 in
+          let there = put-there level i.depth v w tree (text_view i.key) outer fs put at h.here x.left.2 x.left.3 in
+          let e = document (ended n k) (filled outer w) in
+          let left = put-left e.value tree fs (deep, there) (ap after_level (sym h.here)) in
+          let reads = subst (λ u. IsReadAs d (with_byte c) u (length fs) x.begin tree) (sym (append-nil t))
+          (number-ends d t x c leads) in
+          let all = puts anything (with_byte c) (record d { number = n }) e.value tree t [] fs x.begin
+          (number-known anything d n t (in_scalar fs x.begin) x.known) (λ u comes. tt) left
+          (λ p u a b. scalar-read tree p u a b fs) reads in
+          let one = subst (HasTakenIn (with_byte c) e) (append-nil t) all in
+          let next : ahead (ended n k) chunk i.at ≡ with_byte c =
+          ahead-level token.Nothing (after_level level) level chunk i.at refl refl h.inside in
+          record {
+            read = subst (λ m. HasReadIn m e t) (sym next) (reads-apart (with_byte c) e t one h.hidden (λ unset. refl));
+            position = r.position;
+          }
+
+      pub ended-here : IsHere level chunk (ended n k) w
+      ended-here = record {
+        here = h.here;
+        low = h.low;
+        inside = h.inside;
+        room = h.room;
+        unset = h.unset;
+        read = (h.read.0, h.read.1, h.read.2, read-ended h.read.0 h.read.1 h.read.2 h.read.3);
+      }
+
+      -- What goes on after it,
+      pub ended-then : (j : Reader) (x : Tree) (m : ℕ) → Steps level chunk (ended n k) w j x m
+          → StepsFrom level chunk i v j x m
+      ended-then j x m s = record {
+        goes = λ t outer at r. s.goes t outer at (read-ended t outer at r);
+        moves = record {
+          within = s.moves.within;
+          some = s.moves.some;
+          still = s.moves.still;
+          depth = s.moves.depth;
+          low = s.moves.low;
+          deeper = s.moves.deeper;
+        };
+      }
+
+      -- or whitespace.
+      pub ended-blank : is_blank (slice_index chunk i.at) ≡ true → StepsFrom level chunk i v (ended n k) w 1
+      ended-blank blank =
+          let j = ended n k in
+          ended-then j w 1
+          (byte-taken level chunk j w ended-here refl j.awaits j.depth j.key w (omega (arith, h.here))
+          (omega (arith, h.here)) (omega (arith, h.here, h.low))
+          (λ outer at s left.
+          goes-blank (document j (filled outer w)).value s (slice_index chunk i.at) blank left))
+
+pub invalid-only : (w : Went) → (w ≡ went.Invalid) ⊎ (w ≡ went.TooLong) → ¬ (w ≡ went.TooLong) → w ≡ went.Invalid
+invalid-only w (inl is) other = is
+invalid-only w (inr is) other = absurd (other is)
