@@ -1,12 +1,12 @@
 -- A number that a chunk cut goes on, ends or is refused, in an open container whatever that is in.
 use Rattle.std.proofs.Common.{◌≡◌, ◌⊎◌, ℕ, ◌+◌, ◌-◌, ◌<◌, ◌≤◌, Bool, true, false, List, [], ◌∷◌, ◌++◌, length, refl, sym, subst, ap, ◌∙◌}
 use Rattle.std.proofs.Common.{append-nil, arith, inl, inr}
-use Rattle.std.specs.Prelude.{Option, None, Some, slice_index, slice_range, string_bytes}
+use Rattle.std.specs.Prelude.{Option, None, Some, Result, Ok, Err, IfOk, OnErr, slice_index, slice_range, string_bytes}
 use Rattle.std.specs.declared.alloc.Global.{Global}
 use Rattle.std.specs.declared.borrow.CowStr.{CowStr}
 use Rattle.std.proofs.lemmas.Option.{none-some}
 use Rattle.jiter_scan.specs.Kind.{fault_kind, invalid_number, is_forgiven}
-use Rattle.jiter_scan.specs.PartialNumber.{Fits, HoldsNumber, Leads, number_by}
+use Rattle.jiter_scan.specs.PartialNumber.{Fits, HoldsNumber, IsBegun, Leads, number_by}
 use Rattle.jiter_scan.specs.Scanned.{failed}
 use Rattle.jiter_scan.specs.declared.errors.FaultKind.{FaultKind}
 use Rattle.jiter_scan.specs.declared.errors.FaultKind.TheVariants as fault_of
@@ -19,7 +19,8 @@ use Rattle.jiter_steps.specs.StringDecoder.{text_view}
 use Rattle.jiter_steps.specs.Tree.{Tree}
 use Rattle.jiter_incremental.specs.Document.{Document, HasCome, HasReadIn, HasTakenIn, IsReadAs, anything, in_scalar, is_shown, noted_in, own_number, with_byte}
 use Rattle.jiter_incremental.specs.Names.{name_word}
-use Rattle.jiter_incremental.specs.Reader.{HasReadTo, HasTakenTo, IsApart, IsAt, IsHere, Moves, Steps, StepsFrom, after_level, ahead, document, refused}
+use Rattle.jiter_incremental.specs.Reader.{HasReadTo, HasTakenTo, Hides, IsApart, IsAt, IsHere, IsStill, Moves, Shows, Stays, Steps, StepsFrom, after_level, ahead, ahead_as}
+use Rattle.jiter_incremental.specs.Reader.{document, refused, with_shown}
 use Rattle.jiter_incremental.specs.Slot.{IsPut, OpenFrame, filled}
 use Rattle.jiter_incremental.specs.declared.names.Name.TheVariants as name
 use Rattle.jiter_incremental.specs.declared.reader.Reader.{Reader}
@@ -28,8 +29,9 @@ use Rattle.jiter_incremental.proofs.Arms.{byte-taken}
 use Rattle.jiter_incremental.proofs.Between.{goes-blank, put-left, scalar-read}
 use Rattle.jiter_incremental.proofs.Documents.{puts, refuses}
 use Rattle.jiter_incremental.proofs.Documents.Names.{minus-alone, name-refused, name-taken}
-use Rattle.jiter_incremental.proofs.Documents.Tokens.{Unfinished, number-ends, number-known, number-minus, number-open, number-refused}
+use Rattle.jiter_incremental.proofs.Documents.Tokens.{Unfinished, number-ends, number-known, number-minus, number-open, number-refused, number-stays, number-takes}
 use Rattle.jiter_incremental.proofs.Placing.{depth-of, put-there}
+use Rattle.jiter_incremental.proofs.Showing.{apart-here}
 use Rattle.jiter_incremental.proofs.Settling.{ahead-level, one-slice, read-any, reads-apart, shown-nothing, shown-word}
 
 -- The next byte is taken where a scalar is unfinished and apart.
@@ -183,3 +185,121 @@ module _ (level : ℕ) (chunk : List ℕ) (i : Reader) (v : Tree) (h : IsApart l
 pub invalid-only : (w : Went) → (w ≡ went.Invalid) ⊎ (w ≡ went.TooLong) → ¬ (w ≡ went.TooLong) → w ≡ went.Invalid
 invalid-only w (inl is) other = is
 invalid-only w (inr is) other = absurd (other is)
+
+-- Nothing is known of the byte after a number that is unfinished.
+pub ahead-number : (r : Reader) (chunk : List ℕ) (n : ℕ) → r.token ≡ token.Number → ahead r chunk n ≡ anything
+ahead-number r chunk n is = ap (λ k. ahead_as k r.awaits chunk n) is
+
+-- What was kept begins a number.
+pub begun-more : {E : Type 0} (old new : PartialNumber) (w : List ℕ) (f : ℕ → List ℕ) (r : Result ℕ E) → HoldsNumber old w
+    → IfOk r (λ n. (u : List ℕ) → HoldsNumber old u → HoldsNumber new (u ++ f n))
+    → OnErr r ((string_bytes new.text ≡ string_bytes old.text) × (new.stage ≡ old.stage))
+    → IsBegun (string_bytes new.text) new.stage
+begun-more old new w f (Ok n) h held refused =
+    let x = held w h in subst (λ u. IsBegun u new.stage) (sym x.text) x.begun
+begun-more old new w f (Err e) h held refused =
+    subst (λ s. IsBegun (string_bytes new.text) s) (sym refused.1)
+    (subst (λ u. IsBegun u old.stage) (sym (refused.0 ∙ h.text)) h.begun)
+
+-- A number goes on: it is moved out of the value so far, takes bytes, and is moved in.
+module _ (level : ℕ) (chunk : List ℕ) (i : Reader) (v : Tree) (h : IsHere level chunk i v) (is : i.token ≡ token.Number)
+    (j : Reader) (w : Tree) (hides : Hides level i v j w) (same : j ≡ with_shown i false j.number j.string j.key) where
+  number-come : (t : List ℕ) (outer : List OpenFrame) → IsAt level outer → HasReadTo chunk i (filled outer v) t
+      → HasCome (document j (filled outer w)) t
+  number-come t outer at r = record {
+    read = subst (λ n. HasTakenIn n (document j (filled outer w)) t) (ahead-number i chunk i.at is)
+        (hides.goes (ahead i chunk i.at) t outer at r.read);
+    position = ap (λ (m : Reader). m.base + m.at) same ∙ r.position;
+  }
+
+  pub number-apart : IsApart level chunk j w
+  number-apart = apart-here level chunk i v h j w (ahead-number i chunk i.at is) hides same
+
+  pub number-held : (w : List ℕ) × HoldsNumber j.number w
+  number-held =
+      let r = h.read in
+      let d = document j (filled r.1 w) in
+      let x = number-open d r.0 (number-come r.0 r.1 r.2 r.3) (ap (λ (m : Reader). m.fault) same ∙ h.unset)
+      (ap (λ (m : Reader). m.token) same ∙ is) in
+      (x.bytes, x.held.0)
+
+  -- What is taken where it is apart is taken.
+  pub from-apart : (k : Reader) (x : Tree) (n : ℕ) → StepsFrom level chunk j w k x n → Steps level chunk i v k x n
+  from-apart k x n s =
+      let place = ap (λ (m : Reader). m.at) same in
+      record {
+        goes = λ t outer at r.
+            let a = number-come t outer at r in
+            subst (λ p. HasReadIn (ahead k chunk (p + n)) (document k (filled outer x)) (t ++ slice_range chunk p (p + n)))
+            place (s.goes t outer at (record { read = a.read; position = a.position }));
+        moves = record {
+          within = subst (λ p. p + n ≤ length chunk) place s.moves.within;
+          some = s.moves.some;
+          still = (
+            s.moves.still.0 ∙ ap (λ (m : Reader). m.settings) same,
+            s.moves.still.1 ∙ ap (λ (m : Reader). m.base) same,
+            s.moves.still.2 ∙ place,
+          );
+          depth = s.moves.depth;
+          low = s.moves.low;
+          deeper = s.moves.deeper;
+        };
+      }
+
+  module _ (m : PartialNumber) (k : Reader) (x : Tree) (shows : Shows level (record j { number = m }) w k x)
+      (new : k ≡ with_shown (record j { number = m }) k.shown k.number k.string k.key) where
+    number-still : IsStill i k
+    number-still = (
+      ap (λ (r : Reader). r.settings) new ∙ ap (λ (r : Reader). r.settings) same,
+      ap (λ (r : Reader). r.base) new ∙ ap (λ (r : Reader). r.base) same,
+      ap (λ (r : Reader). r.at) new ∙ ap (λ (r : Reader). r.at) same,
+    )
+
+    number-depth : k.depth ≡ i.depth
+    number-depth = ap (λ (r : Reader). r.depth) new ∙ ap (λ (r : Reader). r.depth) same
+
+    number-taken : (n : ℕ) → (0 < n) × (j.at + n ≤ length chunk)
+        → ((u : List ℕ) → HoldsNumber j.number u → HoldsNumber m (u ++ slice_range chunk j.at (j.at + n)))
+        → Steps level chunk i v k x n
+    number-taken n part held =
+        let place = ap (λ (r : Reader). r.at) same in
+        record {
+          goes = λ t outer at r.
+              let d = document j (filled outer w) in
+              let bytes = slice_range chunk j.at (j.at + n) in
+              let e = document k (filled outer x) in
+              let more = number-takes d m t bytes (number-come t outer at r) (ap (λ (q : Reader). q.fault) same ∙ h.unset)
+              (ap (λ (q : Reader). q.token) same ∙ is) held in
+              let read = shows.goes anything (t ++ bytes) outer at more in
+              subst (λ p. HasReadIn (ahead k chunk (p + n)) e (t ++ slice_range chunk p (p + n))) place
+              (read-any (ahead k chunk (j.at + n)) e (t ++ bytes) read);
+          moves = record {
+            within = subst (λ p. p + n ≤ length chunk) place part.1;
+            some = inl part.0;
+            still = number-still;
+            depth = (omega (arith, h.here, number-depth), omega (arith, h.here, number-depth));
+            low = omega (arith, h.here, h.low, number-depth);
+            deeper = λ more. absurd (omega (arith, h.here, number-depth, more));
+          };
+        }
+
+    pub number-steps : {E : Type 0} (r : Result ℕ E) → IfOk r (λ n. (0 < n) × (j.at + n ≤ length chunk))
+        → IfOk r (λ n. (u : List ℕ) → HoldsNumber j.number u → HoldsNumber m (u ++ slice_range chunk j.at (j.at + n)))
+        → IfOk r (λ n. Steps level chunk i v k x n)
+    number-steps (Ok n) part held = number-taken n part held
+    number-steps (Err e) part held = tt
+
+    pub number-kept : {E : Type 0} (r : Result ℕ E)
+        → OnErr r ((string_bytes m.text ≡ string_bytes j.number.text) × (m.stage ≡ j.number.stage))
+        → OnErr r (Stays level chunk i v k x)
+    number-kept (Ok n) refused = tt
+    number-kept (Err e) refused = record {
+      goes = λ t outer at r.
+          let d = document j (filled outer w) in
+          let more = number-stays d m t (number-come t outer at r) (ap (λ (q : Reader). q.fault) same ∙ h.unset)
+          (ap (λ (q : Reader). q.token) same ∙ is) refused.0 refused.1 in
+          shows.goes anything t outer at more.read;
+      free = ahead-number k chunk i.at (ap (λ (r : Reader). r.token) new ∙ ap (λ (r : Reader). r.token) same ∙ is);
+      still = number-still;
+      depth = number-depth;
+    }

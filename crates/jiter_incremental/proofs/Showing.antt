@@ -1,5 +1,5 @@
 -- An unfinished scalar is moved into the value so far, and out of it again, in an open container whatever that is in.
-use Rattle.std.proofs.Common.{◌≡◌, ℕ, zero, suc, ◌+◌, ◌-◌, ◌<◌, ◌≤◌, Bool, true, false, List, [], ◌∷◌, ◌++◌, length, refl, sym, subst, ap, ap₂, ◌∙◌}
+use Rattle.std.proofs.Common.{◌≡◌, ℕ, zero, suc, ◌+◌, ◌-◌, ◌<◌, ◌≤◌, ◌^◌, Bool, true, false, List, [], ◌∷◌, ◌++◌, length, refl, sym, subst, ap, ap₂, ◌∙◌}
 use Rattle.std.proofs.Common.{add-one, arith}
 use Rattle.std.specs.Prelude.{string_bytes, None, Some}
 use Rattle.std.specs.declared.alloc.Global.{Global}
@@ -18,14 +18,15 @@ use Rattle.jiter_value.specs.Owned.{owned_text, tree_as}
 use Rattle.jiter_incremental.specs.Arrived.{IsLeft, OpenValue, at_value}
 use Rattle.jiter_incremental.specs.Between.{text_of}
 use Rattle.jiter_incremental.specs.Document.{Document, HasMoved, HasReadIn, HasTakenIn, Holding, HoldsScalar, IsMoved, IsShown, Next, Opened}
-use Rattle.jiter_incremental.specs.Document.{Settled, TakenFrom, between_tokens, bytes_in, in_key, in_scalar, is_shown, token_tree, with_parts}
-use Rattle.jiter_incremental.specs.Reader.{Hides, IsAt, Shows, document, with_shown}
-use Rattle.jiter_incremental.specs.Slot.{AwaitsPart, HasPart, HasValue, IsOfKey, IsPut, IsTaken, OpenFrame, around, begun, filled}
+use Rattle.jiter_incremental.specs.Document.{Settled, TakenFrom, anything, between_tokens, bytes_in, in_key, in_scalar, is_shown, token_tree, with_parts}
+use Rattle.jiter_incremental.specs.Reader.{Hides, IsApart, IsAt, IsHere, Shows, ahead, document, with_shown}
+use Rattle.jiter_incremental.specs.Slot.{AwaitsPart, HasPart, HasValue, IsContainer, IsOfKey, IsPut, IsTaken, OpenFrame, around, begun, filled}
 use Rattle.jiter_incremental.specs.declared.reader.Awaits.TheVariants as awaits
 use Rattle.jiter_incremental.specs.declared.reader.Reader.{Reader}
 use Rattle.jiter_incremental.specs.declared.reader.Token.{Token}
 use Rattle.jiter_incremental.specs.declared.reader.Token.TheVariants as token
 use Rattle.jiter_incremental.proofs.Documents.{known-as}
+use Rattle.jiter_incremental.proofs.Leading.{open-settled}
 use Rattle.jiter_incremental.proofs.Placing.{depth-of, put-there}
 use Rattle.jiter_incremental.proofs.Settling.{reads-apart}
 use Rattle.jiter_incremental.proofs.Slots.{filled-same}
@@ -248,3 +249,43 @@ hides-moved level i v w y n s k here unset on taken number text = record {
             (subst (λ o. Holding (with_parts z.apart false n s e.value) t o) (sym x.is) held);
       };
 }
+
+-- A reader in a container whose unfinished scalar was moved out of it
+module _ (level : ℕ) (chunk : List ℕ) (i : Reader) (v : Tree) (h : IsHere level chunk i v) where
+  pub apart-here : (j : Reader) (w : Tree) → ahead i chunk i.at ≡ anything → Hides level i v j w
+      → j ≡ with_shown i false j.number j.string j.key → IsApart level chunk j w
+  apart-here j w free hides same =
+      let at = ap (λ (r : Reader). r.at) same in
+      let base = ap (λ (r : Reader). r.base) same in
+      let depth = ap (λ (r : Reader). r.depth) same in
+      let t = h.read.0 in
+      let outer = h.read.1 in
+      record {
+        here = depth ∙ h.here;
+        low = h.low;
+        inside = omega (arith, at, h.inside);
+        room = subst (λ b. b + length chunk < 2 ^ 64) (sym base) h.room;
+        unset = ap (λ (r : Reader). r.fault) same ∙ h.unset;
+        hidden = ap (λ (r : Reader). r.shown) same;
+        read = (
+          t,
+          outer,
+          h.read.2,
+          record {
+            read = subst (λ n. HasTakenIn n (document j (filled outer w)) t) free
+                (hides.goes (ahead i chunk i.at) t outer h.read.2 h.read.3.read);
+            position = ap (λ (r : Reader). r.base + r.at) same ∙ h.read.3.position;
+          },
+        );
+      }
+
+  -- It is a container, whether a scalar is shown in it or not.
+  pub container-here : 0 < level → IsContainer v
+  container-here some =
+      let outer = h.read.1 in
+      let d = document i (filled outer v) in
+      let read = h.read.3.read in
+      let o = open-settled d h.read.0 read.opened (read.held h.unset) (omega (arith, h.here, some)) in
+      let long : length outer ≡ length o.frames = omega (arith, o.deep, h.here, h.read.2, some) in
+      let same = filled-same outer o.frames v (begun o.innermost) long o.is in
+      (o.innermost, same.1)
