@@ -1,11 +1,11 @@
 -- A number that a chunk cut goes on, ends or is refused, in an open container whatever that is in.
-use Rattle.std.proofs.Common.{◌≡◌, ◌⊎◌, ℕ, ◌+◌, ◌-◌, ◌<◌, ◌≤◌, Bool, true, false, List, [], ◌∷◌, ◌++◌, length, refl, sym, subst, ap, ◌∙◌}
+use Rattle.std.proofs.Common.{◌≡◌, ◌⊎◌, ℕ, ◌+◌, ◌<◌, ◌≤◌, Bool, true, false, List, [], ◌∷◌, ◌++◌, length, refl, sym, subst, ap, ◌∙◌}
 use Rattle.std.proofs.Common.{append-nil, arith, inl, inr}
-use Rattle.std.specs.Prelude.{Option, None, Some, Result, Ok, Err, IfOk, OnErr, slice_index, slice_range, string_bytes}
+use Rattle.std.specs.Prelude.{None, Result, Ok, Err, IfOk, OnErr, slice_index, slice_range, string_bytes}
 use Rattle.std.specs.declared.alloc.Global.{Global}
 use Rattle.std.specs.declared.borrow.CowStr.{CowStr}
 use Rattle.std.proofs.lemmas.Option.{none-some}
-use Rattle.jiter_scan.specs.Kind.{fault_kind, invalid_number, is_forgiven}
+use Rattle.jiter_scan.specs.Kind.{fault_kind, is_forgiven}
 use Rattle.jiter_scan.specs.PartialNumber.{Fits, HoldsNumber, IsBegun, Leads, number_by}
 use Rattle.jiter_scan.specs.Scanned.{failed}
 use Rattle.jiter_scan.specs.declared.errors.FaultKind.{FaultKind}
@@ -17,7 +17,7 @@ use Rattle.jiter_scan.specs.declared.partial_word.PartialWord.{PartialWord}
 use Rattle.jiter_steps.specs.Blank.{is_blank}
 use Rattle.jiter_steps.specs.StringDecoder.{text_view}
 use Rattle.jiter_steps.specs.Tree.{Tree}
-use Rattle.jiter_incremental.specs.Document.{Document, HasCome, HasReadIn, HasTakenIn, IsReadAs, anything, in_scalar, is_shown, noted_in, own_number, with_byte}
+use Rattle.jiter_incremental.specs.Document.{HasCome, HasReadIn, HasTakenIn, IsReadAs, anything, in_scalar, is_shown, noted_in, own_number, with_byte}
 use Rattle.jiter_incremental.specs.Names.{name_word}
 use Rattle.jiter_incremental.specs.Reader.{HasReadTo, HasTakenTo, Hides, IsApart, IsAt, IsHere, IsStill, Moves, Shows, Stays, Steps, StepsFrom, after_level, ahead, ahead_as}
 use Rattle.jiter_incremental.specs.Reader.{document, refused, with_shown}
@@ -29,10 +29,10 @@ use Rattle.jiter_incremental.proofs.Arms.{byte-taken}
 use Rattle.jiter_incremental.proofs.Between.{goes-blank, put-left, scalar-read}
 use Rattle.jiter_incremental.proofs.Documents.{puts, refuses}
 use Rattle.jiter_incremental.proofs.Documents.Names.{minus-alone, name-refused, name-taken}
-use Rattle.jiter_incremental.proofs.Documents.Tokens.{Unfinished, number-ends, number-known, number-minus, number-open, number-refused, number-stays, number-takes}
+use Rattle.jiter_incremental.proofs.Documents.Tokens.{number-ends, number-known, number-minus, number-open, number-refused, number-stays, number-takes}
 use Rattle.jiter_incremental.proofs.Placing.{depth-of, put-there}
+use Rattle.jiter_incremental.proofs.Settling.{ahead-level, one-slice, read-any, reads-apart, shown-word}
 use Rattle.jiter_incremental.proofs.Showing.{apart-here}
-use Rattle.jiter_incremental.proofs.Settling.{ahead-level, one-slice, read-any, reads-apart, shown-nothing, shown-word}
 
 -- The next byte is taken where a scalar is unfinished and apart.
 module _ (level : ℕ) (chunk : List ℕ) (i : Reader) (v : Tree) (h : IsApart level chunk i v) where
@@ -112,9 +112,10 @@ module _ (level : ℕ) (chunk : List ℕ) (i : Reader) (v : Tree) (h : IsApart l
           let x = number-open d t (come-here (filled outer v) t r) h.unset is in
           let minus = number-minus d t x (slice_index chunk i.at) (minus-alone d.number x.bytes x.held.0 fits.0) in
           subst (λ b. HasTakenIn anything e (t ++ b ∷ [])) (sym fits.1)
-          (refuses anything anything d t (73 ∷ []) (in_scalar x.frames x.begin) fault_of.InvalidNumber at h.unset x.known
-          (λ u comes. tt) (name-refused d t x.frames x.begin x.known minus r.position off)
-          (record { kind = fault_of.InvalidNumber; index = at }) (noted_in d.first fault_of.InvalidNumber at) refl refl))
+          (refuses anything anything d t (73 ∷ []) (in_scalar x.frames x.begin) fault_of.InvalidNumber at h.unset
+          x.known (λ u comes. tt) (name-refused d t x.frames x.begin x.known minus r.position off)
+          (record { kind = fault_of.InvalidNumber; index = at }) (noted_in d.first fault_of.InvalidNumber at) refl
+          refl))
 
     -- or follows it.
     abbrev ended : PartialNumber → CowStr Global → Reader
@@ -191,8 +192,8 @@ pub ahead-number : (r : Reader) (chunk : List ℕ) (n : ℕ) → r.token ≡ tok
 ahead-number r chunk n is = ap (λ k. ahead_as k r.awaits chunk n) is
 
 -- What was kept begins a number.
-pub begun-more : {E : Type 0} (old new : PartialNumber) (w : List ℕ) (f : ℕ → List ℕ) (r : Result ℕ E) → HoldsNumber old w
-    → IfOk r (λ n. (u : List ℕ) → HoldsNumber old u → HoldsNumber new (u ++ f n))
+pub begun-more : {E : Type 0} (old new : PartialNumber) (w : List ℕ) (f : ℕ → List ℕ) (r : Result ℕ E)
+    → HoldsNumber old w → IfOk r (λ n. (u : List ℕ) → HoldsNumber old u → HoldsNumber new (u ++ f n))
     → OnErr r ((string_bytes new.text ≡ string_bytes old.text) × (new.stage ≡ old.stage))
     → IsBegun (string_bytes new.text) new.stage
 begun-more old new w f (Ok n) h held refused =
@@ -230,8 +231,9 @@ module _ (level : ℕ) (chunk : List ℕ) (i : Reader) (v : Tree) (h : IsHere le
       record {
         goes = λ t outer at r.
             let a = number-come t outer at r in
-            subst (λ p. HasReadIn (ahead k chunk (p + n)) (document k (filled outer x)) (t ++ slice_range chunk p (p + n)))
-            place (s.goes t outer at (record { read = a.read; position = a.position }));
+            let e = document k (filled outer x) in
+            subst (λ p. HasReadIn (ahead k chunk (p + n)) e (t ++ slice_range chunk p (p + n))) place
+            (s.goes t outer at (record { read = a.read; position = a.position }));
         moves = record {
           within = subst (λ p. p + n ≤ length chunk) place s.moves.within;
           some = s.moves.some;
@@ -268,7 +270,8 @@ module _ (level : ℕ) (chunk : List ℕ) (i : Reader) (v : Tree) (h : IsHere le
               let d = document j (filled outer w) in
               let bytes = slice_range chunk j.at (j.at + n) in
               let e = document k (filled outer x) in
-              let more = number-takes d m t bytes (number-come t outer at r) (ap (λ (q : Reader). q.fault) same ∙ h.unset)
+              let more = number-takes d m t bytes (number-come t outer at r)
+              (ap (λ (q : Reader). q.fault) same ∙ h.unset)
               (ap (λ (q : Reader). q.token) same ∙ is) held in
               let read = shows.goes anything (t ++ bytes) outer at more in
               subst (λ p. HasReadIn (ahead k chunk (p + n)) e (t ++ slice_range chunk p (p + n))) place

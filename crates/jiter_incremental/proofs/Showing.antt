@@ -1,14 +1,14 @@
 -- An unfinished scalar is moved into the value so far, and out of it again, in an open container whatever that is in.
-use Rattle.std.proofs.Common.{◌≡◌, ℕ, zero, suc, ◌+◌, ◌-◌, ◌<◌, ◌≤◌, ◌^◌, Bool, true, false, List, [], ◌∷◌, ◌++◌, length, refl, sym, subst, ap, ap₂, ◌∙◌}
+use Rattle.std.proofs.Common.{◌≡◌, ℕ, ◌+◌, ◌<◌, ◌^◌, true, false, List, [], ◌∷◌, length, refl, sym, subst, ap, ap₂, ◌∙◌}
 use Rattle.std.proofs.Common.{add-one, arith}
-use Rattle.std.specs.Prelude.{string_bytes, None, Some}
+use Rattle.std.specs.Prelude.{string_bytes, None}
 use Rattle.std.specs.declared.alloc.Global.{Global}
 use Rattle.std.specs.declared.borrow.CowStr.{CowStr}
 use Rattle.jiter_scan.specs.Number.{Number, number_value}
-use Rattle.jiter_scan.specs.PartialNumber.{HoldsNumber, IsBegun, number_from}
+use Rattle.jiter_scan.specs.PartialNumber.{IsBegun, number_from}
 use Rattle.jiter_scan.specs.declared.partial_number.PartialNumber.{PartialNumber}
 use Rattle.jiter_steps.specs.Frames.{items_frame, members_frame}
-use Rattle.jiter_steps.specs.Node.{nesting_limit, number_tree}
+use Rattle.jiter_steps.specs.Node.{number_tree}
 use Rattle.jiter_steps.specs.PartialString.{HasTaken}
 use Rattle.jiter_steps.specs.PartialText.{with_text}
 use Rattle.jiter_steps.specs.StringDecoder.{text_view}
@@ -17,7 +17,7 @@ use Rattle.jiter_steps.specs.declared.partial_string.PartialString.{PartialStrin
 use Rattle.jiter_value.specs.Owned.{owned_text, tree_as}
 use Rattle.jiter_incremental.specs.Arrived.{IsLeft, OpenValue, at_value}
 use Rattle.jiter_incremental.specs.Between.{text_of}
-use Rattle.jiter_incremental.specs.Document.{Document, HasMoved, HasReadIn, HasTakenIn, Holding, HoldsScalar, IsMoved, IsShown, Next, Opened}
+use Rattle.jiter_incremental.specs.Document.{Document, HasMoved, HasReadIn, HasTakenIn, Holding, HoldsScalar, IsMoved, Next, Opened}
 use Rattle.jiter_incremental.specs.Document.{Settled, TakenFrom, anything, between_tokens, bytes_in, in_key, in_scalar, is_shown, token_tree, with_parts}
 use Rattle.jiter_incremental.specs.Reader.{Hides, IsApart, IsAt, IsHere, Shows, ahead, document, with_shown}
 use Rattle.jiter_incremental.specs.Slot.{AwaitsPart, HasPart, HasValue, IsContainer, IsOfKey, IsPut, IsTaken, OpenFrame, around, begun, filled}
@@ -175,8 +175,8 @@ pub record FreeAgain (y x : Tree) (depth : ℕ) (w : Tree) (k : Text) (fs : List
   pub part : AwaitsPart depth w fs
   pub key : IsOfKey k fs
 
-free-again : (level depth : ℕ) (v x y w : Tree) (k : Text) (outer fs : List OpenFrame) → depth ≡ level → IsAt level outer
-    → HasValue depth (filled outer v) fs x → IsTaken level v y w k → FreeAgain y x depth (filled outer w) k fs
+free-again : (level depth : ℕ) (v x y w : Tree) (k : Text) (outer fs : List OpenFrame) → depth ≡ level
+    → IsAt level outer → HasValue depth (filled outer v) fs x → IsTaken level v y w k → FreeAgain y x depth (filled outer w) k fs
 free-again level depth v x y w k outer [] here at h taken =
     let none : level ≡ 0 = omega (arith, here, h.0) in
     record { is = taken.root none ∙ by outer (omega (arith, at, none)) h.1; part = h.0; key = tt }
@@ -197,7 +197,8 @@ free-again level depth v x y w k outer (f ∷ gs) here at h taken =
       key = key-on k f gs free.2;
     }
 
-settled-in : (d : Document) (t : List ℕ) (o : Opened) (s : Settled d t o) → IsMoved true s.apart d → InScalar s.apart t o
+settled-in : (d : Document) (t : List ℕ) (o : Opened) (s : Settled d t o) → IsMoved true s.apart d
+    → InScalar s.apart t o
 settled-in d t o s m = in-moved s.apart t o d.number d.string (token_tree s.apart s.apart.token) s.held m.0
 
 is-moved : (d : Document) (t : List ℕ) (o : Opened) (s : Settled d t o) → d.shown ≡ true → IsMoved true s.apart d

@@ -1,4 +1,4 @@
-use Rattle.std.proofs.Common.{◌∙◌, ap, false, subst, sym}
+use Rattle.std.proofs.Common.{ap, false, subst, sym}
 use Rattle.jiter_value.specs.Value.{view}
 use Rattle.jiter_incremental.specs.Reader.{Hides, with_shown}
 use Rattle.jiter_incremental.specs.declared.reader.Reader.{Reader}

@@ -1,4 +1,4 @@
-use Rattle.std.proofs.Common.{◌≡◌, ◌+◌, ◌∙◌, ap, get_or, subst, sym}
+use Rattle.std.proofs.Common.{◌+◌, subst}
 use Rattle.std.specs.Prelude.{slice_range}
 use Rattle.jiter_value.specs.Value.{view}
 use Rattle.jiter_incremental.specs.Reader.{Hides}
@@ -33,7 +33,8 @@ end_number-requires-clause-here c =
     let j = c.hide.new.self in
     let w = view c.hide.new.slot in
     let hides = subst (λ (x : Tree). Hides level i x j w) c.reserve_in.ensures.same c.hide.ensures.hides in
-    number-apart level c.args.chunk.now i (view c.args.slot.now) c.requires.here c.requires.token j w hides c.hide.ensures.same
+    number-apart level c.args.chunk.now i (view c.args.slot.now) c.requires.here c.requires.token j w hides
+    c.hide.ensures.same
 
 pub end_number-requires-clause-space : goal.end_number-requires-clause-space
 end_number-requires-clause-space c =
@@ -48,7 +49,8 @@ take_name-requires-clause-here c =
     let j = c.hide.new.self in
     let w = view c.hide.new.slot in
     let hides = subst (λ (x : Tree). Hides level i x j w) c.reserve_in.ensures.same c.hide.ensures.hides in
-    number-apart level c.args.chunk.now i (view c.args.slot.now) c.requires.here c.requires.token j w hides c.hide.ensures.same
+    number-apart level c.args.chunk.now i (view c.args.slot.now) c.requires.here c.requires.token j w hides
+    c.hide.ensures.same
 
 pub end_invalid-requires-clause-here : goal.end_invalid-requires-clause-here
 end_invalid-requires-clause-here c =
@@ -57,7 +59,8 @@ end_invalid-requires-clause-here c =
     let j = c.hide.new.self in
     let w = view c.hide.new.slot in
     let hides = subst (λ (x : Tree). Hides level i x j w) c.reserve_in.ensures.same c.hide.ensures.hides in
-    number-apart level c.args.chunk.now i (view c.args.slot.now) c.requires.here c.requires.token j w hides c.hide.ensures.same
+    number-apart level c.args.chunk.now i (view c.args.slot.now) c.requires.here c.requires.token j w hides
+    c.hide.ensures.same
 
 pub returns-in-Taken-clause-steps : goal.returns-in-Taken-clause-steps
 returns-in-Taken-clause-steps c =
