@@ -5,10 +5,12 @@ pub mod Chunks
 pub mod Documents
 pub mod Leading
 pub mod LinePlaces
+pub mod NumberSteps
 pub mod Over
 pub mod Passing
 pub mod Placing
 pub mod Received
 pub mod Settling
+pub mod Showing
 pub mod Slots
 pub mod WholeLiterals

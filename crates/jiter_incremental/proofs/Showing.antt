@@ -1,0 +1,292 @@
+-- An unfinished scalar is moved into the value so far, and out of it again, in an open container whatever that is in.
+use Rattle.std.proofs.Common.{◌≡◌, ℕ, ◌+◌, ◌<◌, ◌^◌, true, false, List, [], ◌∷◌, length, refl, sym, subst, ap, ap₂, ◌∙◌}
+use Rattle.std.proofs.Common.{add-one, arith}
+use Rattle.std.specs.Prelude.{string_bytes, None}
+use Rattle.std.specs.declared.alloc.Global.{Global}
+use Rattle.std.specs.declared.borrow.CowStr.{CowStr}
+use Rattle.jiter_scan.specs.Number.{Number, number_value}
+use Rattle.jiter_scan.specs.PartialNumber.{IsBegun, number_from}
+use Rattle.jiter_scan.specs.declared.partial_number.PartialNumber.{PartialNumber}
+use Rattle.jiter_steps.specs.Frames.{items_frame, members_frame}
+use Rattle.jiter_steps.specs.Node.{number_tree}
+use Rattle.jiter_steps.specs.PartialString.{HasTaken}
+use Rattle.jiter_steps.specs.PartialText.{with_text}
+use Rattle.jiter_steps.specs.StringDecoder.{text_view}
+use Rattle.jiter_steps.specs.Tree.{Text, Tree, string}
+use Rattle.jiter_steps.specs.declared.partial_string.PartialString.{PartialString}
+use Rattle.jiter_value.specs.Owned.{owned_text, tree_as}
+use Rattle.jiter_incremental.specs.Arrived.{IsLeft, OpenValue, at_value}
+use Rattle.jiter_incremental.specs.Between.{text_of}
+use Rattle.jiter_incremental.specs.Document.{Document, HasMoved, HasReadIn, HasTakenIn, Holding, HoldsScalar, IsMoved, Next, Opened}
+use Rattle.jiter_incremental.specs.Document.{Settled, TakenFrom, anything, between_tokens, bytes_in, in_key, in_scalar, is_shown, token_tree, with_parts}
+use Rattle.jiter_incremental.specs.Reader.{Hides, IsApart, IsAt, IsHere, Shows, ahead, document, with_shown}
+use Rattle.jiter_incremental.specs.Slot.{AwaitsPart, HasPart, HasValue, IsContainer, IsOfKey, IsPut, IsTaken, OpenFrame, around, begun, filled}
+use Rattle.jiter_incremental.specs.declared.reader.Awaits.TheVariants as awaits
+use Rattle.jiter_incremental.specs.declared.reader.Reader.{Reader}
+use Rattle.jiter_incremental.specs.declared.reader.Token.{Token}
+use Rattle.jiter_incremental.specs.declared.reader.Token.TheVariants as token
+use Rattle.jiter_incremental.proofs.Documents.{known-as}
+use Rattle.jiter_incremental.proofs.Leading.{open-settled}
+use Rattle.jiter_incremental.proofs.Placing.{depth-of, put-there}
+use Rattle.jiter_incremental.proofs.Settling.{reads-apart}
+use Rattle.jiter_incremental.proofs.Slots.{filled-same}
+
+-- It is moved in,
+pub shows-moved : (level : ℕ) (i : Reader) (v w x : Tree) (n : PartialNumber) (s : PartialString) (k : CowStr Global)
+    → i.depth ≡ level → ((y : Tree) → is_shown (document i y) ≡ true)
+    → ((y : Tree) → x ≡ token_tree (document i y) i.token) → ((y : Tree) → HasMoved i.token (document i y) n s x)
+    → IsPut level v (text_view i.key) x w → Shows level i v (with_shown i true n s k) w
+shows-moved level i v w x n s k here on seen moved put = record {
+  goes = λ next t outer at h.
+      let d = document i (filled outer v) in
+      let e = document (with_shown i true n s k) (filled outer w) in
+      let tree = token_tree d d.token in
+      let is = seen (filled outer v) in
+      record {
+        opened = h.opened;
+        known = known-as next d e t h.opened refl refl refl h.known;
+        held = λ unset. record {
+          apart = d;
+          held = h.held unset;
+          shows = sym (on (filled outer v));
+          same = refl;
+          moved = (
+            subst (λ y. HasMoved d.token d n s y) is (moved (filled outer v)),
+            record {
+              value = λ fs part key. (
+                depth-of i.depth (filled outer v) fs part,
+                put-there level i.depth v w tree (text_view i.key) outer fs
+                    (subst (λ y. IsPut level v (text_view i.key) y w) is put) at here part key,
+              );
+              awaits = refl;
+            },
+          );
+        };
+      };
+}
+
+-- or it is no value yet.
+pub shows-none : (level : ℕ) (i : Reader) (v : Tree) → i.shown ≡ false → ((y : Tree) → is_shown (document i y) ≡ false)
+    → Shows level i v i v
+shows-none level i v hidden off = record {
+  goes = λ next t outer at h. reads-apart next (document i (filled outer v)) t h hidden (λ unset. off (filled outer v));
+}
+
+-- What was moved is no key, and no token is finished.
+moved-nothing : (k : Token) (d : Document) (n : PartialNumber) (s : PartialString) (x : Tree) → HasMoved k d n s x
+    → k ≡ token.Nothing → ⊥
+moved-nothing token.Nothing d n s x h is = h
+moved-nothing token.Word d n s x h is = h
+moved-nothing token.Number d n s x h is = cc
+moved-nothing token.Text d n s x h is = cc
+moved-nothing token.Key d n s x h is = h
+
+moved-key : (k : Token) (d : Document) (n : PartialNumber) (s : PartialString) (x : Tree) → HasMoved k d n s x
+    → k ≡ token.Key → ⊥
+moved-key token.Nothing d n s x h is = h
+moved-key token.Word d n s x h is = h
+moved-key token.Number d n s x h is = cc
+moved-key token.Text d n s x h is = cc
+moved-key token.Key d n s x h is = h
+
+-- a scalar that is unfinished
+pub record InScalar (d : Document) (t : List ℕ) (o : Opened) : Type 0 where
+  pub frames : List OpenFrame
+  pub begin : ℕ
+  pub is : o ≡ in_scalar frames begin
+  pub held : Holding d t (in_scalar frames begin)
+
+in-moved : (d : Document) (t : List ℕ) (o : Opened) (n : PartialNumber) (s : PartialString) (x : Tree) → Holding d t o
+    → HasMoved d.token d n s x → InScalar d t o
+in-moved d t (between_tokens a) n s x h moved = absurd (moved-nothing d.token d n s x moved h.0)
+in-moved d t (in_scalar fs b) n s x h moved = record { frames = fs; begin = b; is = refl; held = h }
+in-moved d t (in_key fs ms b) n s x h moved = absurd (moved-key d.token d n s x moved h.2)
+
+-- and the text that was given back
+abbrev TextBack : Token → Document → PartialNumber → PartialString → Type 0
+TextBack token.Number d n s = (n.stage ≡ d.number.stage) × (string_bytes n.text ≡ string_bytes d.number.text)
+TextBack token.Text d n s = s ≡ d.string
+TextBack other d n s = Unit {0}
+
+same-string : (a b : PartialString) → a.text ≡ b.text → a.escape ≡ b.escape → a ≡ b
+same-string a b text escape = ap₂ (λ x y. record { text = x; escape = y }) text escape
+
+text-back : (k : Token) (d : Document) (n back : PartialNumber) (s again : PartialString) (y : Tree)
+    → HasMoved k d n s (token_tree d k) → y ≡ token_tree d k
+    → ((x : Number) → k ≡ token.Number → y ≡ tree_as owned_text (number_tree x)
+    → (back.stage ≡ n.stage) × (string_bytes back.text ≡ bytes_in y (string_bytes n.text)))
+    → ((w : List ℕ) → k ≡ token.Text → y ≡ string (text_of w)
+    → (again.text ≡ with_text s.text w) × (again.escape ≡ s.escape))
+    → TextBack k d back again
+text-back token.Number d n back s again y moved is number text =
+    let given = number (number_value (string_bytes d.number.text)) refl is in
+    (given.0 ∙ moved.0, given.1 ∙ ap (λ v. bytes_in v (string_bytes n.text)) is ∙ moved.1)
+text-back token.Text d n back s again y moved is number text =
+    let w = d.string.text.text in
+    let given = text w refl is in
+    same-string again d.string (given.0 ∙ ap (λ so. with_text so w) moved.0) (given.1 ∙ moved.1)
+text-back token.Nothing d n back s again y moved is number text = tt
+text-back token.Word d n back s again y moved is number text = tt
+text-back token.Key d n back s again y moved is number text = tt
+
+-- All is held again.
+scalar-again : (d : Document) (n : PartialNumber) (s : PartialString) (v : OpenValue) (k : Token) (w : List ℕ)
+    → TextBack k d n s → HoldsScalar d k w → HoldsScalar (with_parts d false n s v) k w
+scalar-again d n s v token.Word w b h = h
+scalar-again d n s v token.Number w b h = (
+  record {
+    text = b.1 ∙ h.0.text;
+    begun = subst (IsBegun w) (sym b.0) h.0.begun;
+    goes = λ names t i stands.
+        h.0.goes names t i stands ∙ ap (λ g. number_from names g t (i + length w)) (sym b.0);
+  },
+  h.1,
+)
+scalar-again d n s v token.Text w b h =
+    record { rest = h.rest; is = h.is; taken = subst (λ so. HasTaken so h.rest) (sym b) h.taken }
+scalar-again d n s v token.Nothing w b h = absurd h
+scalar-again d n s v token.Key w b h = absurd h
+
+taken-again : (d : Document) (n : PartialNumber) (s : PartialString) (v : OpenValue) (t : List ℕ) (b : ℕ) (w : List ℕ)
+    → TakenFrom d t b w → TakenFrom (with_parts d false n s v) t b w
+taken-again d n s v t b w h = record { prefix = h.prefix; is = h.is; begin = h.begin; place = h.place }
+
+holds-scalar : (d : Document) (n : PartialNumber) (s : PartialString) (v : OpenValue) (t : List ℕ) (fs : List OpenFrame)
+    (b : ℕ) → Holding d t (in_scalar fs b) → TextBack d.token d n s → IsLeft v (at_value awaits.Value fs)
+    → Holding (with_parts d false n s v) t (in_scalar fs b)
+holds-scalar d n s v t fs b h back left =
+    (h.0, taken-again d n s v t b h.0 h.1, scalar-again d n s v d.token h.0 back h.2, left, h.4)
+
+-- The value of the scalar stands in the slot,
+key-on : (k : Text) (f : OpenFrame) (fs : List OpenFrame) → IsOfKey k (f ∷ []) → IsOfKey k (f ∷ fs)
+key-on k (items_frame xs) fs of = tt
+key-on k (members_frame ms l) fs of = of
+
+stands-part : (level depth : ℕ) (v x : Tree) (outer fs : List OpenFrame) → 0 < level → depth ≡ level → IsAt level outer
+    → HasValue depth (filled outer v) fs x → (f : OpenFrame) × (fs ≡ f ∷ outer) × (v ≡ around f x)
+stands-part level depth v x outer [] some here at h = absurd (omega (arith, some, here, h.0))
+stands-part level depth v x outer (f ∷ gs) some here at h =
+    let same = filled-same outer gs v (around f x) (omega (arith, some, here, at, h.0)) h.1 in
+    (f, ap (λ hs. f ∷ hs) (sym same.0), same.1)
+
+-- and is taken out of it, so that it is awaited again.
+pub record FreeAgain (y x : Tree) (depth : ℕ) (w : Tree) (k : Text) (fs : List OpenFrame) : Type 0 where
+  pub is : y ≡ x
+  pub part : AwaitsPart depth w fs
+  pub key : IsOfKey k fs
+
+free-again : (level depth : ℕ) (v x y w : Tree) (k : Text) (outer fs : List OpenFrame) → depth ≡ level
+    → IsAt level outer → HasValue depth (filled outer v) fs x → IsTaken level v y w k → FreeAgain y x depth (filled outer w) k fs
+free-again level depth v x y w k outer [] here at h taken =
+    let none : level ≡ 0 = omega (arith, here, h.0) in
+    record { is = taken.root none ∙ by outer (omega (arith, at, none)) h.1; part = h.0; key = tt }
+  where
+    by : (gs : List OpenFrame) → length gs ≡ 0 → filled gs v ≡ x → v ≡ x
+    by [] e is = is
+    by (g ∷ gs) e is = absurd (omega (arith, e))
+free-again level depth v x y w k outer (f ∷ gs) here at h taken =
+    let some : 0 < level = omega (arith, here, h.0) in
+    let same = filled-same outer gs v (around f x) (omega (arith, some, here, at, h.0)) h.1 in
+    let free = taken.part f x some same.1 in
+    record {
+      is = free.0;
+      part = (
+        h.0 ∙ sym (add-one (length gs)),
+        ap (λ hs. filled hs w) same.0 ∙ ap (filled gs) free.1,
+      );
+      key = key-on k f gs free.2;
+    }
+
+settled-in : (d : Document) (t : List ℕ) (o : Opened) (s : Settled d t o) → IsMoved true s.apart d
+    → InScalar s.apart t o
+settled-in d t o s m = in-moved s.apart t o d.number d.string (token_tree s.apart s.apart.token) s.held m.0
+
+is-moved : (d : Document) (t : List ℕ) (o : Opened) (s : Settled d t o) → d.shown ≡ true → IsMoved true s.apart d
+is-moved d t o s on = subst (λ b. IsMoved b s.apart d) on s.moved
+
+-- A slot where a scalar is shown has a part.
+pub shown-part : (level : ℕ) (i : Reader) (v : Tree) (n : Next) (t : List ℕ) (outer : List OpenFrame) → i.depth ≡ level
+    → i.fault ≡ None → i.shown ≡ true → IsAt level outer → HasReadIn n (document i (filled outer v)) t → 0 < level
+    → HasPart v
+shown-part level i v n t outer here unset on at h some =
+    let d = document i (filled outer v) in
+    let s = h.held unset in
+    let m = is-moved d t h.opened s on in
+    let x = settled-in d t h.opened s m in
+    let tree = token_tree s.apart s.apart.token in
+    let p = stands-part level i.depth v tree outer x.frames some here at (m.1.value x.frames x.held.3.2 x.held.3.3) in
+    record { frame = p.0; part = tree; is = p.2 }
+
+-- It is moved out.
+pub hides-moved : (level : ℕ) (i : Reader) (v w y : Tree) (n : PartialNumber) (s : PartialString) (k : CowStr Global)
+    → i.depth ≡ level → i.fault ≡ None → i.shown ≡ true → IsTaken level v y w (text_view k)
+    → ((x : Number) → i.token ≡ token.Number → y ≡ tree_as owned_text (number_tree x)
+    → (n.stage ≡ i.number.stage) × (string_bytes n.text ≡ bytes_in y (string_bytes i.number.text)))
+    → ((u : List ℕ) → i.token ≡ token.Text → y ≡ string (text_of u)
+    → (s.text ≡ with_text i.string.text u) × (s.escape ≡ i.string.escape))
+    → Hides level i v (with_shown i false n s k) w
+hides-moved level i v w y n s k here unset on taken number text = record {
+  goes = λ next t outer at h.
+      let d = document i (filled outer v) in
+      let e = document (with_shown i false n s k) (filled outer w) in
+      let z = h.held unset in
+      let m = is-moved d t h.opened z on in
+      let x = settled-in d t h.opened z m in
+      let tree = token_tree z.apart z.apart.token in
+      let kind : i.token ≡ z.apart.token = ap (λ (a : Document). a.token) z.same in
+      let stands = m.1.value x.frames x.held.3.2 x.held.3.3 in
+      let free = free-again level i.depth v tree y w (text_view k) outer x.frames here at stands taken in
+      let back = text-back z.apart.token z.apart d.number n d.string s y m.0 free.is
+      (λ x is. number x (kind ∙ is)) (λ u is. text u (kind ∙ is)) in
+      let left : IsLeft e.value (at_value awaits.Value x.frames) =
+      (m.1.awaits ∙ x.held.3.0, tt, free.part, free.key) in
+      let held = holds-scalar z.apart n s e.value t x.frames x.begin x.held back left in
+      let same : e ≡ with_parts z.apart false n s e.value = ap (λ a. with_parts a false n s e.value) z.same in
+      record {
+        opened = h.opened;
+        known = known-as next d e t h.opened refl refl refl h.known;
+        held = λ none.
+            subst (λ a. Holding a t h.opened) (sym same)
+            (subst (λ o. Holding (with_parts z.apart false n s e.value) t o) (sym x.is) held);
+      };
+}
+
+-- A reader in a container whose unfinished scalar was moved out of it
+module _ (level : ℕ) (chunk : List ℕ) (i : Reader) (v : Tree) (h : IsHere level chunk i v) where
+  pub apart-here : (j : Reader) (w : Tree) → ahead i chunk i.at ≡ anything → Hides level i v j w
+      → j ≡ with_shown i false j.number j.string j.key → IsApart level chunk j w
+  apart-here j w free hides same =
+      let at = ap (λ (r : Reader). r.at) same in
+      let base = ap (λ (r : Reader). r.base) same in
+      let depth = ap (λ (r : Reader). r.depth) same in
+      let t = h.read.0 in
+      let outer = h.read.1 in
+      record {
+        here = depth ∙ h.here;
+        low = h.low;
+        inside = omega (arith, at, h.inside);
+        room = subst (λ b. b + length chunk < 2 ^ 64) (sym base) h.room;
+        unset = ap (λ (r : Reader). r.fault) same ∙ h.unset;
+        hidden = ap (λ (r : Reader). r.shown) same;
+        read = (
+          t,
+          outer,
+          h.read.2,
+          record {
+            read = subst (λ n. HasTakenIn n (document j (filled outer w)) t) free
+                (hides.goes (ahead i chunk i.at) t outer h.read.2 h.read.3.read);
+            position = ap (λ (r : Reader). r.base + r.at) same ∙ h.read.3.position;
+          },
+        );
+      }
+
+  -- It is a container, whether a scalar is shown in it or not.
+  pub container-here : 0 < level → IsContainer v
+  container-here some =
+      let outer = h.read.1 in
+      let d = document i (filled outer v) in
+      let read = h.read.3.read in
+      let o = open-settled d h.read.0 read.opened (read.held h.unset) (omega (arith, h.here, some)) in
+      let long : length outer ≡ length o.frames = omega (arith, o.deep, h.here, h.read.2, some) in
+      let same = filled-same outer o.frames v (begun o.innermost) long o.is in
+      (o.innermost, same.1)
