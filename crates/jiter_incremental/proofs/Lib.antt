@@ -3,6 +3,7 @@ pub mod Arrivals
 pub mod Between
 pub mod Chunks
 pub mod Documents
+pub mod Growing
 pub mod Leading
 pub mod LinePlaces
 pub mod Over
@@ -11,4 +12,5 @@ pub mod Placing
 pub mod Received
 pub mod Settling
 pub mod Slots
+pub mod StringSteps
 pub mod WholeLiterals
