@@ -1,32 +1,42 @@
 -- Words and strings that a chunk cut go on and end, in an open container whatever that is in.
 use Rattle.std.proofs.Common.{◌≡◌, ℕ, ◌+◌, ◌-◌, ◌<◌, ◌≤◌, Bool, true, false, List, [], ◌∷◌, ◌++◌, length, refl, sym, subst, ap, ◌∙◌}
-use Rattle.std.proofs.Common.{arith, inl}
-use Rattle.std.specs.Prelude.{slice_get, slice_index, slice_range, None, Some}
+use Rattle.std.proofs.Common.{arith, inl, inr, length-append}
+use Rattle.std.specs.Prelude.{slice_get, slice_index, slice_range, Option, None, Some}
 use Rattle.std.specs.declared.alloc.Global.{Global}
 use Rattle.std.specs.declared.borrow.CowStr.{CowStr}
+use Rattle.jiter_scan.proofs.Standing.{slice-one}
+use Rattle.jiter_scan.specs.Ascii as ascii
+use Rattle.jiter_scan.specs.PartialMode.{allows_trailing_strings}
+use Rattle.jiter_scan.specs.declared.errors.Fault.{Fault}
 use Rattle.jiter_scan.specs.declared.errors.FaultKind.TheVariants as fault_of
 use Rattle.jiter_scan.specs.declared.partial_word.PartialWord.{PartialWord}
 use Rattle.jiter_scan.specs.declared.partial_word.Seen.TheVariants as seen
 use Rattle.jiter_scan.specs.PartialWord.{word_by, word_from}
 use Rattle.jiter_steps.specs.StringDecoder.{text_view}
-use Rattle.jiter_steps.specs.Tree.{Tree}
+use Rattle.jiter_steps.specs.Tree.{Tree, string}
+use Rattle.jiter_steps.specs.declared.partial_string.PartialString.{PartialString}
 use Rattle.jiter_incremental.specs.Arrived.{at_value}
-use Rattle.jiter_incremental.specs.Document.{Document, HasCome, HasReadIn, HasTakenIn, anything, in_scalar, noted_in}
+use Rattle.jiter_incremental.specs.Between.{text_of}
+use Rattle.jiter_incremental.specs.Document.{Document, Follows, HasCome, HasReadIn, HasTakenIn, Holding, Known, Next, Opened, anything}
+use Rattle.jiter_incremental.specs.Document.{HoldsScalar, between_tokens, in_key, in_scalar, is_shown, noted_in, with_byte}
 use Rattle.jiter_incremental.specs.Names.{name_tree}
-use Rattle.jiter_incremental.specs.Reader.{HasReadTo, IsAt, IsHere, Moves, Steps, after_level, ahead, ahead_as, document, refused}
+use Rattle.jiter_incremental.specs.Reader.{HasReadTo, HasTakenTo, IsApart, IsAt, IsHere, Moves, Steps, StepsFrom, after_level, ahead, ahead_as}
+use Rattle.jiter_incremental.specs.Reader.{document, noted, refused}
 use Rattle.jiter_incremental.specs.Slot.{IsContainer, IsPut, OpenFrame, begun, filled}
+use Rattle.jiter_incremental.specs.Strings.{IsClosedAs, IsOfString, IsTextAs}
 use Rattle.jiter_incremental.specs.declared.reader.Awaits.{Awaits}
 use Rattle.jiter_incremental.specs.declared.reader.Awaits.TheVariants as awaits
 use Rattle.jiter_incremental.specs.declared.reader.Reader.{Reader}
 use Rattle.jiter_incremental.specs.declared.reader.Token.{Token}
 use Rattle.jiter_incremental.specs.declared.reader.Token.TheVariants as token
 use Rattle.jiter_incremental.proofs.Arms.{turned}
-use Rattle.jiter_incremental.proofs.Between.{put-left, scalar-read}
+use Rattle.jiter_incremental.proofs.Between.{key-read, put-left, scalar-read}
 use Rattle.jiter_incremental.proofs.Documents.{puts, refuses}
+use Rattle.jiter_incremental.proofs.Documents.Strings.{closed-refused, index-low, key-taken, known-same, noted-held, noted-known, noted-text, whole-text, with_string}
 use Rattle.jiter_incremental.proofs.Documents.Tokens.{Unfinished, word-ends, word-goes-on, word-open, word-refused}
 use Rattle.jiter_incremental.proofs.Leading.{open-settled}
 use Rattle.jiter_incremental.proofs.Placing.{depth-of, put-there}
-use Rattle.jiter_incremental.proofs.Settling.{apart-read, shown-nothing, shown-word, steps-one}
+use Rattle.jiter_incremental.proofs.Settling.{apart-read, read-any, reads-apart, shown-nothing, shown-word, steps-one}
 use Rattle.jiter_incremental.proofs.Slots.{filled-same}
 
 -- Inside other containers the slot is one.
@@ -128,3 +138,169 @@ module _ (level : ℕ) (chunk : List ℕ) (i : Reader) (v : Tree) (h : IsHere le
         refuses anything anything d t (c ∷ []) (in_scalar o.frames o.begin) kind d.position h.unset o.known
         (λ u comes. tt) (word-refused d t o m c r.position leads) (record { kind = kind; index = d.position })
         (noted_in d.first kind d.position) refl refl)
+
+-- ---- strings that end
+
+-- the same reader after a text that was put, or a key
+abbrev pub after_text : Reader → ℕ → CowStr Global → PartialString → Reader
+after_text i level k s = record i { token = token.Nothing; awaits = after_level level; key = k; string = s }
+
+abbrev pub after_key : Reader → CowStr Global → PartialString → Reader
+after_key i k s = record i { token = token.Nothing; key = k; string = s }
+
+-- What was put of a string: the text as a value, or the key
+pub record IsPutSo (level : ℕ) (i : Reader) (v : Tree) (j : Reader) (w : Tree) : Type 0 where
+  pub text : i.token ≡ token.Text
+      → IsPut level v (text_view i.key) (string (text_of i.string.text.text)) w × (j ≡ after_text i level j.key j.string)
+  pub key : i.token ≡ token.Key
+      → (w ≡ v) × (text_view j.key ≡ text_of i.string.text.text) × (j ≡ after_key i j.key j.string)
+
+-- Its text is known: it is put where a value is awaited,
+text-goes : (level : ℕ) (i : Reader) (v w : Tree) (k : CowStr Global) (s : PartialString) (n : Next) (t : List ℕ)
+    (outer : List OpenFrame) (o : Opened) → i.depth ≡ level → IsAt level outer → i.token ≡ token.Text
+    → IsPut level v (text_view i.key) (string (text_of i.string.text.text)) w
+    → Known n (document i (filled outer v)) t o → Holding (document i (filled outer v)) t o
+    → Follows n (34 ∷ []) anything
+    → IsTextAs (document i (filled outer v)) anything (t ++ 34 ∷ []) o i.string.text.text
+    → HasTakenIn anything (document (after_text i level k s) (filled outer w)) (t ++ 34 ∷ [])
+text-goes level i v w k s n t outer (between_tokens a) here at is put known held follows text = absurd text
+text-goes level i v w k s n t outer (in_scalar fs b) here at is put known held follows text =
+    let y = filled outer v in
+    let d = document i y in
+    let x = string (text_of i.string.text.text) in
+    let new = (document (after_text i level k s) (filled outer w)).value in
+    let deep = depth-of i.depth y fs held.3.2 in
+    let there = put-there level i.depth v w x (text_view i.key) outer fs put at here held.3.2 held.3.3 in
+    let left = put-left new x fs (deep, there) (ap after_level (sym here)) in
+    puts n anything (with_string d s) new x t (34 ∷ []) fs b (known-same n d s t (in_scalar fs b) known) follows left
+    (λ p u n m. scalar-read x p u n m fs) text
+text-goes level i v w k s n t outer (in_key fs ms b) here at is put known held follows text =
+    absurd (let no : token.Text ≡ token.Key = sym is ∙ held.2 in cc)
+
+-- or it is the key of the next value.
+key-goes : (i : Reader) (y : Tree) (k : CowStr Global) (s : PartialString) (n : Next) (t : List ℕ) (o : Opened)
+    → i.token ≡ token.Key → i.fault ≡ None → text_view k ≡ text_of i.string.text.text
+    → Known n (document i y) t o → Holding (document i y) t o → Follows n (34 ∷ []) anything
+    → IsTextAs (document i y) anything (t ++ 34 ∷ []) o i.string.text.text
+    → HasTakenIn anything (document (after_key i k s) y) (t ++ 34 ∷ [])
+key-goes i y k s n t (between_tokens a) is unset named known held follows text = absurd text
+key-goes i y k s n t (in_scalar fs b) is unset named known held follows text = 
+    absurd (subst (λ q. HoldsScalar (document i y) q held.0) is held.2)
+key-goes i y k s n t (in_key fs ms b) is unset named known held follows text =
+    let d = document i y in
+    let u = text_of i.string.text.text in
+    let new = (document (after_key i k s) y).value in
+    let low : b < length (t ++ 34 ∷ []) =
+    omega (arith, ap length held.1.is, length-append held.1.prefix held.0, held.1.begin, length-append t (34 ∷ [])) in
+    key-taken (with_string d s) new n anything t (34 ∷ []) fs ms b u (known-same n d s t (in_key fs ms b) known) follows
+    unset (held.4, tt, (held.5, held.6), sym named) low text (λ p t j e ms fs. key-read p t j e ms fs u)
+
+some-none : (f : Fault) → Some f ≡ None → ⊥
+some-none f e = cc
+
+module _ (level : ℕ) (chunk : List ℕ) (i : Reader) (v : Tree) (h : IsApart level chunk i v) (k : IsOfString i.token)
+    (quote : slice_get chunk i.at ≡ Some ascii.quote) (whole : i.string.escape ≡ None)
+  where
+    abbrev apart-come : (t : List ℕ) (x : Tree) → HasTakenTo i x t → HasCome (document i x) t
+    apart-come t x r = record { read = r.read; position = r.position }
+
+    -- The quote is taken.
+    from-quote : (j : Reader) (w : Tree) → j.settings ≡ i.settings → j.base ≡ i.base → j.at ≡ i.at → j.depth ≡ i.depth
+        → j.shown ≡ false → ((x : Tree) → j.fault ≡ None → is_shown (document j x) ≡ false)
+        → ((t : List ℕ) (outer : List OpenFrame) → IsAt level outer → HasTakenTo i (filled outer v) t
+        → HasTakenIn anything (document j (filled outer w)) (t ++ 34 ∷ []))
+        → StepsFrom level chunk i v j w 1
+    from-quote j w settings base at depth hidden off goes = record {
+      goes = λ t outer o r.
+          let d = document j (filled outer w) in
+          let u = t ++ 34 ∷ [] in
+          subst (λ s. HasReadIn (ahead j chunk (i.at + 1)) d (t ++ s)) (sym (slice-one chunk i.at 34 quote))
+          (read-any (ahead j chunk (i.at + 1)) d u
+          (reads-apart anything d u (goes t outer o r) hidden (off (filled outer w))));
+      moves =
+          record {
+            within = omega (arith, h.inside);
+            some = inl (omega arith);
+            still = (settings, base, at);
+            depth = (omega (arith, h.here, depth), omega (arith, h.here, depth));
+            low = omega (arith, h.here, depth, h.low);
+            deeper = λ more. absurd (omega (arith, h.here, depth, more));
+          };
+    }
+
+    -- The text is put by a reader that noted a fault or none.
+    module _ (f : Option Fault) (n : Next) (follows : Follows n (34 ∷ []) anything)
+        (known : (t : List ℕ) (x : Tree) (r : HasTakenTo i x t)
+        → Known n (document (record i { first = f }) x) t r.read.opened)
+        (held : (t : List ℕ) (x : Tree) (r : HasTakenTo i x t)
+        → Holding (document (record i { first = f }) x) t r.read.opened)
+        (text : (t : List ℕ) (x : Tree) (r : HasTakenTo i x t)
+        → IsTextAs (document (record i { first = f }) x) anything (t ++ 34 ∷ []) r.read.opened i.string.text.text)
+      where
+        abbrev i' : Reader
+        i' = record i { first = f }
+
+        quote-put : (j : Reader) (w : Tree) → IsOfString i.token → IsPutSo level i' v j w → StepsFrom level chunk i v j w 1
+        quote-put j w (inl is) p =
+            let q = p.text is in
+            subst (λ j. StepsFrom level chunk i v j w 1) (sym q.1)
+            (from-quote (after_text i' level j.key j.string) w refl refl refl refl h.hidden
+            (λ x unset. shown-nothing (document (after_text i' level j.key j.string) x) refl)
+            (λ t outer at r.
+            let x = filled outer v in
+            text-goes level i' v w j.key j.string n t outer r.read.opened h.here at is q.0 (known t x r) (held t x r) follows
+            (text t x r)))
+        quote-put j w (inr is) p =
+            let q = p.key is in
+            subst (λ j. StepsFrom level chunk i v j w 1) (sym q.2)
+            (from-quote (after_key i' j.key j.string) w refl refl refl refl h.hidden
+            (λ x unset. shown-nothing (document (after_key i' j.key j.string) x) refl)
+            (λ t outer at r.
+            let x = filled outer v in
+            subst (λ y. HasTakenIn anything (document (after_key i' j.key j.string) (filled outer y)) (t ++ 34 ∷ [])) (sym q.0)
+            (key-goes i' x j.key j.string n t r.read.opened is h.unset q.1 (known t x r) (held t x r) follows (text t x r))))
+
+    -- A whole text is put,
+    pub quote-whole-put : IsClosedAs i.string false true → (j : Reader) (w : Tree) → IsPutSo level i v j w
+        → StepsFrom level chunk i v j w 1
+    quote-whole-put is j w p =
+        quote-put i.first anything (λ u c. tt) (λ t x r. r.read.known) (λ t x r. r.read.held h.unset)
+        (λ t x r. whole-text (document i x) k h.unset t (apart-come t x r) whole is) j w k p
+
+    module _ (kept : Bool) (text_kept : i.token ≡ token.Text → kept ≡ allows_trailing_strings i.settings.mode)
+        (key_kept : i.token ≡ token.Key → kept ≡ false) (broken : IsClosedAs i.string false false) (index : ℕ)
+        (place : index ≡ i.begin + 1 + length i.string.text.text)
+      where
+        -- and what is kept of one that is none as a whole,
+        pub quote-kept-put : IsClosedAs i.string kept true → (j : Reader) (w : Tree)
+            → IsPutSo level (noted i fault_of.InvalidUnicodeCodePoint index) v j w → StepsFrom level chunk i v j w 1
+        quote-kept-put is j w p =
+            quote-put (noted_in i.first fault_of.InvalidUnicodeCodePoint index) (with_byte 34) (λ u c. (u, refl))
+            (λ t x r.
+            noted-known (document i x) k h.unset t (apart-come t x r) whole kept text_kept key_kept broken index place is)
+            (λ t x r.
+            noted-held (document i x) k h.unset t (apart-come t x r) whole kept text_kept key_kept broken index place is)
+            (λ t x r.
+            noted-text (document i x) k h.unset t (apart-come t x r) whole kept text_kept key_kept broken index place is) j w k p
+
+        -- or it is refused.
+        pub quote-refused : IsClosedAs i.string kept false
+            → StepsFrom level chunk i v (refused i fault_of.InvalidUnicodeCodePoint index) v 1
+        quote-refused is =
+            let kind = fault_of.InvalidUnicodeCodePoint in
+            let f : Fault = record { kind = kind; index = index } in
+            let j = refused i kind index in
+            from-quote j v refl refl refl refl h.hidden (λ x unset. absurd (some-none f unset))
+            (λ t outer at r.
+            let x = filled outer v in
+            let d = document i x in
+            refuses anything anything d t (34 ∷ []) r.read.opened kind index h.unset r.read.known (λ u c. tt)
+            (closed-refused d k h.unset t (apart-come t x r) whole kept text_kept key_kept broken index place is) f
+            (noted_in d.first kind index) refl refl)
+
+    -- The place after its characters is in the text so far.
+    pub quote-low : i.begin + 1 + length i.string.text.text ≤ i.base + i.at
+    quote-low =
+        let t = h.read.0 in
+        let x = filled h.read.1 v in
+        index-low (document i x) k h.unset t (apart-come t x h.read.3) whole
