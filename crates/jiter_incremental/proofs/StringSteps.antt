@@ -1,27 +1,33 @@
 -- Words and strings that a chunk cut go on and end, in an open container whatever that is in.
-use Rattle.std.proofs.Common.{◌≡◌, ℕ, ◌+◌, ◌-◌, ◌<◌, ◌≤◌, Bool, true, false, List, [], ◌∷◌, ◌++◌, length, refl, sym, subst, ap, ◌∙◌}
-use Rattle.std.proofs.Common.{arith, inl, inr, length-append}
-use Rattle.std.specs.Prelude.{slice_get, slice_index, slice_range, Option, None, Some}
+use Rattle.std.proofs.Common.{◌≡◌, ℕ, suc, ◌+◌, ◌-◌, ◌<◌, ◌≤◌, Bool, true, false, List, [], ◌∷◌, ◌++◌, length, refl, sym, subst, ap, ◌∙◌}
+use Rattle.std.proofs.Common.{ap₂, arith, inl, inr, length-append}
+use Rattle.std.specs.List.{AllPass}
+use Rattle.std.specs.Prelude.{◌&&◌, slice_get, slice_index, slice_range, Option, None, Some}
 use Rattle.std.specs.declared.alloc.Global.{Global}
 use Rattle.std.specs.declared.borrow.CowStr.{CowStr}
 use Rattle.jiter_scan.proofs.Standing.{slice-one}
 use Rattle.jiter_scan.specs.Ascii as ascii
 use Rattle.jiter_scan.specs.PartialMode.{allows_trailing_strings}
+use Rattle.jiter_scan.specs.Scan.{IsAsciiTo, Pass, is_ascii, is_plain, is_plain_ascii, scan_stop}
 use Rattle.jiter_scan.specs.declared.errors.Fault.{Fault}
+use Rattle.jiter_scan.specs.declared.errors.FaultKind.{FaultKind}
 use Rattle.jiter_scan.specs.declared.errors.FaultKind.TheVariants as fault_of
 use Rattle.jiter_scan.specs.declared.partial_word.PartialWord.{PartialWord}
 use Rattle.jiter_scan.specs.declared.partial_word.Seen.TheVariants as seen
 use Rattle.jiter_scan.specs.PartialWord.{word_by, word_from}
+use Rattle.jiter_steps.specs.PartialString.{Goes, HasTaken, IsCountAt}
 use Rattle.jiter_steps.specs.StringDecoder.{text_view}
 use Rattle.jiter_steps.specs.Tree.{Tree, string}
 use Rattle.jiter_steps.specs.declared.partial_string.PartialString.{PartialString}
+use Rattle.jiter_steps.specs.declared.partial_string.Went.TheVariants as went
+use Rattle.jiter_steps.proofs.OpenStrings.{run-plain}
 use Rattle.jiter_incremental.specs.Arrived.{at_value}
 use Rattle.jiter_incremental.specs.Between.{text_of}
 use Rattle.jiter_incremental.specs.Document.{Document, Follows, HasCome, HasReadIn, HasTakenIn, Holding, Known, Next, Opened, anything}
 use Rattle.jiter_incremental.specs.Document.{HoldsScalar, between_tokens, in_key, in_scalar, is_shown, noted_in, with_byte}
 use Rattle.jiter_incremental.specs.Names.{name_tree}
-use Rattle.jiter_incremental.specs.Reader.{HasReadTo, HasTakenTo, IsApart, IsAt, IsHere, Moves, Steps, StepsFrom, after_level, ahead, ahead_as}
-use Rattle.jiter_incremental.specs.Reader.{document, noted, refused}
+use Rattle.jiter_incremental.specs.Reader.{HasReadTo, HasTakenTo, Hides, IsApart, IsAt, IsHere, Moves, Steps, StepsFrom, after_level, ahead, ahead_as}
+use Rattle.jiter_incremental.specs.Reader.{Shows, document, noted, refused, with_shown}
 use Rattle.jiter_incremental.specs.Slot.{IsContainer, IsPut, OpenFrame, begun, filled}
 use Rattle.jiter_incremental.specs.Strings.{IsClosedAs, IsOfString, IsTextAs}
 use Rattle.jiter_incremental.specs.declared.reader.Awaits.{Awaits}
@@ -32,7 +38,8 @@ use Rattle.jiter_incremental.specs.declared.reader.Token.TheVariants as token
 use Rattle.jiter_incremental.proofs.Arms.{turned}
 use Rattle.jiter_incremental.proofs.Between.{key-read, put-left, scalar-read}
 use Rattle.jiter_incremental.proofs.Documents.{puts, refuses}
-use Rattle.jiter_incremental.proofs.Documents.Strings.{closed-refused, index-low, key-taken, known-same, noted-held, noted-known, noted-text, whole-text, with_string}
+use Rattle.jiter_incremental.proofs.Documents.Strings.{closed-refused, index-low, is-held, key-taken, known-same, noted-held, noted-known, noted-text}
+use Rattle.jiter_incremental.proofs.Documents.Strings.{taken-on, taken-same, whole-text, with_string, wrong-low, wrong-refused}
 use Rattle.jiter_incremental.proofs.Documents.Tokens.{Unfinished, word-ends, word-goes-on, word-open, word-refused}
 use Rattle.jiter_incremental.proofs.Leading.{open-settled}
 use Rattle.jiter_incremental.proofs.Placing.{depth-of, put-there}
@@ -304,3 +311,175 @@ module _ (level : ℕ) (chunk : List ℕ) (i : Reader) (v : Tree) (h : IsApart l
         let t = h.read.0 in
         let x = filled h.read.1 v in
         index-low (document i x) k h.unset t (apart-come t x h.read.3) whole
+
+-- ---- strings that go on
+
+-- Plain bytes below 80 hex
+plain-each : (v : List ℕ) → Pass is_plain v → AllPass is_ascii v → Pass is_plain_ascii v
+plain-each [] h low = tt
+plain-each (c ∷ v) h low =
+    (ap₂ (λ x y. x && y) h.0 (low 0 0 (omega arith)), plain-each v h.1 (λ i x l. low (suc i) x (omega arith)))
+
+pub plain-run : (chunk : List ℕ) (at to : ℕ) → to ≡ scan_stop chunk at → IsAsciiTo chunk at to
+    → Pass is_plain_ascii (slice_range chunk at to)
+plain-run chunk at to stop low = plain-each (slice_range chunk at to) (run-plain chunk at to stop) low
+
+ahead-string : (k : Token) (r : Reader) (chunk : List ℕ) (i : ℕ) → r.token ≡ k → IsOfString k → ahead r chunk i ≡ anything
+ahead-string k r chunk i is (inl e) = ap (λ x. ahead_as x r.awaits chunk i) (is ∙ e)
+ahead-string k r chunk i is (inr e) = ap (λ x. ahead_as x r.awaits chunk i) (is ∙ e)
+
+-- The string was moved out of the value so far: this reader holds it.
+module _ (level : ℕ) (chunk : List ℕ) (i : Reader) (v : Tree) (j : Reader) (w : Tree) (h : IsHere level chunk i v)
+    (k : IsOfString i.token) (hides : Hides level i v j w) (off : j.shown ≡ false)
+    (same : j ≡ with_shown i false j.number j.string j.key)
+  where
+    same-at : j.at ≡ i.at
+    same-at = ap (λ (r : Reader). r.at) same
+
+    same-base : j.base ≡ i.base
+    same-base = ap (λ (r : Reader). r.base) same
+
+    same-depth : j.depth ≡ i.depth
+    same-depth = ap (λ (r : Reader). r.depth) same
+
+    same-settings : j.settings ≡ i.settings
+    same-settings = ap (λ (r : Reader). r.settings) same
+
+    unset-so : j.fault ≡ None
+    unset-so = ap (λ (r : Reader). r.fault) same ∙ h.unset
+
+    pub kind-so : IsOfString j.token
+    kind-so = subst IsOfString (sym (ap (λ (r : Reader). r.token) same)) k
+
+    taken-now : (t : List ℕ) (outer : List OpenFrame) → IsAt level outer → HasReadTo chunk i (filled outer v) t
+        → HasCome (document j (filled outer w)) t
+    taken-now t outer at r = record {
+      read =
+          hides.goes anything t outer at
+          (subst (λ n. HasReadIn n (document i (filled outer v)) t) (ahead-string i.token i chunk i.at refl k) r.read);
+      position = ap (λ (q : Reader). q.base + q.at) same ∙ r.position;
+    }
+
+    module _ (s : PartialString) where
+      abbrev j' : Reader
+      j' = record j { string = s }
+
+      -- Its quote comes next.
+      module _ (goes : (u : List ℕ) → HasTaken j.string u → Goes s u chunk j.at went.Quote) where
+        quote-taken : (t : List ℕ) (outer : List OpenFrame) → IsAt level outer → HasReadTo chunk i (filled outer v) t
+            → HasTakenTo j' (filled outer w) t
+        quote-taken t outer at r =
+            let c = taken-now t outer at r in
+            record {
+              read = taken-same (document j (filled outer w)) s t kind-so unset-so (λ u x. (goes u x).0) c.read;
+              position = c.position;
+            }
+
+        pub quote-apart : IsApart level chunk j' w
+        quote-apart = record {
+          here = same-depth ∙ h.here;
+          low = h.low;
+          inside = omega (arith, h.inside, same-at);
+          room = omega (arith, h.room, same-base);
+          unset = unset-so;
+          hidden = off;
+          read = (h.read.0, h.read.1, h.read.2, quote-taken h.read.0 h.read.1 h.read.2 h.read.3);
+        }
+
+        pub quote-is : (s.escape ≡ None) × (slice_get chunk j.at ≡ Some ascii.quote)
+        quote-is =
+            let outer = h.read.1 in
+            let c = taken-now h.read.0 outer h.read.2 h.read.3 in
+            let d = document j (filled outer w) in
+            let o = is-held d h.read.0 kind-so c.read.opened (c.read.held unset-so) in
+            let g = goes o.rest o.taken_so in
+            (g.1, g.2)
+
+        pub quote-steps : (x : Reader) (y : Tree) (n : ℕ) → StepsFrom level chunk j' w x y n → Steps level chunk i v x y n
+        quote-steps x y n q = record {
+          goes = λ t outer at r.
+              subst (λ m. HasReadIn (ahead x chunk (m + n)) (document x (filled outer y)) (t ++ slice_range chunk m (m + n)))
+              same-at (q.goes t outer at (quote-taken t outer at r));
+          moves =
+              record {
+                within = omega (arith, q.moves.within, same-at);
+                some = q.moves.some;
+                still = (q.moves.still.0 ∙ same-settings, q.moves.still.1 ∙ same-base, q.moves.still.2 ∙ same-at);
+                depth = q.moves.depth;
+                low = q.moves.low;
+                deeper = q.moves.deeper;
+              };
+        }
+
+      -- Bytes are taken into it, and it is shown again.
+      pub taken-steps : (n : ℕ) → ((u : List ℕ) → HasTaken j.string u → Goes s u chunk j.at (went.Taken n))
+          → IsCountAt chunk j.at n → (x : Reader) (y : Tree) → Shows level j' w x y
+          → x ≡ with_shown j' x.shown x.number x.string x.key → Steps level chunk i v x y n
+      taken-steps n goes part x y shows is = record {
+        goes = λ t outer at r.
+            let d = document j (filled outer w) in
+            let c = taken-now t outer at r in
+            let run = slice_range chunk j.at (j.at + n) in
+            let all = taken-on d s t run kind-so unset-so goes c.read in
+            let u = t ++ run in
+            let read = shows.goes anything u outer at all in
+            subst (λ m. HasReadIn (ahead x chunk (m + n)) (document x (filled outer y)) (t ++ slice_range chunk m (m + n)))
+            same-at (read-any (ahead x chunk (j.at + n)) (document x (filled outer y)) u read);
+        moves =
+            let depth = ap (λ (r : Reader). r.depth) is ∙ same-depth in
+            record {
+              within = omega (arith, part.1, same-at);
+              some = inl part.0;
+              still = (
+                ap (λ (r : Reader). r.settings) is ∙ same-settings,
+                ap (λ (r : Reader). r.base) is ∙ same-base,
+                ap (λ (r : Reader). r.at) is ∙ same-at,
+              );
+              depth = (omega (arith, h.here, depth), omega (arith, h.here, depth));
+              low = omega (arith, h.here, depth, h.low);
+              deeper = λ more. absurd (omega (arith, h.here, depth, more));
+            };
+      }
+
+      -- A byte is wrong.
+      module _ (kind : FaultKind) (back : ℕ)
+          (goes : (u : List ℕ) → HasTaken j.string u → Goes s u chunk j.at (went.Wrong kind back)) where
+        there : j.at < length chunk
+        there = omega (arith, h.inside, same-at)
+
+        pub wrong-before : back ≤ j.base + j.at
+        wrong-before =
+            let t = h.read.0 in
+            let outer = h.read.1 in
+            let c = taken-now t outer h.read.2 h.read.3 in
+            wrong-low (document j (filled outer w)) kind-so unset-so t c s chunk j.at back kind there goes
+
+        pub wrong-steps : Steps level chunk i v (refused j' kind (j.base + j.at - back)) w 1
+        wrong-steps =
+            let index = j.base + j.at - back in
+            let f : Fault = record { kind = kind; index = index } in
+            let x = refused j' kind index in
+            record {
+              goes = λ t outer at r.
+                  let d = document j (filled outer w) in
+                  let c = taken-now t outer at r in
+                  let run = slice_range chunk j.at (j.at + 1) in
+                  let fails = wrong-refused d kind-so unset-so t c s chunk j.at back kind there goes in
+                  let e = document x (filled outer w) in
+                  let all : HasTakenIn anything e (t ++ run) =
+                  refuses anything anything (with_string d s) t run c.read.opened kind index unset-so
+                  (known-same anything d s t c.read.opened c.read.known) (λ u q. tt) fails f (noted_in d.first kind index) refl
+                  refl in
+                  subst (λ m. HasReadIn (ahead x chunk (m + 1)) e (t ++ slice_range chunk m (m + 1))) same-at
+                  (read-any (ahead x chunk (j.at + 1)) e (t ++ run)
+                  (reads-apart anything e (t ++ run) all off (λ unset. absurd (some-none f unset))));
+              moves =
+                  record {
+                    within = omega (arith, there, same-at);
+                    some = inl (omega arith);
+                    still = (same-settings, same-base, same-at);
+                    depth = (omega (arith, h.here, same-depth), omega (arith, h.here, same-depth));
+                    low = omega (arith, h.here, same-depth, h.low);
+                    deeper = λ more. absurd (omega (arith, h.here, same-depth, more));
+                  };
+            }
