@@ -3,6 +3,7 @@ pub mod Arrivals
 pub mod Between
 pub mod Chunks
 pub mod Documents
+pub mod Growing
 pub mod Leading
 pub mod LinePlaces
 pub mod NumberSteps
@@ -13,4 +14,5 @@ pub mod Received
 pub mod Settling
 pub mod Showing
 pub mod Slots
+pub mod StringSteps
 pub mod WholeLiterals

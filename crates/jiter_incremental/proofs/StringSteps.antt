@@ -1,0 +1,485 @@
+-- Words and strings that a chunk cut go on and end, in an open container whatever that is in.
+use Rattle.std.proofs.Common.{◌≡◌, ℕ, suc, ◌+◌, ◌-◌, ◌<◌, ◌≤◌, Bool, true, false, List, [], ◌∷◌, ◌++◌, length, refl, sym, subst, ap, ◌∙◌}
+use Rattle.std.proofs.Common.{ap₂, arith, inl, inr, length-append}
+use Rattle.std.specs.List.{AllPass}
+use Rattle.std.specs.Prelude.{◌&&◌, slice_get, slice_index, slice_range, Option, None, Some}
+use Rattle.std.specs.declared.alloc.Global.{Global}
+use Rattle.std.specs.declared.borrow.CowStr.{CowStr}
+use Rattle.jiter_scan.proofs.Standing.{slice-one}
+use Rattle.jiter_scan.specs.Ascii as ascii
+use Rattle.jiter_scan.specs.PartialMode.{allows_trailing_strings}
+use Rattle.jiter_scan.specs.Scan.{IsAsciiTo, Pass, is_ascii, is_plain, is_plain_ascii, scan_stop}
+use Rattle.jiter_scan.specs.declared.errors.Fault.{Fault}
+use Rattle.jiter_scan.specs.declared.errors.FaultKind.{FaultKind}
+use Rattle.jiter_scan.specs.declared.errors.FaultKind.TheVariants as fault_of
+use Rattle.jiter_scan.specs.declared.partial_word.PartialWord.{PartialWord}
+use Rattle.jiter_scan.specs.declared.partial_word.Seen.TheVariants as seen
+use Rattle.jiter_scan.specs.PartialWord.{word_by, word_from}
+use Rattle.jiter_steps.specs.PartialString.{Goes, HasTaken, IsCountAt}
+use Rattle.jiter_steps.specs.StringDecoder.{text_view}
+use Rattle.jiter_steps.specs.Tree.{Tree, string}
+use Rattle.jiter_steps.specs.declared.partial_string.PartialString.{PartialString}
+use Rattle.jiter_steps.specs.declared.partial_string.Went.TheVariants as went
+use Rattle.jiter_steps.proofs.OpenStrings.{run-plain}
+use Rattle.jiter_incremental.specs.Arrived.{at_value}
+use Rattle.jiter_incremental.specs.Between.{text_of}
+use Rattle.jiter_incremental.specs.Document.{Document, Follows, HasCome, HasReadIn, HasTakenIn, Holding, Known, Next, Opened, anything}
+use Rattle.jiter_incremental.specs.Document.{HoldsScalar, between_tokens, in_key, in_scalar, is_shown, noted_in, with_byte}
+use Rattle.jiter_incremental.specs.Names.{name_tree}
+use Rattle.jiter_incremental.specs.Reader.{HasReadTo, HasTakenTo, Hides, IsApart, IsAt, IsHere, Moves, Steps, StepsFrom, after_level, ahead, ahead_as}
+use Rattle.jiter_incremental.specs.Reader.{Shows, document, noted, refused, with_shown}
+use Rattle.jiter_incremental.specs.Slot.{IsContainer, IsPut, OpenFrame, begun, filled}
+use Rattle.jiter_incremental.specs.Strings.{IsClosedAs, IsOfString, IsTextAs}
+use Rattle.jiter_incremental.specs.declared.reader.Awaits.{Awaits}
+use Rattle.jiter_incremental.specs.declared.reader.Awaits.TheVariants as awaits
+use Rattle.jiter_incremental.specs.declared.reader.Reader.{Reader}
+use Rattle.jiter_incremental.specs.declared.reader.Token.{Token}
+use Rattle.jiter_incremental.specs.declared.reader.Token.TheVariants as token
+use Rattle.jiter_incremental.proofs.Arms.{turned}
+use Rattle.jiter_incremental.proofs.Between.{key-read, put-left, scalar-read}
+use Rattle.jiter_incremental.proofs.Documents.{puts, refuses}
+use Rattle.jiter_incremental.proofs.Documents.Strings.{closed-refused, index-low, is-held, key-taken, known-same, noted-held, noted-known, noted-text}
+use Rattle.jiter_incremental.proofs.Documents.Strings.{taken-on, taken-same, whole-text, with_string, wrong-low, wrong-refused}
+use Rattle.jiter_incremental.proofs.Documents.Tokens.{Unfinished, word-ends, word-goes-on, word-open, word-refused}
+use Rattle.jiter_incremental.proofs.Leading.{open-settled}
+use Rattle.jiter_incremental.proofs.Placing.{depth-of, put-there}
+use Rattle.jiter_incremental.proofs.Settling.{apart-read, read-any, reads-apart, shown-nothing, shown-word, steps-one}
+use Rattle.jiter_incremental.proofs.Slots.{filled-same}
+
+-- Inside other containers the slot is one.
+pub container-here : (level : ℕ) (chunk : List ℕ) (i : Reader) (v : Tree) → IsHere level chunk i v → 0 < level → IsContainer v
+container-here level chunk i v h some =
+    let t = h.read.0 in
+    let outer = h.read.1 in
+    let d = document i (filled outer v) in
+    let r = h.read.3.read in
+    let o = open-settled d t r.opened (r.held h.unset) (omega (arith, h.here, some)) in
+    let same = filled-same outer o.frames v (begun o.innermost) (omega (arith, o.deep, h.here, h.read.2, some)) o.is in
+    (o.innermost, same.1)
+
+-- ---- words
+
+module _ (level : ℕ) (chunk : List ℕ) (i : Reader) (v : Tree) (h : IsHere level chunk i v) (word : i.token ≡ token.Word)
+  where
+    abbrev c : ℕ
+    c = slice_index chunk i.at
+
+    ahead-word : ahead i chunk i.at ≡ anything
+    ahead-word = ap (λ k. ahead_as k i.awaits chunk i.at) word
+
+    hidden : i.shown ≡ false
+    hidden =
+        let r = h.read.3.read in
+        let s = r.held h.unset in
+        s.shows ∙ shown-word s.apart (sym (ap (λ (q : Document). q.token) s.same) ∙ word)
+
+    come : (t : List ℕ) (x : Tree) → HasReadTo chunk i x t → HasCome (document i x) t
+    come t x r = record {
+      read = apart-read anything (document i x) t (subst (λ n. HasReadIn n (document i x) t) ahead-word r.read) hidden;
+      position = r.position;
+    }
+
+    open-word : (t : List ℕ) (x : Tree) → HasReadTo chunk i x t → Unfinished (document i x) t token.Word
+    open-word t x r = word-open (document i x) t (come t x r) h.unset word
+
+    moves-one : (j : Reader) → j.settings ≡ i.settings → j.base ≡ i.base → j.at ≡ i.at → j.depth ≡ i.depth
+        → Moves level chunk i j 1
+    moves-one j settings base at depth = record {
+      within = omega (arith, h.inside);
+      some = inl (omega arith);
+      still = (settings, base, at);
+      depth = (omega (arith, h.here, depth), omega (arith, h.here, depth));
+      low = omega (arith, h.here, depth, h.low);
+      deeper = λ more. absurd (omega (arith, h.here, depth, more));
+    }
+
+    -- A word goes on,
+    pub word-part : (m : PartialWord) → m.word ≡ i.word.word
+        → ((t : List ℕ) (j : ℕ) → slice_get t j ≡ Some c
+        → word_from i.word.word.now i.word.seen t j ≡ word_by i.word.word.now m.seen t j seen.Part)
+        → Steps level chunk i v (record i { word = m }) v 1
+    word-part m same leads =
+        let j = record i { word = m } in
+        steps-one level chunk i v j v h.inside (moves-one j refl refl refl refl) hidden
+        (λ x unset. shown-word (document j x) word)
+        (λ t outer at r.
+        let x = filled outer v in
+        word-goes-on (document i x) t (open-word t x r) m c word (ap (λ w. w.now) same) leads)
+
+    -- ends,
+    pub word-last : (m : PartialWord) (k : CowStr Global) (w : Tree)
+        → ((t : List ℕ) (j : ℕ) → slice_get t j ≡ Some c
+        → word_from i.word.word.now i.word.seen t j ≡ word_by i.word.word.now m.seen t j seen.Last)
+        → IsPut level v (text_view i.key) (name_tree i.name) w
+        → Steps level chunk i v (record (turned i (after_level level) i.depth k) { token = token.Nothing }) w 1
+    word-last m k w leads put =
+        let j = record (turned i (after_level level) i.depth k) { token = token.Nothing } in
+        steps-one level chunk i v j w h.inside (moves-one j refl refl refl refl) hidden
+        (λ x unset. shown-nothing (document j x) refl)
+        (λ t outer at r.
+        let y = filled outer v in
+        let d = document i y in
+        let o = open-word t y r in
+        let x = name_tree i.name in
+        let new = (document j (filled outer w)).value in
+        let deep = depth-of i.depth y o.frames o.left.2 in
+        let there = put-there level i.depth v w x (text_view i.key) outer o.frames put at h.here o.left.2 o.left.3 in
+        let left = put-left new x o.frames (deep, there) (ap after_level (sym h.here)) in
+        puts anything anything d new x t (c ∷ []) o.frames o.begin o.known (λ u comes. tt) left
+        (λ p u n m. scalar-read x p u n m o.frames) (word-ends d t o m c leads))
+
+    -- or is none.
+    pub word-wrong : (m : PartialWord)
+        → ((t : List ℕ) (j : ℕ) → slice_get t j ≡ Some c
+        → word_from i.word.word.now i.word.seen t j ≡ word_by i.word.word.now m.seen t j seen.Other)
+        → Steps level chunk i v (refused i fault_of.ExpectedSomeIdent (i.base + i.at)) v 1
+    word-wrong m leads =
+        let kind = fault_of.ExpectedSomeIdent in
+        let j = refused i kind (i.base + i.at) in
+        steps-one level chunk i v j v h.inside (moves-one j refl refl refl refl) hidden
+        (λ x unset. shown-word (document j x) word)
+        (λ t outer at r.
+        let x = filled outer v in
+        let d = document i x in
+        let o = open-word t x r in
+        refuses anything anything d t (c ∷ []) (in_scalar o.frames o.begin) kind d.position h.unset o.known
+        (λ u comes. tt) (word-refused d t o m c r.position leads) (record { kind = kind; index = d.position })
+        (noted_in d.first kind d.position) refl refl)
+
+-- ---- strings that end
+
+-- the same reader after a text that was put, or a key
+abbrev pub after_text : Reader → ℕ → CowStr Global → PartialString → Reader
+after_text i level k s = record i { token = token.Nothing; awaits = after_level level; key = k; string = s }
+
+abbrev pub after_key : Reader → CowStr Global → PartialString → Reader
+after_key i k s = record i { token = token.Nothing; key = k; string = s }
+
+-- What was put of a string: the text as a value, or the key
+pub record IsPutSo (level : ℕ) (i : Reader) (v : Tree) (j : Reader) (w : Tree) : Type 0 where
+  pub text : i.token ≡ token.Text
+      → IsPut level v (text_view i.key) (string (text_of i.string.text.text)) w × (j ≡ after_text i level j.key j.string)
+  pub key : i.token ≡ token.Key
+      → (w ≡ v) × (text_view j.key ≡ text_of i.string.text.text) × (j ≡ after_key i j.key j.string)
+
+-- Its text is known: it is put where a value is awaited,
+text-goes : (level : ℕ) (i : Reader) (v w : Tree) (k : CowStr Global) (s : PartialString) (n : Next) (t : List ℕ)
+    (outer : List OpenFrame) (o : Opened) → i.depth ≡ level → IsAt level outer → i.token ≡ token.Text
+    → IsPut level v (text_view i.key) (string (text_of i.string.text.text)) w
+    → Known n (document i (filled outer v)) t o → Holding (document i (filled outer v)) t o
+    → Follows n (34 ∷ []) anything
+    → IsTextAs (document i (filled outer v)) anything (t ++ 34 ∷ []) o i.string.text.text
+    → HasTakenIn anything (document (after_text i level k s) (filled outer w)) (t ++ 34 ∷ [])
+text-goes level i v w k s n t outer (between_tokens a) here at is put known held follows text = absurd text
+text-goes level i v w k s n t outer (in_scalar fs b) here at is put known held follows text =
+    let y = filled outer v in
+    let d = document i y in
+    let x = string (text_of i.string.text.text) in
+    let new = (document (after_text i level k s) (filled outer w)).value in
+    let deep = depth-of i.depth y fs held.3.2 in
+    let there = put-there level i.depth v w x (text_view i.key) outer fs put at here held.3.2 held.3.3 in
+    let left = put-left new x fs (deep, there) (ap after_level (sym here)) in
+    puts n anything (with_string d s) new x t (34 ∷ []) fs b (known-same n d s t (in_scalar fs b) known) follows left
+    (λ p u n m. scalar-read x p u n m fs) text
+text-goes level i v w k s n t outer (in_key fs ms b) here at is put known held follows text =
+    absurd (let no : token.Text ≡ token.Key = sym is ∙ held.2 in cc)
+
+-- or it is the key of the next value.
+key-goes : (i : Reader) (y : Tree) (k : CowStr Global) (s : PartialString) (n : Next) (t : List ℕ) (o : Opened)
+    → i.token ≡ token.Key → i.fault ≡ None → text_view k ≡ text_of i.string.text.text
+    → Known n (document i y) t o → Holding (document i y) t o → Follows n (34 ∷ []) anything
+    → IsTextAs (document i y) anything (t ++ 34 ∷ []) o i.string.text.text
+    → HasTakenIn anything (document (after_key i k s) y) (t ++ 34 ∷ [])
+key-goes i y k s n t (between_tokens a) is unset named known held follows text = absurd text
+key-goes i y k s n t (in_scalar fs b) is unset named known held follows text = 
+    absurd (subst (λ q. HoldsScalar (document i y) q held.0) is held.2)
+key-goes i y k s n t (in_key fs ms b) is unset named known held follows text =
+    let d = document i y in
+    let u = text_of i.string.text.text in
+    let new = (document (after_key i k s) y).value in
+    let low : b < length (t ++ 34 ∷ []) =
+    omega (arith, ap length held.1.is, length-append held.1.prefix held.0, held.1.begin, length-append t (34 ∷ [])) in
+    key-taken (with_string d s) new n anything t (34 ∷ []) fs ms b u (known-same n d s t (in_key fs ms b) known) follows
+    unset (held.4, tt, (held.5, held.6), sym named) low text (λ p t j e ms fs. key-read p t j e ms fs u)
+
+some-none : (f : Fault) → Some f ≡ None → ⊥
+some-none f e = cc
+
+module _ (level : ℕ) (chunk : List ℕ) (i : Reader) (v : Tree) (h : IsApart level chunk i v) (k : IsOfString i.token)
+    (quote : slice_get chunk i.at ≡ Some ascii.quote) (whole : i.string.escape ≡ None)
+  where
+    abbrev apart-come : (t : List ℕ) (x : Tree) → HasTakenTo i x t → HasCome (document i x) t
+    apart-come t x r = record { read = r.read; position = r.position }
+
+    -- The quote is taken.
+    from-quote : (j : Reader) (w : Tree) → j.settings ≡ i.settings → j.base ≡ i.base → j.at ≡ i.at → j.depth ≡ i.depth
+        → j.shown ≡ false → ((x : Tree) → j.fault ≡ None → is_shown (document j x) ≡ false)
+        → ((t : List ℕ) (outer : List OpenFrame) → IsAt level outer → HasTakenTo i (filled outer v) t
+        → HasTakenIn anything (document j (filled outer w)) (t ++ 34 ∷ []))
+        → StepsFrom level chunk i v j w 1
+    from-quote j w settings base at depth hidden off goes = record {
+      goes = λ t outer o r.
+          let d = document j (filled outer w) in
+          let u = t ++ 34 ∷ [] in
+          subst (λ s. HasReadIn (ahead j chunk (i.at + 1)) d (t ++ s)) (sym (slice-one chunk i.at 34 quote))
+          (read-any (ahead j chunk (i.at + 1)) d u
+          (reads-apart anything d u (goes t outer o r) hidden (off (filled outer w))));
+      moves =
+          record {
+            within = omega (arith, h.inside);
+            some = inl (omega arith);
+            still = (settings, base, at);
+            depth = (omega (arith, h.here, depth), omega (arith, h.here, depth));
+            low = omega (arith, h.here, depth, h.low);
+            deeper = λ more. absurd (omega (arith, h.here, depth, more));
+          };
+    }
+
+    -- The text is put by a reader that noted a fault or none.
+    module _ (f : Option Fault) (n : Next) (follows : Follows n (34 ∷ []) anything)
+        (known : (t : List ℕ) (x : Tree) (r : HasTakenTo i x t)
+        → Known n (document (record i { first = f }) x) t r.read.opened)
+        (held : (t : List ℕ) (x : Tree) (r : HasTakenTo i x t)
+        → Holding (document (record i { first = f }) x) t r.read.opened)
+        (text : (t : List ℕ) (x : Tree) (r : HasTakenTo i x t)
+        → IsTextAs (document (record i { first = f }) x) anything (t ++ 34 ∷ []) r.read.opened i.string.text.text)
+      where
+        abbrev i' : Reader
+        i' = record i { first = f }
+
+        quote-put : (j : Reader) (w : Tree) → IsOfString i.token → IsPutSo level i' v j w → StepsFrom level chunk i v j w 1
+        quote-put j w (inl is) p =
+            let q = p.text is in
+            subst (λ j. StepsFrom level chunk i v j w 1) (sym q.1)
+            (from-quote (after_text i' level j.key j.string) w refl refl refl refl h.hidden
+            (λ x unset. shown-nothing (document (after_text i' level j.key j.string) x) refl)
+            (λ t outer at r.
+            let x = filled outer v in
+            text-goes level i' v w j.key j.string n t outer r.read.opened h.here at is q.0 (known t x r) (held t x r) follows
+            (text t x r)))
+        quote-put j w (inr is) p =
+            let q = p.key is in
+            subst (λ j. StepsFrom level chunk i v j w 1) (sym q.2)
+            (from-quote (after_key i' j.key j.string) w refl refl refl refl h.hidden
+            (λ x unset. shown-nothing (document (after_key i' j.key j.string) x) refl)
+            (λ t outer at r.
+            let x = filled outer v in
+            subst (λ y. HasTakenIn anything (document (after_key i' j.key j.string) (filled outer y)) (t ++ 34 ∷ [])) (sym q.0)
+            (key-goes i' x j.key j.string n t r.read.opened is h.unset q.1 (known t x r) (held t x r) follows (text t x r))))
+
+    -- A whole text is put,
+    pub quote-whole-put : IsClosedAs i.string false true → (j : Reader) (w : Tree) → IsPutSo level i v j w
+        → StepsFrom level chunk i v j w 1
+    quote-whole-put is j w p =
+        quote-put i.first anything (λ u c. tt) (λ t x r. r.read.known) (λ t x r. r.read.held h.unset)
+        (λ t x r. whole-text (document i x) k h.unset t (apart-come t x r) whole is) j w k p
+
+    module _ (kept : Bool) (text_kept : i.token ≡ token.Text → kept ≡ allows_trailing_strings i.settings.mode)
+        (key_kept : i.token ≡ token.Key → kept ≡ false) (broken : IsClosedAs i.string false false) (index : ℕ)
+        (place : index ≡ i.begin + 1 + length i.string.text.text)
+      where
+        -- and what is kept of one that is none as a whole,
+        pub quote-kept-put : IsClosedAs i.string kept true → (j : Reader) (w : Tree)
+            → IsPutSo level (noted i fault_of.InvalidUnicodeCodePoint index) v j w → StepsFrom level chunk i v j w 1
+        quote-kept-put is j w p =
+            quote-put (noted_in i.first fault_of.InvalidUnicodeCodePoint index) (with_byte 34) (λ u c. (u, refl))
+            (λ t x r.
+            noted-known (document i x) k h.unset t (apart-come t x r) whole kept text_kept key_kept broken index place is)
+            (λ t x r.
+            noted-held (document i x) k h.unset t (apart-come t x r) whole kept text_kept key_kept broken index place is)
+            (λ t x r.
+            noted-text (document i x) k h.unset t (apart-come t x r) whole kept text_kept key_kept broken index place is) j w k p
+
+        -- or it is refused.
+        pub quote-refused : IsClosedAs i.string kept false
+            → StepsFrom level chunk i v (refused i fault_of.InvalidUnicodeCodePoint index) v 1
+        quote-refused is =
+            let kind = fault_of.InvalidUnicodeCodePoint in
+            let f : Fault = record { kind = kind; index = index } in
+            let j = refused i kind index in
+            from-quote j v refl refl refl refl h.hidden (λ x unset. absurd (some-none f unset))
+            (λ t outer at r.
+            let x = filled outer v in
+            let d = document i x in
+            refuses anything anything d t (34 ∷ []) r.read.opened kind index h.unset r.read.known (λ u c. tt)
+            (closed-refused d k h.unset t (apart-come t x r) whole kept text_kept key_kept broken index place is) f
+            (noted_in d.first kind index) refl refl)
+
+    -- The place after its characters is in the text so far.
+    pub quote-low : i.begin + 1 + length i.string.text.text ≤ i.base + i.at
+    quote-low =
+        let t = h.read.0 in
+        let x = filled h.read.1 v in
+        index-low (document i x) k h.unset t (apart-come t x h.read.3) whole
+
+-- ---- strings that go on
+
+-- Plain bytes below 80 hex
+plain-each : (v : List ℕ) → Pass is_plain v → AllPass is_ascii v → Pass is_plain_ascii v
+plain-each [] h low = tt
+plain-each (c ∷ v) h low =
+    (ap₂ (λ x y. x && y) h.0 (low 0 0 (omega arith)), plain-each v h.1 (λ i x l. low (suc i) x (omega arith)))
+
+pub plain-run : (chunk : List ℕ) (at to : ℕ) → to ≡ scan_stop chunk at → IsAsciiTo chunk at to
+    → Pass is_plain_ascii (slice_range chunk at to)
+plain-run chunk at to stop low = plain-each (slice_range chunk at to) (run-plain chunk at to stop) low
+
+ahead-string : (k : Token) (r : Reader) (chunk : List ℕ) (i : ℕ) → r.token ≡ k → IsOfString k → ahead r chunk i ≡ anything
+ahead-string k r chunk i is (inl e) = ap (λ x. ahead_as x r.awaits chunk i) (is ∙ e)
+ahead-string k r chunk i is (inr e) = ap (λ x. ahead_as x r.awaits chunk i) (is ∙ e)
+
+-- The string was moved out of the value so far: this reader holds it.
+module _ (level : ℕ) (chunk : List ℕ) (i : Reader) (v : Tree) (j : Reader) (w : Tree) (h : IsHere level chunk i v)
+    (k : IsOfString i.token) (hides : Hides level i v j w) (off : j.shown ≡ false)
+    (same : j ≡ with_shown i false j.number j.string j.key)
+  where
+    same-at : j.at ≡ i.at
+    same-at = ap (λ (r : Reader). r.at) same
+
+    same-base : j.base ≡ i.base
+    same-base = ap (λ (r : Reader). r.base) same
+
+    same-depth : j.depth ≡ i.depth
+    same-depth = ap (λ (r : Reader). r.depth) same
+
+    same-settings : j.settings ≡ i.settings
+    same-settings = ap (λ (r : Reader). r.settings) same
+
+    unset-so : j.fault ≡ None
+    unset-so = ap (λ (r : Reader). r.fault) same ∙ h.unset
+
+    pub kind-so : IsOfString j.token
+    kind-so = subst IsOfString (sym (ap (λ (r : Reader). r.token) same)) k
+
+    taken-now : (t : List ℕ) (outer : List OpenFrame) → IsAt level outer → HasReadTo chunk i (filled outer v) t
+        → HasCome (document j (filled outer w)) t
+    taken-now t outer at r = record {
+      read =
+          hides.goes anything t outer at
+          (subst (λ n. HasReadIn n (document i (filled outer v)) t) (ahead-string i.token i chunk i.at refl k) r.read);
+      position = ap (λ (q : Reader). q.base + q.at) same ∙ r.position;
+    }
+
+    module _ (s : PartialString) where
+      abbrev j' : Reader
+      j' = record j { string = s }
+
+      -- Its quote comes next.
+      module _ (goes : (u : List ℕ) → HasTaken j.string u → Goes s u chunk j.at went.Quote) where
+        quote-taken : (t : List ℕ) (outer : List OpenFrame) → IsAt level outer → HasReadTo chunk i (filled outer v) t
+            → HasTakenTo j' (filled outer w) t
+        quote-taken t outer at r =
+            let c = taken-now t outer at r in
+            record {
+              read = taken-same (document j (filled outer w)) s t kind-so unset-so (λ u x. (goes u x).0) c.read;
+              position = c.position;
+            }
+
+        pub quote-apart : IsApart level chunk j' w
+        quote-apart = record {
+          here = same-depth ∙ h.here;
+          low = h.low;
+          inside = omega (arith, h.inside, same-at);
+          room = omega (arith, h.room, same-base);
+          unset = unset-so;
+          hidden = off;
+          read = (h.read.0, h.read.1, h.read.2, quote-taken h.read.0 h.read.1 h.read.2 h.read.3);
+        }
+
+        pub quote-is : (s.escape ≡ None) × (slice_get chunk j.at ≡ Some ascii.quote)
+        quote-is =
+            let outer = h.read.1 in
+            let c = taken-now h.read.0 outer h.read.2 h.read.3 in
+            let d = document j (filled outer w) in
+            let o = is-held d h.read.0 kind-so c.read.opened (c.read.held unset-so) in
+            let g = goes o.rest o.taken_so in
+            (g.1, g.2)
+
+        pub quote-steps : (x : Reader) (y : Tree) (n : ℕ) → StepsFrom level chunk j' w x y n → Steps level chunk i v x y n
+        quote-steps x y n q = record {
+          goes = λ t outer at r.
+              subst (λ m. HasReadIn (ahead x chunk (m + n)) (document x (filled outer y)) (t ++ slice_range chunk m (m + n)))
+              same-at (q.goes t outer at (quote-taken t outer at r));
+          moves =
+              record {
+                within = omega (arith, q.moves.within, same-at);
+                some = q.moves.some;
+                still = (q.moves.still.0 ∙ same-settings, q.moves.still.1 ∙ same-base, q.moves.still.2 ∙ same-at);
+                depth = q.moves.depth;
+                low = q.moves.low;
+                deeper = q.moves.deeper;
+              };
+        }
+
+      -- Bytes are taken into it, and it is shown again.
+      pub taken-steps : (n : ℕ) → ((u : List ℕ) → HasTaken j.string u → Goes s u chunk j.at (went.Taken n))
+          → IsCountAt chunk j.at n → (x : Reader) (y : Tree) → Shows level j' w x y
+          → x ≡ with_shown j' x.shown x.number x.string x.key → Steps level chunk i v x y n
+      taken-steps n goes part x y shows is = record {
+        goes = λ t outer at r.
+            let d = document j (filled outer w) in
+            let c = taken-now t outer at r in
+            let run = slice_range chunk j.at (j.at + n) in
+            let all = taken-on d s t run kind-so unset-so goes c.read in
+            let u = t ++ run in
+            let read = shows.goes anything u outer at all in
+            subst (λ m. HasReadIn (ahead x chunk (m + n)) (document x (filled outer y)) (t ++ slice_range chunk m (m + n)))
+            same-at (read-any (ahead x chunk (j.at + n)) (document x (filled outer y)) u read);
+        moves =
+            let depth = ap (λ (r : Reader). r.depth) is ∙ same-depth in
+            record {
+              within = omega (arith, part.1, same-at);
+              some = inl part.0;
+              still = (
+                ap (λ (r : Reader). r.settings) is ∙ same-settings,
+                ap (λ (r : Reader). r.base) is ∙ same-base,
+                ap (λ (r : Reader). r.at) is ∙ same-at,
+              );
+              depth = (omega (arith, h.here, depth), omega (arith, h.here, depth));
+              low = omega (arith, h.here, depth, h.low);
+              deeper = λ more. absurd (omega (arith, h.here, depth, more));
+            };
+      }
+
+      -- A byte is wrong.
+      module _ (kind : FaultKind) (back : ℕ)
+          (goes : (u : List ℕ) → HasTaken j.string u → Goes s u chunk j.at (went.Wrong kind back)) where
+        there : j.at < length chunk
+        there = omega (arith, h.inside, same-at)
+
+        pub wrong-before : back ≤ j.base + j.at
+        wrong-before =
+            let t = h.read.0 in
+            let outer = h.read.1 in
+            let c = taken-now t outer h.read.2 h.read.3 in
+            wrong-low (document j (filled outer w)) kind-so unset-so t c s chunk j.at back kind there goes
+
+        pub wrong-steps : Steps level chunk i v (refused j' kind (j.base + j.at - back)) w 1
+        wrong-steps =
+            let index = j.base + j.at - back in
+            let f : Fault = record { kind = kind; index = index } in
+            let x = refused j' kind index in
+            record {
+              goes = λ t outer at r.
+                  let d = document j (filled outer w) in
+                  let c = taken-now t outer at r in
+                  let run = slice_range chunk j.at (j.at + 1) in
+                  let fails = wrong-refused d kind-so unset-so t c s chunk j.at back kind there goes in
+                  let e = document x (filled outer w) in
+                  let all : HasTakenIn anything e (t ++ run) =
+                  refuses anything anything (with_string d s) t run c.read.opened kind index unset-so
+                  (known-same anything d s t c.read.opened c.read.known) (λ u q. tt) fails f (noted_in d.first kind index) refl
+                  refl in
+                  subst (λ m. HasReadIn (ahead x chunk (m + 1)) e (t ++ slice_range chunk m (m + 1))) same-at
+                  (read-any (ahead x chunk (j.at + 1)) e (t ++ run)
+                  (reads-apart anything e (t ++ run) all off (λ unset. absurd (some-none f unset))));
+              moves =
+                  record {
+                    within = omega (arith, there, same-at);
+                    some = inl (omega arith);
+                    still = (same-settings, same-base, same-at);
+                    depth = (omega (arith, h.here, same-depth), omega (arith, h.here, same-depth));
+                    low = omega (arith, h.here, same-depth, h.low);
+                    deeper = λ more. absurd (omega (arith, h.here, same-depth, more));
+                  };
+            }
