@@ -1,5 +1,6 @@
 -- ASCII is appended to the string that is the last part of a container, or the root: so does a string that is shown.
-use Rattle.std.proofs.Common.{◌≡◌, ◌≢◌, ℕ, zero, suc, ◌+◌, ◌-◌, ◌<◌, ◌≤◌, true, List, [], ◌∷◌, ◌++◌, length, get_or, refl, sym, subst, ap, ◌∙◌}
+use Rattle.std.proofs.Common.{◌≡◌, ◌≢◌, ℕ, zero, suc, ◌+◌, ◌-◌, ◌<◌, ◌≤◌, true, List, [], ◌∷◌, ◌++◌, length, get_or}
+use Rattle.std.proofs.Common.{refl, sym, subst, ap, ◌∙◌}
 use Rattle.std.proofs.Common.{arith, inl, Vec}
 use Rattle.std.specs.Prelude.{Result, Ok, Err, None, OnOk, OnErr, slice_range}
 use Rattle.std.specs.Vec.{with_item}
@@ -11,8 +12,10 @@ use Rattle.jiter_steps.specs.Tree.{Tree, string}
 use Rattle.jiter_steps.specs.declared.partial_string.PartialString.{PartialString}
 use Rattle.jiter_steps.proofs.OpenStrings.{grown-taken, plain-of}
 use Rattle.jiter_incremental.specs.Between.{text_of}
-use Rattle.jiter_incremental.specs.Document.{Document, HasMoved, HasReadIn, Holding, IsMoved, IsShown, Known, Opened, Settled, anything}
-use Rattle.jiter_incremental.specs.Document.{between_tokens, in_key, in_scalar, is_shown, shown_as, token_tree, with_parts}
+use Rattle.jiter_incremental.specs.Document.{Document, HasMoved, HasReadIn, Holding, IsMoved, IsShown, Known, Opened}
+use Rattle.jiter_incremental.specs.Document.{Settled, anything}
+use Rattle.jiter_incremental.specs.Document.{between_tokens, in_key, in_scalar, is_shown, shown_as, token_tree}
+use Rattle.jiter_incremental.specs.Document.{with_parts}
 use Rattle.jiter_incremental.specs.Reader.{HasReadTo, IsAt, IsHere, Moves, Steps, ahead, ahead_as, document}
 use Rattle.jiter_incremental.specs.Slot.{AwaitsPart, HasValue, IsLast, IsOfKey, IsReplaced, OpenFrame, around, filled}
 use Rattle.jiter_incremental.specs.declared.reader.Reader.{Reader}
@@ -49,7 +52,8 @@ module _ {T E : Type 0} where
   pub array-replaced : (r : Result T E) (level : ℕ) (v : Vec JsonValue Global) (n : ℕ) (y z : JsonValue) (x u : List ℕ)
       → level ≢ 0 → n + 1 ≡ length v.items → y ≡ get_or v.items n y
       → ((s : List ℕ) → view y ≡ string (text_of s) → OnOk r (view z ≡ string (text_of (s ++ u))))
-      → OnOk r (IsReplaced level (view (Array v)) (string (text_of x)) (view (Array (with_item v n z))) (string (text_of (x ++ u))))
+      → OnOk r (IsReplaced level (view (Array v)) (string (text_of x)) (view (Array (with_item v n z)))
+      (string (text_of (x ++ u))))
   array-replaced (Err e) level v n y z x u some at got h = tt
   array-replaced (Ok o) level v n y z x u some at got h = record {
     root = λ none is. absurd (some none);
@@ -67,7 +71,8 @@ module _ {T E : Type 0} where
   array-kept (Ok o) v n y z f x at got is h = tt
 
   -- or as the value of the last member.
-  pub object-replaced : (r : Result T E) (level : ℕ) (v : Vec Member Global) (n : ℕ) (m : Member) (z : JsonValue) (x u : List ℕ)
+  pub object-replaced : (r : Result T E) (level : ℕ) (v : Vec Member Global) (n : ℕ) (m : Member) (z : JsonValue)
+      (x u : List ℕ)
       → level ≢ 0 → n + 1 ≡ length v.items → m ≡ get_or v.items n m
       → ((s : List ℕ) → view m.1 ≡ string (text_of s) → OnOk r (view z ≡ string (text_of (s ++ u))))
       → OnOk r (IsReplaced level (view (Object v)) (string (text_of x)) (view (Object (with_item v n (m.0, z))))
@@ -80,7 +85,8 @@ module _ {T E : Type 0} where
         seen.0 ∙ ap (around f) (h x seen.1);
   }
 
-  pub object-kept : (r : Result T E) (v : Vec Member Global) (n : ℕ) (m : Member) (z : JsonValue) (f : OpenFrame) (x : Tree)
+  pub object-kept : (r : Result T E) (v : Vec Member Global) (n : ℕ) (m : Member) (z : JsonValue) (f : OpenFrame)
+      (x : Tree)
       → n + 1 ≡ length v.items → m ≡ get_or v.items n m → view (Object v) ≡ around f x
       → OnErr r (view z ≡ view m.1) → OnErr r (view (Object (with_item v n (m.0, z))) ≡ view (Object v))
   object-kept (Err e) v n m z f x at got is h =
@@ -128,11 +134,13 @@ grown-shown a v token.Number = refl
 grown-shown a v token.Text = refl
 grown-shown a v token.Key = refl
 
-ahead-text : (k : Token) (r : Reader) (chunk : List ℕ) (i : ℕ) → r.token ≡ k → k ≡ token.Text → ahead r chunk i ≡ anything
+ahead-text : (k : Token) (r : Reader) (chunk : List ℕ) (i : ℕ) → r.token ≡ k → k ≡ token.Text
+    → ahead r chunk i ≡ anything
 ahead-text k r chunk i is text = ap (λ x. ahead_as x r.awaits chunk i) (is ∙ text)
 
 -- What is known of a text that is shown
-module _ (d : Document) (t : List ℕ) (o : Opened) (s : Settled d t o) (text : d.token ≡ token.Text) (shown : d.shown ≡ true)
+module _ (d : Document) (t : List ℕ) (o : Opened) (s : Settled d t o) (text : d.token ≡ token.Text)
+    (shown : d.shown ≡ true)
   where
     abbrev a : Document
     a = s.apart
@@ -144,7 +152,8 @@ module _ (d : Document) (t : List ℕ) (o : Opened) (s : Settled d t o) (text : 
         × IsShown a.value d.value (token_tree a token.Text)
     moved =
         let m = subst (λ b. IsMoved b a d) shown s.moved in
-        subst (λ k. HasMoved k a d.number d.string (token_tree a k) × IsShown a.value d.value (token_tree a k)) text-apart m
+        subst (λ k. HasMoved k a d.number d.string (token_tree a k) × IsShown a.value d.value (token_tree a k))
+        text-apart m
 
     pub text-seen : (fs : List OpenFrame) × HasValue d.value.depth d.value.tree fs (string (text_of a.string.text.text))
     text-seen =
@@ -189,7 +198,8 @@ module _ (d : Document) (t : List ℕ) (o : Opened) (s : Settled d t o) (text : 
         same = ap (λ (q : Document). record q { value = e.value }) s.same;
         moved =
             subst (λ b. IsMoved b new e) (sym shown)
-            (subst (λ k. HasMoved k new e.number e.string (token_tree new k) × IsShown new.value e.value (token_tree new k))
+            (subst
+            (λ k. HasMoved k new e.number e.string (token_tree new k) × IsShown new.value e.value (token_tree new k))
             (sym text-apart) moved-on);
       }
 

@@ -1,5 +1,6 @@
 -- Words and strings that a chunk cut go on and end, in an open container whatever that is in.
-use Rattle.std.proofs.Common.{◌≡◌, ℕ, suc, ◌+◌, ◌-◌, ◌<◌, ◌≤◌, Bool, true, false, List, [], ◌∷◌, ◌++◌, length, refl, sym, subst, ap, ◌∙◌}
+use Rattle.std.proofs.Common.{◌≡◌, ℕ, suc, ◌+◌, ◌-◌, ◌<◌, ◌≤◌, Bool, true, false, List, [], ◌∷◌, ◌++◌, length, refl}
+use Rattle.std.proofs.Common.{sym, subst, ap, ◌∙◌}
 use Rattle.std.proofs.Common.{ap₂, arith, inl, inr, length-append}
 use Rattle.std.specs.List.{AllPass}
 use Rattle.std.specs.Prelude.{◌&&◌, slice_get, slice_index, slice_range, Option, None, Some}
@@ -21,25 +22,27 @@ use Rattle.jiter_steps.specs.Tree.{Tree, string}
 use Rattle.jiter_steps.specs.declared.partial_string.PartialString.{PartialString}
 use Rattle.jiter_steps.specs.declared.partial_string.Went.TheVariants as went
 use Rattle.jiter_steps.proofs.OpenStrings.{run-plain}
-use Rattle.jiter_incremental.specs.Arrived.{at_value}
 use Rattle.jiter_incremental.specs.Between.{text_of}
-use Rattle.jiter_incremental.specs.Document.{Document, Follows, HasCome, HasReadIn, HasTakenIn, Holding, Known, Next, Opened, anything}
-use Rattle.jiter_incremental.specs.Document.{HoldsScalar, between_tokens, in_key, in_scalar, is_shown, noted_in, with_byte}
+use Rattle.jiter_incremental.specs.Document.{Document, Follows, HasCome, HasReadIn, HasTakenIn, Holding, Known, Next}
+use Rattle.jiter_incremental.specs.Document.{Opened, anything}
+use Rattle.jiter_incremental.specs.Document.{HoldsScalar, between_tokens, in_key, in_scalar, is_shown, noted_in}
+use Rattle.jiter_incremental.specs.Document.{with_byte}
 use Rattle.jiter_incremental.specs.Names.{name_tree}
-use Rattle.jiter_incremental.specs.Reader.{HasReadTo, HasTakenTo, Hides, IsApart, IsAt, IsHere, Moves, Steps, StepsFrom, after_level, ahead, ahead_as}
+use Rattle.jiter_incremental.specs.Reader.{HasReadTo, HasTakenTo, Hides, IsApart, IsAt, IsHere, Moves, Steps}
+use Rattle.jiter_incremental.specs.Reader.{StepsFrom, after_level, ahead, ahead_as}
 use Rattle.jiter_incremental.specs.Reader.{Shows, document, noted, refused, with_shown}
 use Rattle.jiter_incremental.specs.Slot.{IsContainer, IsPut, OpenFrame, begun, filled}
 use Rattle.jiter_incremental.specs.Strings.{IsClosedAs, IsOfString, IsTextAs}
-use Rattle.jiter_incremental.specs.declared.reader.Awaits.{Awaits}
-use Rattle.jiter_incremental.specs.declared.reader.Awaits.TheVariants as awaits
 use Rattle.jiter_incremental.specs.declared.reader.Reader.{Reader}
 use Rattle.jiter_incremental.specs.declared.reader.Token.{Token}
 use Rattle.jiter_incremental.specs.declared.reader.Token.TheVariants as token
 use Rattle.jiter_incremental.proofs.Arms.{turned}
 use Rattle.jiter_incremental.proofs.Between.{key-read, put-left, scalar-read}
 use Rattle.jiter_incremental.proofs.Documents.{puts, refuses}
-use Rattle.jiter_incremental.proofs.Documents.Strings.{closed-refused, index-low, is-held, key-taken, known-same, noted-held, noted-known, noted-text}
-use Rattle.jiter_incremental.proofs.Documents.Strings.{taken-on, taken-same, whole-text, with_string, wrong-low, wrong-refused}
+use Rattle.jiter_incremental.proofs.Documents.Strings.{closed-refused, index-low, is-held, key-taken, known-same}
+use Rattle.jiter_incremental.proofs.Documents.Strings.{noted-held, noted-known, noted-text}
+use Rattle.jiter_incremental.proofs.Documents.Strings.{taken-on, taken-same, whole-text, with_string, wrong-low}
+use Rattle.jiter_incremental.proofs.Documents.Strings.{wrong-refused}
 use Rattle.jiter_incremental.proofs.Documents.Tokens.{Unfinished, word-ends, word-goes-on, word-open, word-refused}
 use Rattle.jiter_incremental.proofs.Leading.{open-settled}
 use Rattle.jiter_incremental.proofs.Placing.{depth-of, put-there}
@@ -47,7 +50,8 @@ use Rattle.jiter_incremental.proofs.Settling.{apart-read, read-any, reads-apart,
 use Rattle.jiter_incremental.proofs.Slots.{filled-same}
 
 -- Inside other containers the slot is one.
-pub container-here : (level : ℕ) (chunk : List ℕ) (i : Reader) (v : Tree) → IsHere level chunk i v → 0 < level → IsContainer v
+pub container-here : (level : ℕ) (chunk : List ℕ) (i : Reader) (v : Tree) → IsHere level chunk i v → 0 < level
+    → IsContainer v
 container-here level chunk i v h some =
     let t = h.read.0 in
     let outer = h.read.1 in
@@ -158,7 +162,8 @@ after_key i k s = record i { token = token.Nothing; key = k; string = s }
 -- What was put of a string: the text as a value, or the key
 pub record IsPutSo (level : ℕ) (i : Reader) (v : Tree) (j : Reader) (w : Tree) : Type 0 where
   pub text : i.token ≡ token.Text
-      → IsPut level v (text_view i.key) (string (text_of i.string.text.text)) w × (j ≡ after_text i level j.key j.string)
+      → IsPut level v (text_view i.key) (string (text_of i.string.text.text)) w
+      × (j ≡ after_text i level j.key j.string)
   pub key : i.token ≡ token.Key
       → (w ≡ v) × (text_view j.key ≡ text_of i.string.text.text) × (j ≡ after_key i j.key j.string)
 
@@ -191,7 +196,7 @@ key-goes : (i : Reader) (y : Tree) (k : CowStr Global) (s : PartialString) (n : 
     → IsTextAs (document i y) anything (t ++ 34 ∷ []) o i.string.text.text
     → HasTakenIn anything (document (after_key i k s) y) (t ++ 34 ∷ [])
 key-goes i y k s n t (between_tokens a) is unset named known held follows text = absurd text
-key-goes i y k s n t (in_scalar fs b) is unset named known held follows text = 
+key-goes i y k s n t (in_scalar fs b) is unset named known held follows text =
     absurd (subst (λ q. HoldsScalar (document i y) q held.0) is held.2)
 key-goes i y k s n t (in_key fs ms b) is unset named known held follows text =
     let d = document i y in
@@ -247,7 +252,8 @@ module _ (level : ℕ) (chunk : List ℕ) (i : Reader) (v : Tree) (h : IsApart l
         abbrev i' : Reader
         i' = record i { first = f }
 
-        quote-put : (j : Reader) (w : Tree) → IsOfString i.token → IsPutSo level i' v j w → StepsFrom level chunk i v j w 1
+        quote-put : (j : Reader) (w : Tree) → IsOfString i.token → IsPutSo level i' v j w
+            → StepsFrom level chunk i v j w 1
         quote-put j w (inl is) p =
             let q = p.text is in
             subst (λ j. StepsFrom level chunk i v j w 1) (sym q.1)
@@ -255,8 +261,8 @@ module _ (level : ℕ) (chunk : List ℕ) (i : Reader) (v : Tree) (h : IsApart l
             (λ x unset. shown-nothing (document (after_text i' level j.key j.string) x) refl)
             (λ t outer at r.
             let x = filled outer v in
-            text-goes level i' v w j.key j.string n t outer r.read.opened h.here at is q.0 (known t x r) (held t x r) follows
-            (text t x r)))
+            text-goes level i' v w j.key j.string n t outer r.read.opened h.here at is q.0 (known t x r) (held t x r)
+            follows (text t x r)))
         quote-put j w (inr is) p =
             let q = p.key is in
             subst (λ j. StepsFrom level chunk i v j w 1) (sym q.2)
@@ -264,8 +270,10 @@ module _ (level : ℕ) (chunk : List ℕ) (i : Reader) (v : Tree) (h : IsApart l
             (λ x unset. shown-nothing (document (after_key i' j.key j.string) x) refl)
             (λ t outer at r.
             let x = filled outer v in
-            subst (λ y. HasTakenIn anything (document (after_key i' j.key j.string) (filled outer y)) (t ++ 34 ∷ [])) (sym q.0)
-            (key-goes i' x j.key j.string n t r.read.opened is h.unset q.1 (known t x r) (held t x r) follows (text t x r))))
+            subst (λ y. HasTakenIn anything (document (after_key i' j.key j.string) (filled outer y)) (t ++ 34 ∷ []))
+            (sym q.0)
+            (key-goes i' x j.key j.string n t r.read.opened is h.unset q.1 (known t x r) (held t x r) follows
+            (text t x r))))
 
     -- A whole text is put,
     pub quote-whole-put : IsClosedAs i.string false true → (j : Reader) (w : Tree) → IsPutSo level i v j w
@@ -284,11 +292,14 @@ module _ (level : ℕ) (chunk : List ℕ) (i : Reader) (v : Tree) (h : IsApart l
         quote-kept-put is j w p =
             quote-put (noted_in i.first fault_of.InvalidUnicodeCodePoint index) (with_byte 34) (λ u c. (u, refl))
             (λ t x r.
-            noted-known (document i x) k h.unset t (apart-come t x r) whole kept text_kept key_kept broken index place is)
+            noted-known (document i x) k h.unset t (apart-come t x r) whole kept text_kept key_kept broken index place
+            is)
             (λ t x r.
-            noted-held (document i x) k h.unset t (apart-come t x r) whole kept text_kept key_kept broken index place is)
+            noted-held (document i x) k h.unset t (apart-come t x r) whole kept text_kept key_kept broken index place
+            is)
             (λ t x r.
-            noted-text (document i x) k h.unset t (apart-come t x r) whole kept text_kept key_kept broken index place is) j w k p
+            noted-text (document i x) k h.unset t (apart-come t x r) whole kept text_kept key_kept broken index place
+            is) j w k p
 
         -- or it is refused.
         pub quote-refused : IsClosedAs i.string kept false
@@ -324,7 +335,8 @@ pub plain-run : (chunk : List ℕ) (at to : ℕ) → to ≡ scan_stop chunk at �
     → Pass is_plain_ascii (slice_range chunk at to)
 plain-run chunk at to stop low = plain-each (slice_range chunk at to) (run-plain chunk at to stop) low
 
-ahead-string : (k : Token) (r : Reader) (chunk : List ℕ) (i : ℕ) → r.token ≡ k → IsOfString k → ahead r chunk i ≡ anything
+ahead-string : (k : Token) (r : Reader) (chunk : List ℕ) (i : ℕ) → r.token ≡ k → IsOfString k
+    → ahead r chunk i ≡ anything
 ahead-string k r chunk i is (inl e) = ap (λ x. ahead_as x r.awaits chunk i) (is ∙ e)
 ahead-string k r chunk i is (inr e) = ap (λ x. ahead_as x r.awaits chunk i) (is ∙ e)
 
@@ -395,10 +407,12 @@ module _ (level : ℕ) (chunk : List ℕ) (i : Reader) (v : Tree) (j : Reader) (
             let g = goes o.rest o.taken_so in
             (g.1, g.2)
 
-        pub quote-steps : (x : Reader) (y : Tree) (n : ℕ) → StepsFrom level chunk j' w x y n → Steps level chunk i v x y n
+        pub quote-steps : (x : Reader) (y : Tree) (n : ℕ) → StepsFrom level chunk j' w x y n
+            → Steps level chunk i v x y n
         quote-steps x y n q = record {
           goes = λ t outer at r.
-              subst (λ m. HasReadIn (ahead x chunk (m + n)) (document x (filled outer y)) (t ++ slice_range chunk m (m + n)))
+              subst
+              (λ m. HasReadIn (ahead x chunk (m + n)) (document x (filled outer y)) (t ++ slice_range chunk m (m + n)))
               same-at (q.goes t outer at (quote-taken t outer at r));
           moves =
               record {
@@ -423,7 +437,8 @@ module _ (level : ℕ) (chunk : List ℕ) (i : Reader) (v : Tree) (j : Reader) (
             let all = taken-on d s t run kind-so unset-so goes c.read in
             let u = t ++ run in
             let read = shows.goes anything u outer at all in
-            subst (λ m. HasReadIn (ahead x chunk (m + n)) (document x (filled outer y)) (t ++ slice_range chunk m (m + n)))
+            let e = document x (filled outer y) in
+            subst (λ m. HasReadIn (ahead x chunk (m + n)) e (t ++ slice_range chunk m (m + n)))
             same-at (read-any (ahead x chunk (j.at + n)) (document x (filled outer y)) u read);
         moves =
             let depth = ap (λ (r : Reader). r.depth) is ∙ same-depth in
@@ -468,8 +483,8 @@ module _ (level : ℕ) (chunk : List ℕ) (i : Reader) (v : Tree) (j : Reader) (
                   let e = document x (filled outer w) in
                   let all : HasTakenIn anything e (t ++ run) =
                   refuses anything anything (with_string d s) t run c.read.opened kind index unset-so
-                  (known-same anything d s t c.read.opened c.read.known) (λ u q. tt) fails f (noted_in d.first kind index) refl
-                  refl in
+                  (known-same anything d s t c.read.opened c.read.known) (λ u q. tt) fails f
+                  (noted_in d.first kind index) refl refl in
                   subst (λ m. HasReadIn (ahead x chunk (m + 1)) e (t ++ slice_range chunk m (m + 1))) same-at
                   (read-any (ahead x chunk (j.at + 1)) e (t ++ run)
                   (reads-apart anything e (t ++ run) all off (λ unset. absurd (some-none f unset))));

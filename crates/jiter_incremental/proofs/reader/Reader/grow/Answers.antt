@@ -1,9 +1,5 @@
-use Rattle.std.proofs.Common.{◌∙◌, List, ℕ, ◌++◌}
 use Rattle.std.specs.Prelude.{slice_range}
-use Rattle.jiter_steps.specs.Tree.{string}
 use Rattle.jiter_steps.proofs.OpenStrings.{ascii-of}
-use Rattle.jiter_incremental.specs.Between.{text_of}
-use Rattle.jiter_incremental.specs.Slot.{IsReplaced}
 use Rattle.jiter_value.specs.Value.{view}
 use Rattle.jiter_incremental.proofs.Growing.{grown-step, text-last}
 use Rattle.jiter_incremental.proofs.reader.Reader.grow.Goals as goal
@@ -20,5 +16,5 @@ pub returns-clause-steps : goal.returns-clause-steps
 returns-clause-steps c =
     let run = slice_range c.args.chunk.now c.args.self.now.at c.args.to in
     grown-step c.args.level c.args.chunk.now c.args.self.now (view c.args.slot.now) c.requires.here c.requires.token
-    c.requires.shown c.args.to (view c.grow_in.new.slot) c.requires.even c.requires.some c.requires.within c.requires.plain
-    c.in_ok-grow_in.ensures.ok
+    c.requires.shown c.args.to (view c.grow_in.new.slot) c.requires.even c.requires.some c.requires.within
+    c.requires.plain c.in_ok-grow_in.ensures.ok

@@ -6,7 +6,9 @@ use Rattle.jiter_incremental.specs.Reader.{Hides, Steps, refused}
 use Rattle.jiter_incremental.specs.declared.reader.Reader.{Reader}
 use Rattle.jiter_incremental.specs.Slot.{HasRoomAt}
 use Rattle.jiter_value.specs.Value.{view}
-use Rattle.jiter_incremental.proofs.StringSteps.{container-here, plain-run, quote-apart, quote-is, quote-steps, taken-steps, wrong-before, wrong-steps}
+use Rattle.jiter_incremental.proofs.StringSteps.{container-here, plain-run, quote-apart, quote-is, quote-steps}
+use Rattle.jiter_incremental.proofs.StringSteps.{taken-steps}
+use Rattle.jiter_incremental.proofs.StringSteps.{wrong-before, wrong-steps}
 use Rattle.jiter_incremental.proofs.reader.Reader.take_string.Goals as goal
 
 pub grow-requires-clause-plain : goal.grow-requires-clause-plain
@@ -24,8 +26,11 @@ close_string-requires-clause-here c =
     let i = c.args.self.now in
     let j = c.hide.new.self in
     let s = c.next.new.self in
-    let hides = subst (λ v. Hides c.args.level i v j (view c.hide.new.slot)) c.in_ok-reserve_in.ensures.same c.hide.ensures.hides in
-    let g = subst (λ (x : Went). (u : List ℕ) → HasTaken j.string u → Goes s u c.args.chunk.now j.at x) c.in-Ok-Quote.field-0-is
+    let hides =
+    subst (λ v. Hides c.args.level i v j (view c.hide.new.slot)) c.in_ok-reserve_in.ensures.same
+    c.hide.ensures.hides in
+    let g =
+    subst (λ (x : Went). (u : List ℕ) → HasTaken j.string u → Goes s u c.args.chunk.now j.at x) c.in-Ok-Quote.field-0-is
     c.in-Ok-Quote.ensures.goes in
     quote-apart c.args.level c.args.chunk.now i (view c.args.slot.now) j (view c.hide.new.slot) c.requires.here
     c.requires.token hides c.hide.ensures.hidden c.hide.ensures.same s g
@@ -35,8 +40,11 @@ close_string-requires-clause-quote c =
     let i = c.args.self.now in
     let j = c.hide.new.self in
     let s = c.next.new.self in
-    let hides = subst (λ v. Hides c.args.level i v j (view c.hide.new.slot)) c.in_ok-reserve_in.ensures.same c.hide.ensures.hides in
-    let g = subst (λ (x : Went). (u : List ℕ) → HasTaken j.string u → Goes s u c.args.chunk.now j.at x) c.in-Ok-Quote.field-0-is
+    let hides =
+    subst (λ v. Hides c.args.level i v j (view c.hide.new.slot)) c.in_ok-reserve_in.ensures.same
+    c.hide.ensures.hides in
+    let g =
+    subst (λ (x : Went). (u : List ℕ) → HasTaken j.string u → Goes s u c.args.chunk.now j.at x) c.in-Ok-Quote.field-0-is
     c.in-Ok-Quote.ensures.goes in
     (quote-is c.args.level c.args.chunk.now i (view c.args.slot.now) j (view c.hide.new.slot) c.requires.here
     c.requires.token hides c.hide.ensures.hidden c.hide.ensures.same s g).1
@@ -46,8 +54,11 @@ close_string-requires-clause-whole c =
     let i = c.args.self.now in
     let j = c.hide.new.self in
     let s = c.next.new.self in
-    let hides = subst (λ v. Hides c.args.level i v j (view c.hide.new.slot)) c.in_ok-reserve_in.ensures.same c.hide.ensures.hides in
-    let g = subst (λ (x : Went). (u : List ℕ) → HasTaken j.string u → Goes s u c.args.chunk.now j.at x) c.in-Ok-Quote.field-0-is
+    let hides =
+    subst (λ v. Hides c.args.level i v j (view c.hide.new.slot)) c.in_ok-reserve_in.ensures.same
+    c.hide.ensures.hides in
+    let g =
+    subst (λ (x : Went). (u : List ℕ) → HasTaken j.string u → Goes s u c.args.chunk.now j.at x) c.in-Ok-Quote.field-0-is
     c.in-Ok-Quote.ensures.goes in
     (quote-is c.args.level c.args.chunk.now i (view c.args.slot.now) j (view c.hide.new.slot) c.requires.here
     c.requires.token hides c.hide.ensures.hidden c.hide.ensures.same s g).0
@@ -62,10 +73,14 @@ overflow_sub-position c =
     let i = c.args.self.now in
     let j = c.hide.new.self in
     let s = c.next.new.self in
-    let hides = subst (λ v. Hides c.args.level i v j (view c.hide.new.slot)) c.in_ok-reserve_in.ensures.same c.hide.ensures.hides in
-    let g = subst (λ (x : Went). (u : List ℕ) → HasTaken j.string u → Goes s u c.args.chunk.now j.at x) c.in-Ok-Wrong.field-0-is
+    let hides =
+    subst (λ v. Hides c.args.level i v j (view c.hide.new.slot)) c.in_ok-reserve_in.ensures.same
+    c.hide.ensures.hides in
+    let g =
+    subst (λ (x : Went). (u : List ℕ) → HasTaken j.string u → Goes s u c.args.chunk.now j.at x) c.in-Ok-Wrong.field-0-is
     c.in-Ok-Wrong.ensures.goes in
-    let low = wrong-before c.args.level c.args.chunk.now i (view c.args.slot.now) j (view c.hide.new.slot) c.requires.here
+    let low =
+    wrong-before c.args.level c.args.chunk.now i (view c.args.slot.now) j (view c.hide.new.slot) c.requires.here
     c.requires.token hides c.hide.ensures.hidden c.hide.ensures.same s c.in-Ok-Wrong.kind c.in-Ok-Wrong.back g in
     omega (arith, low, c.position.ensures)
 
@@ -79,21 +94,27 @@ returns-in-Ok-Taken-clause-steps c =
     let i = c.args.self.now in
     let j = c.hide.new.self in
     let s = c.next.new.self in
-    let hides = subst (λ v. Hides c.args.level i v j (view c.hide.new.slot)) c.in_ok-reserve_in.ensures.same c.hide.ensures.hides in
-    let g = subst (λ (x : Went). (u : List ℕ) → HasTaken j.string u → Goes s u c.args.chunk.now j.at x) c.in-Ok-Taken.field-0-is
+    let hides =
+    subst (λ v. Hides c.args.level i v j (view c.hide.new.slot)) c.in_ok-reserve_in.ensures.same
+    c.hide.ensures.hides in
+    let g =
+    subst (λ (x : Went). (u : List ℕ) → HasTaken j.string u → Goes s u c.args.chunk.now j.at x) c.in-Ok-Taken.field-0-is
     c.in-Ok-Taken.ensures.goes in
     taken-steps c.args.level c.args.chunk.now i (view c.args.slot.now) j (view c.hide.new.slot) c.requires.here
     c.requires.token hides c.hide.ensures.hidden c.hide.ensures.same s c.in-Ok-Taken.count g
-    (rw c.in-Ok-Taken.field-0-is at c.in-Ok-Taken.ensures.part) c.show.new.self (view c.show.new.slot) c.show.ensures.shows
-    c.show.ensures.same
+    (rw c.in-Ok-Taken.field-0-is at c.in-Ok-Taken.ensures.part) c.show.new.self (view c.show.new.slot)
+    c.show.ensures.shows c.show.ensures.same
 
 pub returns-in-Ok-Quote-clause-steps : goal.returns-in-Ok-Quote-clause-steps
 returns-in-Ok-Quote-clause-steps c =
     let i = c.args.self.now in
     let j = c.hide.new.self in
     let s = c.next.new.self in
-    let hides = subst (λ v. Hides c.args.level i v j (view c.hide.new.slot)) c.in_ok-reserve_in.ensures.same c.hide.ensures.hides in
-    let g = subst (λ (x : Went). (u : List ℕ) → HasTaken j.string u → Goes s u c.args.chunk.now j.at x) c.in-Ok-Quote.field-0-is
+    let hides =
+    subst (λ v. Hides c.args.level i v j (view c.hide.new.slot)) c.in_ok-reserve_in.ensures.same
+    c.hide.ensures.hides in
+    let g =
+    subst (λ (x : Went). (u : List ℕ) → HasTaken j.string u → Goes s u c.args.chunk.now j.at x) c.in-Ok-Quote.field-0-is
     c.in-Ok-Quote.ensures.goes in
     quote-steps c.args.level c.args.chunk.now i (view c.args.slot.now) j (view c.hide.new.slot) c.requires.here
     c.requires.token hides c.hide.ensures.hidden c.hide.ensures.same s g c.close_string.new.self
@@ -104,12 +125,15 @@ returns-in-Ok-Wrong-clause-steps c =
     let i = c.args.self.now in
     let j = c.hide.new.self in
     let s = c.next.new.self in
-    let hides = subst (λ v. Hides c.args.level i v j (view c.hide.new.slot)) c.in_ok-reserve_in.ensures.same c.hide.ensures.hides in
-    let g = subst (λ (x : Went). (u : List ℕ) → HasTaken j.string u → Goes s u c.args.chunk.now j.at x) c.in-Ok-Wrong.field-0-is
+    let hides =
+    subst (λ v. Hides c.args.level i v j (view c.hide.new.slot)) c.in_ok-reserve_in.ensures.same
+    c.hide.ensures.hides in
+    let g =
+    subst (λ (x : Went). (u : List ℕ) → HasTaken j.string u → Goes s u c.args.chunk.now j.at x) c.in-Ok-Wrong.field-0-is
     c.in-Ok-Wrong.ensures.goes in
     let w = view c.hide.new.slot in
     subst (λ (x : Reader). Steps c.args.level c.args.chunk.now i (view c.args.slot.now) x w 1)
-    (sym (subst (λ n. c.refuse.new.self ≡ refused (record j { string = s }) c.in-Ok-Wrong.kind (n - c.in-Ok-Wrong.back)) c.position.ensures
-    c.refuse.ensures))
+    (sym (subst (λ n. c.refuse.new.self ≡ refused (record j { string = s }) c.in-Ok-Wrong.kind (n - c.in-Ok-Wrong.back))
+    c.position.ensures c.refuse.ensures))
     (wrong-steps c.args.level c.args.chunk.now i (view c.args.slot.now) j w c.requires.here
     c.requires.token hides c.hide.ensures.hidden c.hide.ensures.same s c.in-Ok-Wrong.kind c.in-Ok-Wrong.back g)

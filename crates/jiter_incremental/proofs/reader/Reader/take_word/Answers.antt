@@ -1,4 +1,4 @@
-use Rattle.std.proofs.Common.{◌≡◌, subst, sym, ◌∙◌}
+use Rattle.std.proofs.Common.{◌≡◌, subst, sym}
 use Rattle.jiter_steps.specs.StringDecoder.{text_view}
 use Rattle.jiter_steps.specs.Tree.{Tree}
 use Rattle.jiter_incremental.specs.Reader.{Steps, refused}
@@ -27,10 +27,11 @@ returns-in_ok-value-in-Last-clause-steps c =
     let v = view c.args.slot.now in
     let w = view c.put.new.slot in
     let put = subst (λ (x : Tree). IsPut level v (text_view i.key) x w) c.in_ok-value-in-Last.ensures
-    (subst (λ (x : Tree). IsPut level x (text_view i.key) (view c.in_ok-value-in-Last.value) w) c.in_ok-reserve_in-in-Last.ensures.same
-    c.put.ensures.put) in
+    (subst (λ (x : Tree). IsPut level x (text_view i.key) (view c.in_ok-value-in-Last.value) w)
+    c.in_ok-reserve_in-in-Last.ensures.same c.put.ensures.put) in
     subst (λ (j : Reader). Steps level chunk i v j w 1) (sym c.put.ensures.is)
-    (word-last level chunk i v c.requires.here c.requires.token c.next.new.self c.put.new.self.key w c.in-Last.ensures.leads put)
+    (word-last level chunk i v c.requires.here c.requires.token c.next.new.self c.put.new.self.key w
+    c.in-Last.ensures.leads put)
 
 pub returns-in-Other-clause-steps : goal.returns-in-Other-clause-steps
 returns-in-Other-clause-steps c =
