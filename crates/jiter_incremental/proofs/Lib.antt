@@ -5,6 +5,7 @@ pub mod Chunks
 pub mod Documents
 pub mod Leading
 pub mod LinePlaces
+pub mod NumberBegins
 pub mod Over
 pub mod Passing
 pub mod Placing
