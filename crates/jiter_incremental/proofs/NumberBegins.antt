@@ -22,7 +22,8 @@ use Rattle.jiter_incremental.specs.Arrived.{Arrived, IsLeft, at_value}
 use Rattle.jiter_incremental.specs.Document.{BeginsHere, Document, HasReadIn, HasTakenIn, IsNumberWithin, Known, NameBegins, anything}
 use Rattle.jiter_incremental.specs.Document.{between_tokens, in_scalar, noted_in, with_byte}
 use Rattle.jiter_incremental.specs.Reader.{AwaitsValue, HasReadTo, IsAt, IsHere, Moves, Shows, Stays, Steps, after_level, ahead, document, refused, with_shown}
-use Rattle.jiter_incremental.specs.Slot.{IsPut, OpenFrame, filled}
+use Rattle.jiter_incremental.specs.Slot.{AwaitsPart, HasRoomAt, IsContainer, IsPut, IsRoomy, OpenFrame, begun, filled}
+use Rattle.jiter_value.specs.declared.value.JsonValue.{JsonValue, out-JsonValue}
 use Rattle.jiter_incremental.specs.declared.names.Name.{Name}
 use Rattle.jiter_incremental.specs.declared.names.Name.TheVariants as name
 use Rattle.jiter_incremental.specs.declared.reader.Awaits.TheVariants as awaits
@@ -34,6 +35,7 @@ use Rattle.jiter_incremental.proofs.Documents.{begins-in, follows-byte, known-as
 use Rattle.jiter_incremental.proofs.Documents.Tokens.{decimal-starts, infinity-begins, infinity-first, name-denied, nan-begins, number-begins, range-first}
 use Rattle.jiter_incremental.proofs.Placing.{depth-of, number-put}
 use Rattle.jiter_incremental.proofs.Settling.{apart-read, read-any, reads-apart, shown-nothing, steps-one}
+use Rattle.jiter_incremental.proofs.Slots.{filled-same}
 
 -- The byte begins the one name or the other.
 pub name-of : (c : ℕ) → start_of c ≡ start.Number → begins_decimal c ≡ false → (k : Name) × NameBegins k c
@@ -204,3 +206,15 @@ module _ (level : ℕ) (chunk : List ℕ) (i : Reader) (v : Tree) (h : IsHere le
             refl (decimal-starts c begins) (subst (HoldsNumber n) is held) in
             subst (λ m. HasTakenIn anything new (t ++ slice_range chunk i.at m)) (sym end)
             (subst (λ s. HasTakenIn anything new (t ++ s)) (sym is) all))
+
+-- A slot has room for a value where its container has.
+pub room-there : (level : ℕ) (chunk : List ℕ) (i : Reader) (v : Tree) (slot : JsonValue) → IsHere level chunk i v
+    → AwaitsValue level chunk i v → (IsContainer v → IsRoomy (out-JsonValue slot)) → HasRoomAt level slot
+room-there level chunk i v slot h awaited room some =
+    let outer = h.read.1 in
+    let a = awaited.goes h.read.0 outer h.read.2 h.read.3 in
+    room (by outer a.0 h.read.2 a.1.part)
+  where
+    by : (outer fs : List OpenFrame) → IsAt level outer → AwaitsPart i.depth (filled outer v) fs → IsContainer v
+    by outer [] at part = absurd (omega (arith, some, part, h.here))
+    by outer (f ∷ fs) at part = (f, (filled-same outer fs v (begun f) (omega (arith, at, part.0, h.here)) part.1).1)
