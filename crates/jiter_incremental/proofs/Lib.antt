@@ -12,4 +12,5 @@ pub mod Placing
 pub mod Received
 pub mod Settling
 pub mod Slots
+pub mod TextBegins
 pub mod WholeLiterals
