@@ -1,6 +1,6 @@
 use Rattle.std.proofs.Common.{◌-◌, refl, subst, sym, string_bytes}
 use Rattle.jiter_value.specs.Value.{view}
-use Rattle.std.specs.declared.borrow.CowStr.{Owned}
+use Rattle.std.specs.declared.borrow.CowStr.TheVariants.{Owned}
 use Rattle.jiter_incremental.specs.Reader.{Steps}
 use Rattle.jiter_incremental.specs.declared.reader.Awaits.TheVariants as awaits
 use Rattle.jiter_incremental.specs.declared.reader.Reader.{Reader}
