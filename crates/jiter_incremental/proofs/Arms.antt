@@ -41,6 +41,17 @@ use Rattle.jiter_incremental.proofs.Settling.{ahead-level, apart-read, known-any
 zero-more : (n : ℕ) → n + 0 ≡ n
 zero-more n = omega arith
 
+-- Before a value nothing is known of what comes.
+ahead-value : (k : Token) (a : Awaits) (chunk : List ℕ) (n : ℕ) → k ≡ token.Nothing → a ≡ awaits.Value
+    → ahead_as k a chunk n ≡ anything
+ahead-value k a chunk n none is = rw (none, is) refl
+
+ahead-before : (k : Token) (a : Awaits) (chunk : List ℕ) (n : ℕ) → k ≡ token.Nothing → IsBeforePart a
+    → ahead_as k a chunk n ≡ anything
+ahead-before k awaits.First chunk n none before = rw none refl
+ahead-before k awaits.Next chunk n none before = rw none refl
+ahead-before k a chunk n none before = absurd before
+
 pub comma-between : (a : Awaits) → a ≡ awaits.Comma → IsBetweenParts a
 comma-between a is = subst IsBetweenParts (sym is) tt
 
@@ -330,6 +341,7 @@ module _ (level : ℕ) (chunk : List ℕ) (i : Reader) (v : Tree) (h : IsHere le
     -- A value is awaited,
     pub awaits-value : i.awaits ≡ awaits.Value → AwaitsValue level chunk i v
     awaits-value is = record {
+      free = ahead-value i.token i.awaits chunk i.at none is;
       goes = λ t outer at r.
           let x = filled outer v in
           let d = document i x in
@@ -351,6 +363,7 @@ module _ (level : ℕ) (chunk : List ℕ) (i : Reader) (v : Tree) (h : IsHere le
       pub awaits-item : ((b : ContainerKind) (xs : List (PartTree b)) → v ≡ built b xs → b ≡ shape.Array)
           → AwaitsValue level chunk i v
       awaits-item array = record {
+        free = ahead-before i.token i.awaits chunk i.at none before;
         goes = λ t outer at r.
             let x = filled outer v in
             let d = document i x in
@@ -389,6 +402,7 @@ module _ (level : ℕ) (chunk : List ℕ) (i : Reader) (v : Tree) (h : IsHere le
           → AwaitsKey level chunk i v
       awaits-key object = record {
         quote = quote-of;
+        free = ahead-before i.token i.awaits chunk i.at none before;
         goes = λ t outer at r.
             let x = filled outer v in
             let d = document i x in

@@ -6,6 +6,7 @@ pub mod Documents
 pub mod Growing
 pub mod Leading
 pub mod LinePlaces
+pub mod NumberBegins
 pub mod NumberSteps
 pub mod Over
 pub mod Passing
@@ -15,4 +16,5 @@ pub mod Settling
 pub mod Showing
 pub mod Slots
 pub mod StringSteps
+pub mod TextBegins
 pub mod WholeLiterals

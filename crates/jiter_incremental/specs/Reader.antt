@@ -103,6 +103,7 @@ pub record ValueHere (c : ℕ) (d : Document) (t : List ℕ) (fs : List OpenFram
   pub position : d.position ≡ length t
 
 pub record AwaitsValue (level : ℕ) (chunk : List ℕ) (i : Reader) (v : Tree) : Type 0 where
+  pub free : ahead i chunk i.at ≡ anything
   pub goes : (t : List ℕ) (outer : List OpenFrame) → IsAt level outer → HasReadTo chunk i (filled outer v) t
       → (fs : List OpenFrame) × ValueHere (slice_index chunk i.at) (document i (filled outer v)) t fs
 
@@ -115,6 +116,7 @@ pub record KeyHere (c : ℕ) (d : Document) (t : List ℕ) (fs : List OpenFrame)
 
 pub record AwaitsKey (level : ℕ) (chunk : List ℕ) (i : Reader) (v : Tree) : Type 0 where
   pub quote : slice_index chunk i.at ≡ ascii.quote
+  pub free : ahead i chunk i.at ≡ anything
   pub goes : (t : List ℕ) (outer : List OpenFrame) → IsAt level outer → HasReadTo chunk i (filled outer v) t
       → (fs : List OpenFrame) × (ms : List (Text × Tree))
       × KeyHere (slice_index chunk i.at) (document i (filled outer v)) t fs ms

@@ -1,13 +1,28 @@
-use Rattle.std.proofs.Common.{subst, sym}
+use Rattle.std.proofs.Common.{◌∙◌, ap, subst, sym}
 use Rattle.std.proofs.lemmas.Bool.{ne_eqb}
 use Rattle.std.specs.Prelude.{slice_index}
 use Rattle.jiter_value.specs.Value.{view}
 use Rattle.jiter_incremental.specs.Document.{WordBegins}
-use Rattle.jiter_incremental.specs.Reader.{Steps}
+use Rattle.jiter_incremental.specs.Reader.{Steps, refused}
+use Rattle.jiter_scan.specs.declared.errors.FaultKind.TheVariants as fault_of
 use Rattle.jiter_incremental.specs.declared.names.Name.TheVariants as name
 use Rattle.jiter_incremental.proofs.Documents.Tokens.{infinity-begins, infinity-first, nan-begins}
+use Rattle.jiter_incremental.proofs.NumberBegins.{name-of, name-refused}
 use Rattle.jiter_incremental.proofs.Placing.{word-step}
 use Rattle.jiter_incremental.proofs.reader.Reader.begin_float_name.Goals as goal
+
+pub returns-then-not-self : goal.returns-then-not-self
+returns-then-not-self c =
+    let i = c.args.self.now in
+    let level = c.args.level in
+    let chunk = c.args.chunk.now in
+    let v = view c.args.slot.now in
+    let byte = slice_index chunk i.at in
+    let is = c.refuse.ensures ∙ ap (refused i fault_of.ExpectedSomeValue) c.position.ensures in
+    let k = name-of byte c.requires.starts c.requires.named in
+    subst (λ j. Steps level chunk i v j v 1) (sym is)
+    (name-refused level chunk i v c.requires.here c.requires.token c.requires.awaited c.requires.other c.requires.low k.0 k.1
+    c.if-not-self.true)
 
 pub returns-then-chunk-self-eq78 : goal.returns-then-chunk-self-eq78
 returns-then-chunk-self-eq78 c =

@@ -1,0 +1,220 @@
+-- A scalar begins in a chunk, or a number is read there, in an open container whatever that is in.
+use Rattle.std.proofs.Common.{◌≡◌, ◌⊎◌, ℕ, ◌+◌, ◌-◌, ◌<◌, ◌≤◌, true, false, List, [], ◌∷◌, ◌++◌, length, get_or, refl, sym, subst, ap, ◌∙◌}
+use Rattle.std.proofs.Common.{◌==◌, Bool, arith, eqb-true, inl}
+use Rattle.std.specs.Prelude.{slice_index, slice_range, None, Some, Result, Ok, Err, OnErr, Vec}
+use Rattle.std.specs.declared.alloc.Global.{Global}
+use Rattle.std.specs.declared.borrow.CowStr.{CowStr}
+use Rattle.jiter_scan.specs.Kind.{expected_value, fault_kind}
+use Rattle.jiter_scan.specs.Number.{Number}
+use Rattle.jiter_scan.specs.NumberWithin.{EndsWithin}
+use Rattle.jiter_scan.specs.PartialNumber.{BeginsThere, HoldsNumber, IsBegun, begins_decimal}
+use Rattle.jiter_scan.specs.declared.errors.FaultKind.{FaultKind}
+use Rattle.jiter_scan.specs.declared.errors.FaultKind.TheVariants as fault_of
+use Rattle.jiter_scan.specs.declared.partial_number.PartialNumber.{PartialNumber}
+use Rattle.jiter_steps.specs.Blank.{is_blank}
+use Rattle.jiter_steps.specs.Literal.{start_of}
+use Rattle.jiter_steps.specs.Node.{number_tree}
+use Rattle.jiter_steps.specs.StringDecoder.{text_view}
+use Rattle.jiter_steps.specs.Tree.{Tree}
+use Rattle.jiter_steps.specs.declared.parse.Start.TheVariants as start
+use Rattle.jiter_value.specs.Owned.{owned_text, tree_as}
+use Rattle.jiter_incremental.specs.Arrived.{Arrived, IsLeft, at_value}
+use Rattle.jiter_incremental.specs.Document.{BeginsHere, Document, HasReadIn, HasTakenIn, IsNumberWithin, Known, NameBegins, anything}
+use Rattle.jiter_incremental.specs.Document.{between_tokens, in_scalar, noted_in, with_byte}
+use Rattle.jiter_incremental.specs.Reader.{AwaitsValue, HasReadTo, IsAt, IsHere, Moves, Shows, Stays, Steps, after_level, ahead, document, refused, with_shown}
+use Rattle.jiter_incremental.specs.Slot.{AwaitsPart, HasRoomAt, IsContainer, IsPut, IsRoomy, OpenFrame, begun, filled}
+use Rattle.jiter_value.specs.declared.value.JsonValue.{JsonValue, out-JsonValue}
+use Rattle.jiter_incremental.specs.declared.names.Name.{Name}
+use Rattle.jiter_incremental.specs.declared.names.Name.TheVariants as name
+use Rattle.jiter_incremental.specs.declared.reader.Awaits.TheVariants as awaits
+use Rattle.jiter_incremental.specs.declared.reader.Reader.{Reader}
+use Rattle.jiter_incremental.specs.declared.reader.Token.TheVariants as token
+use Rattle.jiter_incremental.proofs.Arms.{hidden-here, turned}
+use Rattle.jiter_incremental.proofs.Between.{value-here}
+use Rattle.jiter_incremental.proofs.Documents.{begins-in, follows-byte, known-as, refuses, taken-between}
+use Rattle.jiter_incremental.proofs.Documents.Tokens.{decimal-starts, infinity-begins, infinity-first, name-denied, nan-begins, number-begins, range-first}
+use Rattle.jiter_incremental.proofs.Placing.{depth-of, number-put}
+use Rattle.jiter_incremental.proofs.Settling.{apart-read, read-any, reads-apart, shown-nothing, steps-one}
+use Rattle.jiter_incremental.proofs.Slots.{filled-same}
+
+-- The byte begins the one name or the other.
+pub name-of : (c : ℕ) → start_of c ≡ start.Number → begins_decimal c ≡ false → (k : Name) × NameBegins k c
+name-of c starts named = by (c == 78) refl where
+  by : (b : Bool) → (c == 78) ≡ b → (k : Name) × NameBegins k c
+  by true is = (name.NaN, subst (NameBegins name.NaN) (sym (eqb-true c 78 is)) nan-begins)
+  by false is = (name.Infinity, subst (NameBegins name.Infinity) (sym (infinity-first c starts named is)) infinity-begins)
+
+-- What is moved into the value so far, and shown there, is read.
+pub shown-steps : (level : ℕ) (chunk : List ℕ) (i : Reader) (v : Tree) (k : Reader) (x : Tree) (j : Reader) (w : Tree)
+    (n : ℕ) → Moves level chunk i k n → Shows level k x j w → j ≡ with_shown k j.shown j.number j.string j.key
+    → ((t : List ℕ) (outer : List OpenFrame) → IsAt level outer → HasReadTo chunk i (filled outer v) t
+    → HasTakenIn anything (document k (filled outer x)) (t ++ slice_range chunk i.at (i.at + n)))
+    → Steps level chunk i v j w n
+shown-steps level chunk i v k x j w n moves shows same goes = record {
+  goes = λ t outer at r.
+      let d = document j (filled outer w) in
+      let u = t ++ slice_range chunk i.at (i.at + n) in
+      read-any (ahead j chunk (i.at + n)) d u (shows.goes anything u outer at (goes t outer at r));
+  moves =
+      let settings : j.settings ≡ k.settings = ap (λ (r : Reader). r.settings) same in
+      let base : j.base ≡ k.base = ap (λ (r : Reader). r.base) same in
+      let place : j.at ≡ k.at = ap (λ (r : Reader). r.at) same in
+      let depth : j.depth ≡ k.depth = ap (λ (r : Reader). r.depth) same in
+      let unset : j.fault ≡ k.fault = ap (λ (r : Reader). r.fault) same in
+      record {
+        within = moves.within;
+        some = subst (λ m. (0 < n) ⊎ (m < level)) (sym depth) moves.some;
+        still = (settings ∙ moves.still.0, base ∙ moves.still.1, place ∙ moves.still.2);
+        depth = (omega (arith, depth, moves.depth.0), omega (arith, depth, moves.depth.1));
+        low = omega (arith, depth, moves.low);
+        deeper = λ more. unset ∙ moves.deeper (omega (arith, depth, more));
+      };
+}
+
+module _ (level : ℕ) (chunk : List ℕ) (i : Reader) (v : Tree) (h : IsHere level chunk i v) (none : i.token ≡ token.Nothing)
+  where
+    abbrev c : ℕ
+    c = slice_index chunk i.at
+
+    -- Nothing was taken: a copy of a number's bytes is no part of the document yet.
+    pub stays-so : ahead i chunk i.at ≡ anything → (n : PartialNumber) (s : Vec ℕ Global)
+        → Stays level chunk i v (record i { number = n; tape = s }) v
+    stays-so free n s =
+        let j = record i { number = n; tape = s } in
+        record {
+          goes = λ t outer at r.
+              let x = filled outer v in
+              let d = document i x in
+              let e = document j x in
+              let hidden = hidden-here level chunk i v h none in
+              let read : HasReadIn anything d t = subst (λ m. HasReadIn m d t) free r.read in
+              let b = taken-between anything d t (apart-read anything d t read hidden) h.unset none in
+              let o = between_tokens b.state in
+              let all : HasTakenIn anything e t =
+              record {
+                opened = o;
+                known = known-as anything d e t o refl refl refl b.known;
+                held = λ unset. (none, b.left);
+              } in
+              reads-apart anything e t all hidden (λ unset. shown-nothing e none);
+          free = free;
+          still = (refl, refl, refl);
+          depth = refl;
+        }
+
+    module _ (awaited : AwaitsValue level chunk i v) (other : is_blank c ≡ false) (low : level ≤ 200) where
+      -- A scalar begins there.
+      pub begins-at : (t : List ℕ) (outer : List OpenFrame) → IsAt level outer → HasReadTo chunk i (filled outer v) t
+          → (fs : List OpenFrame) × BeginsHere c (record (document i (filled outer v)) {
+            value = record (document i (filled outer v)).value { awaits = awaits.Value };
+          }) t fs
+      begins-at t outer at r =
+          let y = filled outer v in
+          let d = document i y in
+          let a = awaited.goes t outer at r in
+          let fs = a.0 in
+          let deep = depth-of i.depth y fs a.1.part in
+          let held = record d.value { awaits = awaits.Value } in (
+            fs,
+            begins-in d held c t (at_value awaits.Value fs) fs a.1.known h.unset r.position (refl, tt, a.1.part, a.1.key)
+                (omega (arith, deep, h.here, low)) (λ p u n here. value-here p u n c here other fs),
+          )
+
+      -- A name does where names are not allowed: it is refused.
+      pub name-refused : (k : Name) → NameBegins k c → i.settings.allow_inf_nan ≡ false
+          → Steps level chunk i v (refused i fault_of.ExpectedSomeValue (i.base + i.at)) v 1
+      name-refused k begins off =
+          let kind = fault_of.ExpectedSomeValue in
+          let j = refused i kind (i.base + i.at) in
+          let moves : Moves level chunk i j 1 =
+          record {
+            within = omega (arith, h.inside);
+            some = inl (omega arith);
+            still = (refl, refl, refl);
+            depth = (omega (arith, h.here), omega (arith, h.here));
+            low = omega (arith, h.here, h.low);
+            deeper = λ more. absurd (omega (arith, h.here, more));
+          } in
+          steps-one level chunk i v j v h.inside moves (hidden-here level chunk i v h none)
+          (λ x unset. shown-nothing (document j x) none)
+          (λ t outer at r.
+          let d = document i (filled outer v) in
+          let b = begins-at t outer at r in
+          let held = record d { value = record d.value { awaits = awaits.Value } } in
+          let o = in_scalar b.0 (length t) in
+          let known = known-as (with_byte c) held d t o refl refl refl b.1.known in
+          refuses (with_byte c) anything d t (c ∷ []) o kind d.position h.unset known (follows-byte c)
+          (name-denied held k t c b.0 b.1 begins off)
+          (record { kind = kind; index = d.position }) (noted_in d.first kind d.position) refl refl)
+
+      module _ (begins : begins_decimal c ≡ true) where
+        -- A number that lies whole in the chunk is put there.
+        pub whole-number : (k : CowStr Global) (number : Number) (x w : Tree) (e : ℕ) → EndsWithin chunk i.at number e
+            → x ≡ tree_as owned_text (number_tree number) → IsPut level v (text_view i.key) x w
+            → Steps level chunk i v (record (turned i (after_level level) i.depth k) { token = token.Nothing }) w (e - i.at)
+        whole-number k number x w e ends is put =
+            number-put level chunk i v h none awaited other k x w e low put
+            (record { begins = begins; number = number; ends = ends; is = is })
+
+        -- Else its bytes are kept.
+        pub number-kept : (n : PartialNumber) (e : ℕ) → i.at < e → e ≤ length chunk → HoldsNumber n (slice_range chunk i.at e)
+            → (j : Reader) (w : Tree)
+            → Shows level (record i {
+              begin = i.base + i.at;
+              token = token.Number;
+              awaits = awaits.Value;
+              number = n;
+            }) v j w
+            → j ≡ with_shown (record i {
+              begin = i.base + i.at;
+              token = token.Number;
+              awaits = awaits.Value;
+              number = n;
+            }) j.shown j.number j.string j.key
+            → Steps level chunk i v j w (e - i.at)
+        number-kept n e some within held j w shows same =
+            let k = record i { begin = i.base + i.at; token = token.Number; awaits = awaits.Value; number = n } in
+            let end : i.at + (e - i.at) ≡ e = omega (arith, some) in
+            let moves : Moves level chunk i k (e - i.at) =
+            record {
+              within = omega (arith, end, within);
+              some = inl (omega (arith, some));
+              still = (refl, refl, refl);
+              depth = (omega (arith, h.here), omega (arith, h.here));
+              low = omega (arith, h.here, h.low);
+              deeper = λ _. h.unset;
+            } in
+            shown-steps level chunk i v k v j w (e - i.at) moves shows same
+            (λ t outer at r.
+            let d = document i (filled outer v) in
+            let new = document k (filled outer v) in
+            let b = begins-at t outer at r in
+            let first = record d { value = record d.value { awaits = awaits.Value }; number = n } in
+            let o = in_scalar b.0 (length t) in
+            let there : BeginsHere c first t b.0 =
+            record {
+              known = known-as (with_byte c) (record d { value = record d.value { awaits = awaits.Value } }) first t o refl refl refl b.1.known;
+              left = b.1.left;
+              low = b.1.low;
+              unset = b.1.unset;
+              position = b.1.position;
+            } in
+            let is = range-first chunk i.at e some within in
+            let rest = slice_range chunk (i.at + 1) e in
+            let all : HasTakenIn anything new (t ++ c ∷ rest) =
+            number-begins first new t c rest b.0 there record { settings = refl; fault = refl; first = refl } refl refl refl
+            refl (decimal-starts c begins) (subst (HoldsNumber n) is held) in
+            subst (λ m. HasTakenIn anything new (t ++ slice_range chunk i.at m)) (sym end)
+            (subst (λ s. HasTakenIn anything new (t ++ s)) (sym is) all))
+
+-- A slot has room for a value where its container has.
+pub room-there : (level : ℕ) (chunk : List ℕ) (i : Reader) (v : Tree) (slot : JsonValue) → IsHere level chunk i v
+    → AwaitsValue level chunk i v → (IsContainer v → IsRoomy (out-JsonValue slot)) → HasRoomAt level slot
+room-there level chunk i v slot h awaited room some =
+    let outer = h.read.1 in
+    let a = awaited.goes h.read.0 outer h.read.2 h.read.3 in
+    room (by outer a.0 h.read.2 a.1.part)
+  where
+    by : (outer fs : List OpenFrame) → IsAt level outer → AwaitsPart i.depth (filled outer v) fs → IsContainer v
+    by outer [] at part = absurd (omega (arith, some, part, h.here))
+    by outer (f ∷ fs) at part = (f, (filled-same outer fs v (begun f) (omega (arith, at, part.0, h.here)) part.1).1)

@@ -1,0 +1,200 @@
+-- A string or a key of a chunk, in an open container whatever that is in: it is read whole, or begins there.
+use Rattle.std.proofs.Common.{◌≡◌, ℕ, ◌+◌, ◌-◌, ◌<◌, ◌≤◌, false, List, [], ◌∷◌, ◌++◌, length, get_or, refl, sym, subst, ap, ◌∙◌}
+use Rattle.std.proofs.Common.{arith, inl}
+use Rattle.std.specs.Prelude.{slice_index, slice_range, None, Vec}
+use Rattle.std.specs.declared.alloc.Global.{Global}
+use Rattle.std.specs.declared.borrow.CowStr.{CowStr}
+use Rattle.jiter_scan.specs.Ascii as ascii
+use Rattle.jiter_steps.specs.Blank.{is_blank}
+use Rattle.jiter_steps.specs.Frames.{members_frame}
+use Rattle.jiter_steps.specs.PartialString.{HasTaken, IsTextWithin}
+use Rattle.jiter_steps.specs.StringDecoder.{text_view}
+use Rattle.jiter_steps.specs.Tree.{Text, Tree}
+use Rattle.jiter_steps.specs.declared.partial_string.PartialString.{PartialString}
+use Rattle.jiter_incremental.specs.Arrived.{Arrived, IsLeft, at_value}
+use Rattle.jiter_incremental.specs.Between.{TakesByte, text_of}
+use Rattle.jiter_incremental.specs.Document.{Document, HasTakenIn, anything, in_key, with_byte}
+use Rattle.jiter_incremental.specs.Reader.{AwaitsKey, AwaitsValue, HasReadTo, IsAt, IsHere, Moves, Shows, Steps, ahead, document, with_shown}
+use Rattle.jiter_incremental.specs.Slot.{OpenFrame, filled}
+use Rattle.jiter_incremental.specs.declared.reader.Awaits.TheVariants as awaits
+use Rattle.jiter_incremental.specs.declared.reader.Reader.{Reader}
+use Rattle.jiter_incremental.specs.declared.reader.Token.TheVariants as token
+use Rattle.jiter_incremental.proofs.Arms.{hidden-here}
+use Rattle.jiter_incremental.proofs.Between.{at-value, goes-colon, key-read}
+use Rattle.jiter_incremental.proofs.Documents.Bytes.{takes-here}
+use Rattle.jiter_incremental.proofs.Documents.Strings.{key-taken}
+use Rattle.jiter_incremental.proofs.Documents.Tokens.{follows-here, key-token, known-on, range-after, string-begins}
+use Rattle.jiter_incremental.proofs.Documents.WholeTexts.{text-follows, text-key, text-some}
+use Rattle.jiter_incremental.proofs.NumberBegins.{begins-at, shown-steps}
+use Rattle.jiter_incremental.proofs.Settling.{one-slice, read-any, reads-apart, shown-key, shown-nothing, steps-one}
+
+-- The buffer in which escapes are decoded is no part of a document.
+pub tape-steps : (level : ℕ) (chunk : List ℕ) (i : Reader) (v : Tree) (j : Reader) (w : Tree) (n : ℕ) (s : Vec ℕ Global)
+    → Steps level chunk i v j w n → Steps level chunk i v (record j { tape = s }) w n
+tape-steps level chunk i v j w n s h = record {
+  goes = h.goes;
+  moves = record {
+    within = h.moves.within;
+    some = h.moves.some;
+    still = h.moves.still;
+    depth = h.moves.depth;
+    low = h.moves.low;
+    deeper = h.moves.deeper;
+  };
+}
+
+module _ (level : ℕ) (chunk : List ℕ) (i : Reader) (v : Tree) (h : IsHere level chunk i v) (none : i.token ≡ token.Nothing)
+  where
+    abbrev c : ℕ
+    c = slice_index chunk i.at
+
+    -- The same container is open after them.
+    moves-here : (j : Reader) (n : ℕ) → 0 < n → i.at + n ≤ length chunk → j.settings ≡ i.settings → j.base ≡ i.base
+        → j.at ≡ i.at → j.depth ≡ i.depth → j.fault ≡ i.fault → Moves level chunk i j n
+    moves-here j n some within settings base at depth unset = record {
+      within = within;
+      some = inl some;
+      still = (settings, base, at);
+      depth = (omega (arith, h.here, depth), omega (arith, h.here, depth));
+      low = omega (arith, h.here, h.low, depth);
+      deeper = λ _. unset ∙ h.unset;
+    }
+
+    -- A string begins there.
+    pub text-kept : AwaitsValue level chunk i v → is_blank c ≡ false → level ≤ 200 → c ≡ ascii.quote → (s : PartialString)
+        (b : Vec ℕ Global) → HasTaken s [] → (j : Reader) (w : Tree)
+        → Shows level (record i {
+          begin = i.base + i.at;
+          token = token.Text;
+          awaits = awaits.Value;
+          string = s;
+          tape = b;
+        }) v j w
+        → j ≡ with_shown (record i {
+          begin = i.base + i.at;
+          token = token.Text;
+          awaits = awaits.Value;
+          string = s;
+          tape = b;
+        }) j.shown j.number j.string j.key
+        → Steps level chunk i v j w 1
+    text-kept awaited other low quote s b fresh j w shows same =
+        let k = record i { begin = i.base + i.at; token = token.Text; awaits = awaits.Value; string = s; tape = b } in
+        let moves = moves-here k 1 (omega arith) (omega (arith, h.inside)) refl refl refl refl refl in
+        shown-steps level chunk i v k v j w 1 moves shows same
+        (λ t outer at r.
+        let d = document i (filled outer v) in
+        let new = document k (filled outer v) in
+        let b = begins-at level chunk i v h none awaited other low t outer at r in
+        let held = record d { value = record d.value { awaits = awaits.Value } } in
+        subst (λ x. HasTakenIn anything new (t ++ x)) (sym (one-slice chunk i.at h.inside))
+        (string-begins held new t c b.0 b.1 record { settings = refl; fault = refl; first = refl } refl refl refl quote fresh))
+
+    module _ (awaited : AwaitsKey level chunk i v) where
+      -- A key does.
+      pub key-kept : (s : PartialString) (b : Vec ℕ Global) → HasTaken s []
+          → Steps level chunk i v (record i {
+            begin = i.base + i.at;
+            token = token.Key;
+            awaits = awaits.Colon;
+            string = s;
+            tape = b;
+          }) v 1
+      key-kept s b fresh =
+          let j = record i { begin = i.base + i.at; token = token.Key; awaits = awaits.Colon; string = s; tape = b } in
+          let moves = moves-here j 1 (omega arith) (omega (arith, h.inside)) refl refl refl refl refl in
+          steps-one level chunk i v j v h.inside moves (hidden-here level chunk i v h none)
+          (λ x unset. shown-key (document j x) refl)
+          (λ t outer at r.
+          let d = document i (filled outer v) in
+          let e = document j (filled outer v) in
+          let a = awaited.goes t outer at r in
+          let fs = a.0 in
+          let ms = a.1 in
+          let o = in_key fs ms (length t) in
+          record {
+            opened = o;
+            known =
+                known-on (with_byte c) anything d e t (c ∷ []) o (key-token fs ms (length t))
+                record { settings = refl; fault = refl; first = refl } (follows-here c) a.2.known;
+            held = λ unset. (
+              c ∷ [],
+              record { prefix = t; is = refl; begin = refl; place = a.2.position },
+              refl,
+              record { rest = []; is = ap (λ x. x ∷ []) awaited.quote; taken = fresh },
+              refl,
+              a.2.deep,
+              a.2.tree,
+            );
+          })
+
+      module _ (text : List ℕ) (e : ℕ) (within : IsTextWithin chunk i.at text e) (k : CowStr Global) (s : Vec ℕ Global)
+          (named : text_view k ≡ text_of text)
+        where
+          -- One that lies whole in the chunk is read:
+          abbrev ended : Reader
+          ended = record i { awaits = awaits.Colon; key = k; tape = s }
+
+          key-there : (t : List ℕ) (outer : List OpenFrame) → IsAt level outer → HasReadTo chunk i (filled outer v) t
+              → HasTakenIn anything (document ended (filled outer v)) (t ++ slice_range chunk i.at e)
+          key-there t outer at r =
+              let x = filled outer v in
+              let d = document i x in
+              let new = document ended x in
+              let a = awaited.goes t outer at r in
+              let u = t ++ slice_range chunk i.at e in
+              let left : IsLeft new.value (at_value awaits.Colon (members_frame a.1 (text_of text) ∷ a.0)) =
+              (refl, tt, (a.2.deep, a.2.tree), sym named) in
+              let all = key-taken d new.value (with_byte c) anything t (slice_range chunk i.at e) a.0 a.1 (length t)
+              (text_of text) a.2.known (text-follows chunk i.at text e within) h.unset left
+              (text-some chunk i.at text e within t) (text-key chunk i.at text e within t d)
+              (λ p t j e ms fs. key-read p t j e ms fs (text_of text)) in
+              subst (λ o. HasTakenIn anything (record new { token = o }) u) (sym none) all
+
+          pub key-whole : Steps level chunk i v ended v (e - i.at)
+          key-whole =
+              let end : i.at + (e - i.at) ≡ e = omega (arith, within.within.0) in
+              record {
+                goes = λ t outer at r.
+                    let d = document ended (filled outer v) in
+                    let u = t ++ slice_range chunk i.at (i.at + (e - i.at)) in
+                    read-any (ahead ended chunk (i.at + (e - i.at))) d u
+                    (reads-apart anything d u
+                    (subst (λ m. HasTakenIn anything d (t ++ slice_range chunk i.at m)) (sym end) (key-there t outer at r))
+                    (hidden-here level chunk i v h none) (λ unset. shown-nothing d none));
+                moves =
+                    moves-here ended (e - i.at) (omega (arith, within.within.0)) (omega (arith, end, within.within.1)) refl
+                    refl refl refl refl;
+              }
+
+          -- also with its colon.
+          pub key-colon : e < length chunk → get_or chunk e 0 ≡ 58
+              → Steps level chunk i v (record ended { awaits = awaits.Value }) v (e + 1 - i.at)
+          key-colon more colon =
+              let j = record ended { awaits = awaits.Value } in
+              let end : i.at + (e + 1 - i.at) ≡ e + 1 = omega (arith, within.within.0) in
+              record {
+                goes = λ t outer at r.
+                    let x = filled outer v in
+                    let d = document j x in
+                    let was = document ended x in
+                    let new = d.value in
+                    let u = t ++ slice_range chunk i.at e in
+                    let passes : (s : Arrived) → IsLeft was.value s → TakesByte new s 58 =
+                    λ s left.
+                    let a = at-value was.value awaits.Colon s refl tt left in
+                    subst (λ y. TakesByte new y 58) (sym a.all) (goes-colon new a.frames 58 refl refl a.left a.key refl) in
+                    let one : HasTakenIn anything d (u ++ 58 ∷ []) =
+                    takes-here 58 was new u (key-there t outer at r) h.unset none passes in
+                    let bytes : u ++ 58 ∷ [] ≡ t ++ slice_range chunk i.at (e + 1) =
+                    ap (λ b. u ++ b ∷ []) (sym colon) ∙ range-after t chunk i.at e (omega (arith, within.within.0)) more in
+                    let all = t ++ slice_range chunk i.at (i.at + (e + 1 - i.at)) in
+                    read-any (ahead j chunk (i.at + (e + 1 - i.at))) d all
+                    (reads-apart anything d all
+                    (subst (λ m. HasTakenIn anything d (t ++ slice_range chunk i.at m)) (sym end)
+                    (subst (HasTakenIn anything d) bytes one))
+                    (hidden-here level chunk i v h none) (λ unset. shown-nothing d none));
+                moves =
+                    moves-here j (e + 1 - i.at) (omega (arith, within.within.0)) (omega (arith, end, more)) refl refl refl
+                    refl refl;
+              }

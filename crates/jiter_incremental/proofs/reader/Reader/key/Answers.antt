@@ -1,0 +1,40 @@
+use Rattle.std.proofs.Common.{◌-◌, refl, subst, sym, string_bytes}
+use Rattle.jiter_value.specs.Value.{view}
+use Rattle.std.specs.declared.borrow.CowStr.TheVariants.{Owned}
+use Rattle.jiter_incremental.specs.Reader.{Steps}
+use Rattle.jiter_incremental.specs.declared.reader.Awaits.TheVariants as awaits
+use Rattle.jiter_incremental.specs.declared.reader.Reader.{Reader}
+use Rattle.jiter_incremental.proofs.Documents.Blanks.{if-refused}
+use Rattle.jiter_incremental.proofs.NumberBegins.{stays-so}
+use Rattle.jiter_incremental.proofs.TextBegins.{key-colon, key-kept, key-whole}
+use Rattle.jiter_incremental.proofs.reader.Reader.key.Goals as goal
+
+pub returns-in_err-text-clause-stays : goal.returns-in_err-text-clause-stays
+returns-in_err-text-clause-stays c =
+    let i = c.args.self.now in
+    if-refused c.from_residual.result
+    (stays-so c.args.level c.args.chunk.now i (view c.args.slot.now) c.requires.here c.requires.token c.requires.awaited.free
+    i.number c.text_within.new.tape)
+
+pub returns-then-chunk-end-eq58-clause-steps : goal.returns-then-chunk-end-eq58-clause-steps
+returns-then-chunk-end-eq58-clause-steps c =
+    key-colon c.args.level c.args.chunk.now c.args.self.now (view c.args.slot.now) c.requires.here c.requires.token
+    c.requires.awaited (string_bytes c.in-Some.text) c.in-Some.end (rw c.in-Some.is at c.in_ok-text.ensures)
+    (Owned c.in-Some.text) c.text_within.new.tape refl c.if-end-chunk.true c.if-chunk-end-eq58.true
+
+pub returns-else-end-chunk-clause-steps : goal.returns-else-end-chunk-clause-steps
+returns-else-end-chunk-clause-steps c =
+    key-whole c.args.level c.args.chunk.now c.args.self.now (view c.args.slot.now) c.requires.here c.requires.token
+    c.requires.awaited (string_bytes c.in-Some.text) c.in-Some.end (rw c.in-Some.is at c.in_ok-text.ensures)
+    (Owned c.in-Some.text) c.text_within.new.tape refl
+
+pub returns-in-None-clause-steps : goal.returns-in-None-clause-steps
+returns-in-None-clause-steps c =
+    let i = c.args.self.now in
+    let level = c.args.level in
+    let chunk = c.args.chunk.now in
+    let v = view c.args.slot.now in
+    let begun = λ (r : Reader). record r { awaits = awaits.Colon } in
+    subst (λ r. Steps level chunk i v (begun r) v 1) (sym c.begin_string.ensures.is)
+    (key-kept level chunk i v c.requires.here c.requires.token c.requires.awaited c.begin_string.new.self.string
+    c.text_within.new.tape c.begin_string.ensures.string)

@@ -1,0 +1,29 @@
+use Rattle.std.proofs.Common.{◌-◌, refl, subst, sym}
+use Rattle.jiter_steps.specs.StringDecoder.{text_view}
+use Rattle.jiter_steps.specs.Tree.{Tree}
+use Rattle.jiter_value.specs.Value.{view}
+use Rattle.jiter_incremental.specs.Reader.{Steps}
+use Rattle.jiter_incremental.specs.Slot.{IsPut}
+use Rattle.jiter_incremental.specs.declared.reader.Reader.{Reader}
+use Rattle.jiter_incremental.proofs.Documents.Blanks.{if-refused}
+use Rattle.jiter_incremental.proofs.NumberBegins.{stays-so, whole-number}
+use Rattle.jiter_incremental.proofs.reader.Reader.long_number.Goals as goal
+
+pub returns-in_err-value-in-Some-clause-stays : goal.returns-in_err-value-in-Some-clause-stays
+returns-in_err-value-in-Some-clause-stays c =
+    let i = c.args.self.now in
+    if-refused c.from_residual.result
+    (stays-so c.args.level c.args.chunk.now i (view c.args.slot.now) c.requires.here c.requires.token c.requires.awaited.free
+    i.number i.tape)
+
+pub returns-in_ok-value-in-Some-clause-steps : goal.returns-in_ok-value-in-Some-clause-steps
+returns-in_ok-value-in-Some-clause-steps c =
+    let i = c.args.self.now in
+    let level = c.args.level in
+    let chunk = c.args.chunk.now in
+    let v = view c.args.slot.now in
+    let w = view c.put.new.slot in
+    let e = c.in-Some.end in
+    subst (λ (j : Reader). Steps level chunk i v j w (e - j.at)) (sym c.put.ensures.is)
+    (whole-number level chunk i v c.requires.here c.requires.token c.requires.awaited c.requires.other c.requires.low
+    c.requires.begins c.put.new.self.key _ _ w e c.in-Some.ensures c.in_ok-value-in-Some.ensures c.put.ensures.put)

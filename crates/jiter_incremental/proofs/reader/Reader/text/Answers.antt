@@ -1,0 +1,53 @@
+use Rattle.std.proofs.Common.{◌≡◌, ◌-◌, ◌∙◌, ap, subst, sym, string_bytes}
+use Rattle.jiter_steps.specs.PartialString.{IsTextWithin}
+use Rattle.jiter_steps.specs.StringDecoder.{text_view}
+use Rattle.jiter_steps.specs.Tree.{Tree, string}
+use Rattle.jiter_value.specs.Value.{view}
+use Rattle.jiter_incremental.specs.Between.{text_of}
+use Rattle.jiter_incremental.specs.Reader.{Shows, Steps, with_shown}
+use Rattle.jiter_incremental.specs.Slot.{IsPut}
+use Rattle.jiter_incremental.specs.declared.reader.Awaits.TheVariants as awaits
+use Rattle.jiter_incremental.specs.declared.reader.Reader.{Reader}
+use Rattle.jiter_incremental.proofs.Documents.Blanks.{if-refused}
+use Rattle.jiter_incremental.proofs.Documents.WholeTexts.{text-scalar}
+use Rattle.jiter_incremental.proofs.NumberBegins.{stays-so}
+use Rattle.jiter_incremental.proofs.Placing.{scalar-put}
+use Rattle.jiter_incremental.proofs.TextBegins.{tape-steps, text-kept}
+use Rattle.jiter_incremental.proofs.reader.Reader.text.Goals as goal
+
+pub returns-in_err-text-clause-stays : goal.returns-in_err-text-clause-stays
+returns-in_err-text-clause-stays c =
+    let i = c.args.self.now in
+    if-refused c.from_residual.result
+    (stays-so c.args.level c.args.chunk.now i (view c.args.slot.now) c.requires.here c.requires.token c.requires.awaited.free
+    i.number c.text_within.new.tape)
+
+pub returns-in-Some-clause-steps : goal.returns-in-Some-clause-steps
+returns-in-Some-clause-steps c =
+    let i = c.args.self.now in
+    let level = c.args.level in
+    let chunk = c.args.chunk.now in
+    let v = view c.args.slot.now in
+    let w = view c.put.new.slot in
+    let e = c.in-Some.end in
+    let within = rw c.in-Some.is at c.in_ok-text.ensures in
+    let put = subst (λ (x : Tree). IsPut level v (text_view i.key) x w) c.text_value.ensures c.put.ensures.put in
+    subst (λ (j : Reader). Steps level chunk i v j w (e - j.at)) (sym c.put.ensures.is)
+    (tape-steps level chunk i v _ w (e - i.at) c.text_within.new.tape
+    (scalar-put level chunk i v c.requires.here c.requires.token c.requires.awaited c.requires.other c.put.new.self.key _ w e
+    c.requires.low put (text-scalar chunk i.at (string_bytes c.in-Some.text) e within)))
+
+pub returns-in-None-clause-steps : goal.returns-in-None-clause-steps
+returns-in-None-clause-steps c =
+    let i = c.args.self.now in
+    let level = c.args.level in
+    let chunk = c.args.chunk.now in
+    let v = view c.args.slot.now in
+    let j = c.show.new.self in
+    let w = view c.show.new.slot in
+    let begun = λ (r : Reader). record r { awaits = awaits.Value } in
+    let is = c.begin_string.ensures.is in
+    let same = c.show.ensures.same ∙ ap (λ r. with_shown (begun r) j.shown j.number j.string j.key) is in
+    let shows = subst (λ r. Shows level (begun r) v j w) is c.show.ensures.shows in
+    text-kept level chunk i v c.requires.here c.requires.token c.requires.awaited c.requires.other c.requires.low
+    c.requires.quote c.begin_string.new.self.string c.text_within.new.tape c.begin_string.ensures.string j w shows same
