@@ -1,14 +1,13 @@
 -- A scalar begins in a chunk, or a number is read there, in an open container whatever that is in.
-use Rattle.std.proofs.Common.{◌≡◌, ◌⊎◌, ℕ, ◌+◌, ◌-◌, ◌<◌, ◌≤◌, true, false, List, [], ◌∷◌, ◌++◌, length, get_or, refl, sym, subst, ap, ◌∙◌}
+use Rattle.std.proofs.Common.{◌≡◌, ◌⊎◌, ℕ, ◌+◌, ◌-◌, ◌<◌, ◌≤◌, true, false, List, [], ◌∷◌, ◌++◌, length, refl, sym}
+use Rattle.std.proofs.Common.{subst, ap, ◌∙◌}
 use Rattle.std.proofs.Common.{◌==◌, Bool, arith, eqb-true, inl}
-use Rattle.std.specs.Prelude.{slice_index, slice_range, None, Some, Result, Ok, Err, OnErr, Vec}
+use Rattle.std.specs.Prelude.{slice_index, slice_range, Vec}
 use Rattle.std.specs.declared.alloc.Global.{Global}
 use Rattle.std.specs.declared.borrow.CowStr.{CowStr}
-use Rattle.jiter_scan.specs.Kind.{expected_value, fault_kind}
 use Rattle.jiter_scan.specs.Number.{Number}
 use Rattle.jiter_scan.specs.NumberWithin.{EndsWithin}
-use Rattle.jiter_scan.specs.PartialNumber.{BeginsThere, HoldsNumber, IsBegun, begins_decimal}
-use Rattle.jiter_scan.specs.declared.errors.FaultKind.{FaultKind}
+use Rattle.jiter_scan.specs.PartialNumber.{HoldsNumber, begins_decimal}
 use Rattle.jiter_scan.specs.declared.errors.FaultKind.TheVariants as fault_of
 use Rattle.jiter_scan.specs.declared.partial_number.PartialNumber.{PartialNumber}
 use Rattle.jiter_steps.specs.Blank.{is_blank}
@@ -18,10 +17,11 @@ use Rattle.jiter_steps.specs.StringDecoder.{text_view}
 use Rattle.jiter_steps.specs.Tree.{Tree}
 use Rattle.jiter_steps.specs.declared.parse.Start.TheVariants as start
 use Rattle.jiter_value.specs.Owned.{owned_text, tree_as}
-use Rattle.jiter_incremental.specs.Arrived.{Arrived, IsLeft, at_value}
-use Rattle.jiter_incremental.specs.Document.{BeginsHere, Document, HasReadIn, HasTakenIn, IsNumberWithin, Known, NameBegins, anything}
+use Rattle.jiter_incremental.specs.Arrived.{at_value}
+use Rattle.jiter_incremental.specs.Document.{BeginsHere, HasReadIn, HasTakenIn, NameBegins, anything}
 use Rattle.jiter_incremental.specs.Document.{between_tokens, in_scalar, noted_in, with_byte}
-use Rattle.jiter_incremental.specs.Reader.{AwaitsValue, HasReadTo, IsAt, IsHere, Moves, Shows, Stays, Steps, after_level, ahead, document, refused, with_shown}
+use Rattle.jiter_incremental.specs.Reader.{AwaitsValue, HasReadTo, IsAt, IsHere, Moves, Shows, Stays, Steps}
+use Rattle.jiter_incremental.specs.Reader.{after_level, ahead, document, refused, with_shown}
 use Rattle.jiter_incremental.specs.Slot.{AwaitsPart, HasRoomAt, IsContainer, IsPut, IsRoomy, OpenFrame, begun, filled}
 use Rattle.jiter_value.specs.declared.value.JsonValue.{JsonValue, out-JsonValue}
 use Rattle.jiter_incremental.specs.declared.names.Name.{Name}
@@ -32,7 +32,8 @@ use Rattle.jiter_incremental.specs.declared.reader.Token.TheVariants as token
 use Rattle.jiter_incremental.proofs.Arms.{hidden-here, turned}
 use Rattle.jiter_incremental.proofs.Between.{value-here}
 use Rattle.jiter_incremental.proofs.Documents.{begins-in, follows-byte, known-as, refuses, taken-between}
-use Rattle.jiter_incremental.proofs.Documents.Tokens.{decimal-starts, infinity-begins, infinity-first, name-denied, nan-begins, number-begins, range-first}
+use Rattle.jiter_incremental.proofs.Documents.Tokens.{decimal-starts, infinity-begins, infinity-first, name-denied}
+use Rattle.jiter_incremental.proofs.Documents.Tokens.{nan-begins, number-begins, range-first}
 use Rattle.jiter_incremental.proofs.Placing.{depth-of, number-put}
 use Rattle.jiter_incremental.proofs.Settling.{apart-read, read-any, reads-apart, shown-nothing, steps-one}
 use Rattle.jiter_incremental.proofs.Slots.{filled-same}
@@ -42,7 +43,8 @@ pub name-of : (c : ℕ) → start_of c ≡ start.Number → begins_decimal c ≡
 name-of c starts named = by (c == 78) refl where
   by : (b : Bool) → (c == 78) ≡ b → (k : Name) × NameBegins k c
   by true is = (name.NaN, subst (NameBegins name.NaN) (sym (eqb-true c 78 is)) nan-begins)
-  by false is = (name.Infinity, subst (NameBegins name.Infinity) (sym (infinity-first c starts named is)) infinity-begins)
+  by false is =
+      (name.Infinity, subst (NameBegins name.Infinity) (sym (infinity-first c starts named is)) infinity-begins)
 
 -- What is moved into the value so far, and shown there, is read.
 pub shown-steps : (level : ℕ) (chunk : List ℕ) (i : Reader) (v : Tree) (k : Reader) (x : Tree) (j : Reader) (w : Tree)
@@ -71,7 +73,8 @@ shown-steps level chunk i v k x j w n moves shows same goes = record {
       };
 }
 
-module _ (level : ℕ) (chunk : List ℕ) (i : Reader) (v : Tree) (h : IsHere level chunk i v) (none : i.token ≡ token.Nothing)
+module _ (level : ℕ) (chunk : List ℕ) (i : Reader) (v : Tree) (h : IsHere level chunk i v)
+    (none : i.token ≡ token.Nothing)
   where
     abbrev c : ℕ
     c = slice_index chunk i.at
@@ -116,8 +119,8 @@ module _ (level : ℕ) (chunk : List ℕ) (i : Reader) (v : Tree) (h : IsHere le
           let deep = depth-of i.depth y fs a.1.part in
           let held = record d.value { awaits = awaits.Value } in (
             fs,
-            begins-in d held c t (at_value awaits.Value fs) fs a.1.known h.unset r.position (refl, tt, a.1.part, a.1.key)
-                (omega (arith, deep, h.here, low)) (λ p u n here. value-here p u n c here other fs),
+            begins-in d held c t (at_value awaits.Value fs) fs a.1.known h.unset r.position
+                (refl, tt, a.1.part, a.1.key) (omega (arith, deep, h.here, low)) (λ p u n here. value-here p u n c here other fs),
           )
 
       -- A name does where names are not allowed: it is refused.
@@ -151,14 +154,15 @@ module _ (level : ℕ) (chunk : List ℕ) (i : Reader) (v : Tree) (h : IsHere le
         -- A number that lies whole in the chunk is put there.
         pub whole-number : (k : CowStr Global) (number : Number) (x w : Tree) (e : ℕ) → EndsWithin chunk i.at number e
             → x ≡ tree_as owned_text (number_tree number) → IsPut level v (text_view i.key) x w
-            → Steps level chunk i v (record (turned i (after_level level) i.depth k) { token = token.Nothing }) w (e - i.at)
+            → Steps level chunk i v (record (turned i (after_level level) i.depth k) { token = token.Nothing }) w
+            (e - i.at)
         whole-number k number x w e ends is put =
             number-put level chunk i v h none awaited other k x w e low put
             (record { begins = begins; number = number; ends = ends; is = is })
 
         -- Else its bytes are kept.
-        pub number-kept : (n : PartialNumber) (e : ℕ) → i.at < e → e ≤ length chunk → HoldsNumber n (slice_range chunk i.at e)
-            → (j : Reader) (w : Tree)
+        pub number-kept : (n : PartialNumber) (e : ℕ) → i.at < e → e ≤ length chunk
+            → HoldsNumber n (slice_range chunk i.at e) → (j : Reader) (w : Tree)
             → Shows level (record i {
               begin = i.base + i.at;
               token = token.Number;
@@ -189,11 +193,12 @@ module _ (level : ℕ) (chunk : List ℕ) (i : Reader) (v : Tree) (h : IsHere le
             let d = document i (filled outer v) in
             let new = document k (filled outer v) in
             let b = begins-at t outer at r in
-            let first = record d { value = record d.value { awaits = awaits.Value }; number = n } in
+            let was = record d { value = record d.value { awaits = awaits.Value } } in
+            let first = record was { number = n } in
             let o = in_scalar b.0 (length t) in
             let there : BeginsHere c first t b.0 =
             record {
-              known = known-as (with_byte c) (record d { value = record d.value { awaits = awaits.Value } }) first t o refl refl refl b.1.known;
+              known = known-as (with_byte c) was first t o refl refl refl b.1.known;
               left = b.1.left;
               low = b.1.low;
               unset = b.1.unset;
@@ -202,8 +207,8 @@ module _ (level : ℕ) (chunk : List ℕ) (i : Reader) (v : Tree) (h : IsHere le
             let is = range-first chunk i.at e some within in
             let rest = slice_range chunk (i.at + 1) e in
             let all : HasTakenIn anything new (t ++ c ∷ rest) =
-            number-begins first new t c rest b.0 there record { settings = refl; fault = refl; first = refl } refl refl refl
-            refl (decimal-starts c begins) (subst (HoldsNumber n) is held) in
+            number-begins first new t c rest b.0 there record { settings = refl; fault = refl; first = refl } refl refl
+            refl refl (decimal-starts c begins) (subst (HoldsNumber n) is held) in
             subst (λ m. HasTakenIn anything new (t ++ slice_range chunk i.at m)) (sym end)
             (subst (λ s. HasTakenIn anything new (t ++ s)) (sym is) all))
 

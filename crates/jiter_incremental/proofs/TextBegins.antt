@@ -1,7 +1,8 @@
 -- A string or a key of a chunk, in an open container whatever that is in: it is read whole, or begins there.
-use Rattle.std.proofs.Common.{◌≡◌, ℕ, ◌+◌, ◌-◌, ◌<◌, ◌≤◌, false, List, [], ◌∷◌, ◌++◌, length, get_or, refl, sym, subst, ap, ◌∙◌}
+use Rattle.std.proofs.Common.{◌≡◌, ℕ, ◌+◌, ◌-◌, ◌<◌, ◌≤◌, false, List, [], ◌∷◌, ◌++◌, length, get_or, refl, sym, subst}
+use Rattle.std.proofs.Common.{ap, ◌∙◌}
 use Rattle.std.proofs.Common.{arith, inl}
-use Rattle.std.specs.Prelude.{slice_index, slice_range, None, Vec}
+use Rattle.std.specs.Prelude.{slice_index, slice_range, Vec}
 use Rattle.std.specs.declared.alloc.Global.{Global}
 use Rattle.std.specs.declared.borrow.CowStr.{CowStr}
 use Rattle.jiter_scan.specs.Ascii as ascii
@@ -13,8 +14,9 @@ use Rattle.jiter_steps.specs.Tree.{Text, Tree}
 use Rattle.jiter_steps.specs.declared.partial_string.PartialString.{PartialString}
 use Rattle.jiter_incremental.specs.Arrived.{Arrived, IsLeft, at_value}
 use Rattle.jiter_incremental.specs.Between.{TakesByte, text_of}
-use Rattle.jiter_incremental.specs.Document.{Document, HasTakenIn, anything, in_key, with_byte}
-use Rattle.jiter_incremental.specs.Reader.{AwaitsKey, AwaitsValue, HasReadTo, IsAt, IsHere, Moves, Shows, Steps, ahead, document, with_shown}
+use Rattle.jiter_incremental.specs.Document.{HasTakenIn, anything, in_key, with_byte}
+use Rattle.jiter_incremental.specs.Reader.{AwaitsKey, AwaitsValue, HasReadTo, IsAt, IsHere, Moves, Shows, Steps, ahead}
+use Rattle.jiter_incremental.specs.Reader.{document, with_shown}
 use Rattle.jiter_incremental.specs.Slot.{OpenFrame, filled}
 use Rattle.jiter_incremental.specs.declared.reader.Awaits.TheVariants as awaits
 use Rattle.jiter_incremental.specs.declared.reader.Reader.{Reader}
@@ -43,7 +45,8 @@ tape-steps level chunk i v j w n s h = record {
   };
 }
 
-module _ (level : ℕ) (chunk : List ℕ) (i : Reader) (v : Tree) (h : IsHere level chunk i v) (none : i.token ≡ token.Nothing)
+module _ (level : ℕ) (chunk : List ℕ) (i : Reader) (v : Tree) (h : IsHere level chunk i v)
+    (none : i.token ≡ token.Nothing)
   where
     abbrev c : ℕ
     c = slice_index chunk i.at
@@ -61,8 +64,8 @@ module _ (level : ℕ) (chunk : List ℕ) (i : Reader) (v : Tree) (h : IsHere le
     }
 
     -- A string begins there.
-    pub text-kept : AwaitsValue level chunk i v → is_blank c ≡ false → level ≤ 200 → c ≡ ascii.quote → (s : PartialString)
-        (b : Vec ℕ Global) → HasTaken s [] → (j : Reader) (w : Tree)
+    pub text-kept : AwaitsValue level chunk i v → is_blank c ≡ false → level ≤ 200 → c ≡ ascii.quote
+        → (s : PartialString) (b : Vec ℕ Global) → HasTaken s [] → (j : Reader) (w : Tree)
         → Shows level (record i {
           begin = i.base + i.at;
           token = token.Text;
@@ -88,7 +91,8 @@ module _ (level : ℕ) (chunk : List ℕ) (i : Reader) (v : Tree) (h : IsHere le
         let b = begins-at level chunk i v h none awaited other low t outer at r in
         let held = record d { value = record d.value { awaits = awaits.Value } } in
         subst (λ x. HasTakenIn anything new (t ++ x)) (sym (one-slice chunk i.at h.inside))
-        (string-begins held new t c b.0 b.1 record { settings = refl; fault = refl; first = refl } refl refl refl quote fresh))
+        (string-begins held new t c b.0 b.1 record { settings = refl; fault = refl; first = refl } refl refl refl quote
+        fresh))
 
     module _ (awaited : AwaitsKey level chunk i v) where
       -- A key does.
@@ -160,11 +164,12 @@ module _ (level : ℕ) (chunk : List ℕ) (i : Reader) (v : Tree) (h : IsHere le
                     let u = t ++ slice_range chunk i.at (i.at + (e - i.at)) in
                     read-any (ahead ended chunk (i.at + (e - i.at))) d u
                     (reads-apart anything d u
-                    (subst (λ m. HasTakenIn anything d (t ++ slice_range chunk i.at m)) (sym end) (key-there t outer at r))
+                    (subst (λ m. HasTakenIn anything d (t ++ slice_range chunk i.at m)) (sym end)
+                    (key-there t outer at r))
                     (hidden-here level chunk i v h none) (λ unset. shown-nothing d none));
                 moves =
-                    moves-here ended (e - i.at) (omega (arith, within.within.0)) (omega (arith, end, within.within.1)) refl
-                    refl refl refl refl;
+                    moves-here ended (e - i.at) (omega (arith, within.within.0)) (omega (arith, end, within.within.1))
+                    refl refl refl refl refl;
               }
 
           -- also with its colon.
@@ -183,11 +188,13 @@ module _ (level : ℕ) (chunk : List ℕ) (i : Reader) (v : Tree) (h : IsHere le
                     let passes : (s : Arrived) → IsLeft was.value s → TakesByte new s 58 =
                     λ s left.
                     let a = at-value was.value awaits.Colon s refl tt left in
-                    subst (λ y. TakesByte new y 58) (sym a.all) (goes-colon new a.frames 58 refl refl a.left a.key refl) in
+                    subst (λ y. TakesByte new y 58) (sym a.all)
+                    (goes-colon new a.frames 58 refl refl a.left a.key refl) in
                     let one : HasTakenIn anything d (u ++ 58 ∷ []) =
                     takes-here 58 was new u (key-there t outer at r) h.unset none passes in
                     let bytes : u ++ 58 ∷ [] ≡ t ++ slice_range chunk i.at (e + 1) =
-                    ap (λ b. u ++ b ∷ []) (sym colon) ∙ range-after t chunk i.at e (omega (arith, within.within.0)) more in
+                    ap (λ b. u ++ b ∷ []) (sym colon)
+                    ∙ range-after t chunk i.at e (omega (arith, within.within.0)) more in
                     let all = t ++ slice_range chunk i.at (i.at + (e + 1 - i.at)) in
                     read-any (ahead j chunk (i.at + (e + 1 - i.at))) d all
                     (reads-apart anything d all
@@ -195,6 +202,6 @@ module _ (level : ℕ) (chunk : List ℕ) (i : Reader) (v : Tree) (h : IsHere le
                     (subst (HasTakenIn anything d) bytes one))
                     (hidden-here level chunk i v h none) (λ unset. shown-nothing d none));
                 moves =
-                    moves-here j (e + 1 - i.at) (omega (arith, within.within.0)) (omega (arith, end, more)) refl refl refl
-                    refl refl;
+                    moves-here j (e + 1 - i.at) (omega (arith, within.within.0)) (omega (arith, end, more)) refl refl
+                    refl refl refl;
               }

@@ -21,8 +21,8 @@ returns-then-not-self c =
     let is = c.refuse.ensures ∙ ap (refused i fault_of.ExpectedSomeValue) c.position.ensures in
     let k = name-of byte c.requires.starts c.requires.named in
     subst (λ j. Steps level chunk i v j v 1) (sym is)
-    (name-refused level chunk i v c.requires.here c.requires.token c.requires.awaited c.requires.other c.requires.low k.0 k.1
-    c.if-not-self.true)
+    (name-refused level chunk i v c.requires.here c.requires.token c.requires.awaited c.requires.other c.requires.low
+    k.0 k.1 c.if-not-self.true)
 
 pub returns-then-chunk-self-eq78 : goal.returns-then-chunk-self-eq78
 returns-then-chunk-self-eq78 c =

@@ -1,4 +1,4 @@
-use Rattle.std.proofs.Common.{◌-◌, refl, subst, sym, string_bytes}
+use Rattle.std.proofs.Common.{refl, subst, sym, string_bytes}
 use Rattle.jiter_value.specs.Value.{view}
 use Rattle.std.specs.declared.borrow.CowStr.TheVariants.{Owned}
 use Rattle.jiter_incremental.specs.Reader.{Steps}
@@ -13,8 +13,8 @@ pub returns-in_err-text-clause-stays : goal.returns-in_err-text-clause-stays
 returns-in_err-text-clause-stays c =
     let i = c.args.self.now in
     if-refused c.from_residual.result
-    (stays-so c.args.level c.args.chunk.now i (view c.args.slot.now) c.requires.here c.requires.token c.requires.awaited.free
-    i.number c.text_within.new.tape)
+    (stays-so c.args.level c.args.chunk.now i (view c.args.slot.now) c.requires.here c.requires.token
+    c.requires.awaited.free i.number c.text_within.new.tape)
 
 pub returns-then-chunk-end-eq58-clause-steps : goal.returns-then-chunk-end-eq58-clause-steps
 returns-then-chunk-end-eq58-clause-steps c =

@@ -1,9 +1,6 @@
-use Rattle.std.proofs.Common.{◌-◌, refl, subst, sym}
-use Rattle.jiter_steps.specs.StringDecoder.{text_view}
-use Rattle.jiter_steps.specs.Tree.{Tree}
+use Rattle.std.proofs.Common.{◌-◌, subst, sym}
 use Rattle.jiter_value.specs.Value.{view}
 use Rattle.jiter_incremental.specs.Reader.{Steps}
-use Rattle.jiter_incremental.specs.Slot.{IsPut}
 use Rattle.jiter_incremental.specs.declared.reader.Reader.{Reader}
 use Rattle.jiter_incremental.proofs.Documents.Blanks.{if-refused}
 use Rattle.jiter_incremental.proofs.NumberBegins.{stays-so, whole-number}
@@ -13,8 +10,8 @@ pub returns-in_err-value-in-Some-clause-stays : goal.returns-in_err-value-in-Som
 returns-in_err-value-in-Some-clause-stays c =
     let i = c.args.self.now in
     if-refused c.from_residual.result
-    (stays-so c.args.level c.args.chunk.now i (view c.args.slot.now) c.requires.here c.requires.token c.requires.awaited.free
-    i.number i.tape)
+    (stays-so c.args.level c.args.chunk.now i (view c.args.slot.now) c.requires.here c.requires.token
+    c.requires.awaited.free i.number i.tape)
 
 pub returns-in_ok-value-in-Some-clause-steps : goal.returns-in_ok-value-in-Some-clause-steps
 returns-in_ok-value-in-Some-clause-steps c =

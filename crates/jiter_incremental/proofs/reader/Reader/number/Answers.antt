@@ -13,8 +13,8 @@ pub returns-in_err-value-in-Float-clause-stays : goal.returns-in_err-value-in-Fl
 returns-in_err-value-in-Float-clause-stays c =
     let i = c.args.self.now in
     if-refused c.from_residual.result
-    (stays-so c.args.level c.args.chunk.now i (view c.args.slot.now) c.requires.here c.requires.token c.requires.awaited.free
-    i.number i.tape)
+    (stays-so c.args.level c.args.chunk.now i (view c.args.slot.now) c.requires.here c.requires.token
+    c.requires.awaited.free i.number i.tape)
 
 pub returns-in-Int-clause-steps : goal.returns-in-Int-clause-steps
 returns-in-Int-clause-steps c =
@@ -40,5 +40,5 @@ returns-in_ok-value-in-Float-clause-steps c =
     let e = c.in-Float.end in
     subst (λ (j : Reader). Steps level chunk i v j w (e - j.at)) (sym c.put-in-Float.ensures.is)
     (whole-number level chunk i v c.requires.here c.requires.token c.requires.awaited c.requires.other c.requires.low
-    c.requires.begins c.put-in-Float.new.self.key (float (slice_range chunk i.at e)) (view c.in_ok-value-in-Float.value) w e
-    c.in-Float.ensures.0 c.in_ok-value-in-Float.ensures c.put-in-Float.ensures.put)
+    c.requires.begins c.put-in-Float.new.self.key (float (slice_range chunk i.at e)) (view c.in_ok-value-in-Float.value)
+    w e c.in-Float.ensures.0 c.in_ok-value-in-Float.ensures c.put-in-Float.ensures.put)

@@ -1,9 +1,7 @@
-use Rattle.std.proofs.Common.{◌≡◌, ◌-◌, ◌∙◌, ap, subst, sym, string_bytes}
-use Rattle.jiter_steps.specs.PartialString.{IsTextWithin}
+use Rattle.std.proofs.Common.{◌-◌, ◌∙◌, ap, subst, sym, string_bytes}
 use Rattle.jiter_steps.specs.StringDecoder.{text_view}
 use Rattle.jiter_steps.specs.Tree.{Tree, string}
 use Rattle.jiter_value.specs.Value.{view}
-use Rattle.jiter_incremental.specs.Between.{text_of}
 use Rattle.jiter_incremental.specs.Reader.{Shows, Steps, with_shown}
 use Rattle.jiter_incremental.specs.Slot.{IsPut}
 use Rattle.jiter_incremental.specs.declared.reader.Awaits.TheVariants as awaits
@@ -19,8 +17,8 @@ pub returns-in_err-text-clause-stays : goal.returns-in_err-text-clause-stays
 returns-in_err-text-clause-stays c =
     let i = c.args.self.now in
     if-refused c.from_residual.result
-    (stays-so c.args.level c.args.chunk.now i (view c.args.slot.now) c.requires.here c.requires.token c.requires.awaited.free
-    i.number c.text_within.new.tape)
+    (stays-so c.args.level c.args.chunk.now i (view c.args.slot.now) c.requires.here c.requires.token
+    c.requires.awaited.free i.number c.text_within.new.tape)
 
 pub returns-in-Some-clause-steps : goal.returns-in-Some-clause-steps
 returns-in-Some-clause-steps c =
@@ -34,8 +32,8 @@ returns-in-Some-clause-steps c =
     let put = subst (λ (x : Tree). IsPut level v (text_view i.key) x w) c.text_value.ensures c.put.ensures.put in
     subst (λ (j : Reader). Steps level chunk i v j w (e - j.at)) (sym c.put.ensures.is)
     (tape-steps level chunk i v _ w (e - i.at) c.text_within.new.tape
-    (scalar-put level chunk i v c.requires.here c.requires.token c.requires.awaited c.requires.other c.put.new.self.key _ w e
-    c.requires.low put (text-scalar chunk i.at (string_bytes c.in-Some.text) e within)))
+    (scalar-put level chunk i v c.requires.here c.requires.token c.requires.awaited c.requires.other c.put.new.self.key
+    _ w e c.requires.low put (text-scalar chunk i.at (string_bytes c.in-Some.text) e within)))
 
 pub returns-in-None-clause-steps : goal.returns-in-None-clause-steps
 returns-in-None-clause-steps c =
