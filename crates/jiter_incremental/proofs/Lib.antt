@@ -3,6 +3,7 @@ pub mod Arrivals
 pub mod Between
 pub mod Chunks
 pub mod Documents
+pub mod Innermost
 pub mod Leading
 pub mod LinePlaces
 pub mod Over
