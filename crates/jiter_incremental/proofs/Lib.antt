@@ -9,6 +9,7 @@ pub mod LinePlaces
 pub mod Over
 pub mod Passing
 pub mod Placing
+pub mod Pushing
 pub mod Received
 pub mod Settling
 pub mod Slots
