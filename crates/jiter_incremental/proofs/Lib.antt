@@ -1,3 +1,4 @@
+pub mod Answering
 pub mod Arms
 pub mod Arrivals
 pub mod Between
