@@ -1,13 +1,16 @@
 -- The innermost of the open containers of a value that comes in chunks.
 use Rattle.std.proofs.Common.{◌≡◌, ℕ, ◌+◌, ◌-◌, ◌<◌, List, [], ◌∷◌, ◌++◌, length, refl, sym, ap, ◌∙◌, arith, take, length-append, Vec, rules}
 use Rattle.std.specs.declared.alloc.Global.{Global}
+use Rattle.std.specs.declared.borrow.CowStr.{CowStr}
 use Rattle.jiter_steps.specs.Tree.{Tree}
 use Rattle.jiter_steps.specs.declared.parse.ContainerKind.{ContainerKind}
 use Rattle.jiter_incremental.specs.Slot.{OpenFrame, around, filled}
 use Rattle.jiter_value.specs.Stacks.{Member, PartTree, built}
 use Rattle.jiter_value.specs.Value.{view}
-use Rattle.jiter_value.specs.declared.value.JsonValue.{JsonValue, Array, Object, the_lemmas}
-use Rattle.jiter_incremental.proofs.Slots.{filled-push, last-of}
+use Rattle.jiter_value.specs.declared.value.JsonValue.{JsonValue, Array, Object, Str, out-JsonValue, the_lemmas}
+use Rattle.jiter_value.specs.declared.value.JsonValue.TheOpen.{JsonValue-F}
+use Rattle.jiter_value.proofs.Views.{view_array, view_object, view_str}
+use Rattle.jiter_incremental.proofs.Slots.{filled-push, last-item, last-member, last-of, out-array, out-object}
 
 -- The outermost of more than one container, and what is in it
 pub record Outermost (depth : ℕ) (v : Tree) (h : ContainerKind) (xs : List (PartTree h)) : Type 0 where
@@ -34,3 +37,40 @@ outermost depth v h xs (g ∷ gs) more deep is =
 pub none-other : (v : JsonValue) (f : OpenFrame) (x : Tree) → view v ≡ around f x
     → ((w : Vec JsonValue Global) → v ≡ Array w → ⊥) → ((w : Vec Member Global) → v ≡ Object w → ⊥) → ⊥
 none-other v f x is no-array no-object = search (rules, the_lemmas)
+
+back-array : (v : JsonValue) (w : Vec JsonValue Global) → out-JsonValue v ≡ JsonValue-F.Array w → v ≡ Array w
+back-array v w is = search (rules, the_lemmas)
+
+back-object : (v : JsonValue) (w : Vec Member Global) → out-JsonValue v ≡ JsonValue-F.Object w → v ≡ Object w
+back-object v w is = search (rules, the_lemmas)
+
+back-str : (v : JsonValue) (s : CowStr Global) → out-JsonValue v ≡ JsonValue-F.Str s → v ≡ Str s
+back-str v s is = search (rules, the_lemmas)
+
+-- the last part of a container
+part-of : (v : JsonValue) (f : OpenFrame) (x : Tree) → view v ≡ around f x → (y : JsonValue) × (view y ≡ x)
+part-of v f x h = by (out-JsonValue v) refl where
+  other : (y : JsonValue-F JsonValue) → out-JsonValue v ≡ y
+      → ((w : Vec JsonValue Global) → y ≡ JsonValue-F.Array w → ⊥)
+      → ((w : Vec Member Global) → y ≡ JsonValue-F.Object w → ⊥) → ⊥
+  other y is no-array no-object =
+      none-other v f x h
+      (λ w e. no-array w (sym is ∙ ap out-JsonValue e ∙ out-array w))
+      (λ w e. no-object w (sym is ∙ ap out-JsonValue e ∙ out-object w))
+
+  by : (y : JsonValue-F JsonValue) → out-JsonValue v ≡ y → (y : JsonValue) × (view y ≡ x)
+  by (JsonValue-F.Array w) is =
+      let l = last-item w.items f x (sym (view_array w) ∙ ap view (sym (back-array v w is)) ∙ h) in (l.old, l.part)
+  by (JsonValue-F.Object w) is =
+      let l = last-member w.items f x (sym (view_object w) ∙ ap view (sym (back-object v w is)) ∙ h) in (l.old, l.part)
+  by JsonValue-F.Null is = absurd (other _ is (λ w e. absurd (cc)) (λ w e. absurd (cc)))
+  by (JsonValue-F.Bool b) is = absurd (other _ is (λ w e. absurd (cc)) (λ w e. absurd (cc)))
+  by (JsonValue-F.Int b) is = absurd (other _ is (λ w e. absurd (cc)) (λ w e. absurd (cc)))
+  by (JsonValue-F.BigInt b) is = absurd (other _ is (λ w e. absurd (cc)) (λ w e. absurd (cc)))
+  by (JsonValue-F.Float b) is = absurd (other _ is (λ w e. absurd (cc)) (λ w e. absurd (cc)))
+  by (JsonValue-F.Str b) is = absurd (other _ is (λ w e. absurd (cc)) (λ w e. absurd (cc)))
+
+-- What stands inside open containers is a value.
+pub inside-of : (fs : List OpenFrame) (v : JsonValue) (x : Tree) → view v ≡ filled fs x → (y : JsonValue) × (view y ≡ x)
+inside-of [] v x h = (v, h)
+inside-of (f ∷ fs) v x h = let r = inside-of fs v (around f x) h in part-of r.0 f x r.1
