@@ -1,9 +1,11 @@
+pub mod Answering
 pub mod Arms
 pub mod Arrivals
 pub mod Between
 pub mod Chunks
 pub mod Documents
 pub mod Growing
+pub mod Innermost
 pub mod Leading
 pub mod LinePlaces
 pub mod NumberBegins
@@ -11,6 +13,7 @@ pub mod NumberSteps
 pub mod Over
 pub mod Passing
 pub mod Placing
+pub mod Pushing
 pub mod Received
 pub mod Settling
 pub mod Showing

@@ -1,5 +1,5 @@
 -- What the bytes of a document answer that have come so far, if the input ends after them.
-use Rattle.std.specs.Prelude.{◌≡◌, ℕ, ◌&&◌, ◌||◌, Bool, true, false, not, if◌then◌else◌, List, length, Option, Some, None}
+use Rattle.std.specs.Prelude.{◌≡◌, ℕ, ◌+◌, ◌&&◌, ◌||◌, Bool, true, false, not, if◌then◌else◌, List, length, Option, Some, None}
 use Rattle.std.specs.Prelude.{is_some}
 use Rattle.jiter_scan.specs.Kind.{Kind, eof_string, eof_value, fault_kind}
 use Rattle.jiter_scan.specs.PartialNumber.{is_whole}
@@ -9,11 +9,14 @@ use Rattle.jiter_steps.specs.PartialString.{HasTaken, Wherever, text_or}
 use Rattle.jiter_steps.specs.Read.{done, fault}
 use Rattle.jiter_steps.specs.StringReading.{content_at, kept}
 use Rattle.jiter_steps.specs.Tree.{Tree}
+use Rattle.jiter_steps.specs.declared.parse.ContainerKind.{ContainerKind}
 use Rattle.jiter_steps.specs.declared.parse.ContainerKind.TheVariants as shape
 use Rattle.jiter_incremental.specs.Arrived.{Arrived, at_value, between_parts, end_of, owned}
 use Rattle.jiter_incremental.specs.Between.{after_value}
 use Rattle.jiter_incremental.specs.Document.{Document, Opened, between_tokens, in_key, in_scalar, is_shown, token_tree}
+use Rattle.jiter_incremental.specs.Slot.{OpenFrame, filled}
 use Rattle.jiter_value.specs.Settings.{answer_as}
+use Rattle.jiter_value.specs.Stacks.{PartTree, built}
 use Rattle.jiter_incremental.specs.declared.reader.Token.{Token}
 use Rattle.jiter_incremental.specs.declared.reader.Token.TheVariants as token
 use Rattle.jiter_incremental.specs.declared.reader.Awaits.TheVariants as awaits
@@ -51,6 +54,13 @@ kind_at_end d o = kind_as d d.token o
 abbrev pub IsEndFault : Document → Option Kind → Option Fault → Type 0
 IsEndFault d k None = k ≡ None
 IsEndFault d k (Some f) = (k ≡ Some (fault_kind f.kind)) × (f.index ≡ d.position)
+
+-- The innermost of these many open containers, which are inside each other in the value so far, has this kind.
+pub record IsInside (depth : ℕ) (v : Tree) (h : ContainerKind) : Type 0 where
+  pub parts : List (PartTree h)
+  pub outer : List OpenFrame
+  pub deep : depth ≡ length outer + 1
+  pub is : v ≡ filled outer (built h parts)
 
 -- Where the input ends in the string that is kept, it is its characters so far, or a byte after them is wrong.
 abbrev pub KeepsText : Document → Type 0

@@ -1,5 +1,5 @@
 -- A parser of a document that comes in chunks: what it holds of the bytes that were pushed, and what they answer.
-use Rattle.std.specs.Prelude.{◌≡◌, ℕ, ◌+◌, ◌≤◌, Bool, Err, List, None, Ok, Option, Some, length}
+use Rattle.std.specs.Prelude.{◌≡◌, ℕ, ◌+◌, ◌≤◌, ◌<◌, ◌^◌, Bool, Err, List, None, Ok, Option, Some, length}
 use Rattle.jiter_scan.specs.declared.errors.JsonError.{JsonError}
 use Rattle.jiter_scan.specs.declared.partial_mode.PartialMode.TheVariants.{Off}
 use Rattle.jiter_steps.specs.Node.{nesting_limit}
@@ -29,6 +29,7 @@ pub record HasReceived (p : Received) (t : List ℕ) : Type 0 where
   pub low : p.reader.depth ≤ nesting_limit + 1
   pub settings : p.settings ≡ p.reader.settings
   pub position : p.position ≡ length t
+  pub room : p.position < 2 ^ 64
 
 -- Read as a whole with partial reading off, these bytes have this fault, or, where there is none, a value.
 abbrev pub WouldFinish : Bool → List ℕ → Option JsonError → Type 0

@@ -1,23 +1,29 @@
 //! The result for the bytes so far, if the input ended after them.
 ghost use Rattle.std.specs.Prelude.{◌≡◌, ◌+◌, ◌^◌, ◌<◌, List, None, Some, is_some, option_map, true, ℕ};
-ghost use Rattle.jiter_incremental.specs.Arrived.{Arrived, IsLeft, at_value, end_of, shown};
-ghost use Rattle.jiter_incremental.specs.Between.{after_value};
-ghost use Rattle.jiter_incremental.specs.Document.{HasArrived, strictly};
-ghost use Rattle.jiter_incremental.specs.Ends.{AnswersSo};
+ghost use Rattle.jiter_incremental.specs.Arrived.{Arrived, IsLeft, end_of, shown};
+ghost use Rattle.jiter_incremental.specs.Document.{HasArrived, Opened, Settled, strictly};
+ghost use Rattle.jiter_incremental.specs.Ends.{AnswersSo, IsEndFault, IsInside, kind_at_end, so_far};
 ghost use Rattle.jiter_incremental.specs.Reader.{document};
-ghost use Rattle.jiter_incremental.specs.declared.reader.Token.TheVariants as token_kind;
 ghost use Rattle.jiter_scan.specs.Kind.{fault_kind};
 ghost use Rattle.jiter_scan.specs.PartialMode.{is_active};
+ghost use Rattle.jiter_steps.specs.Step.{end_kind_of};
+ghost use Rattle.jiter_steps.specs.Tree.{Tree};
 ghost use Rattle.jiter_value.specs.Value.{view};
 
 use crate::reader::{Awaits, Reader, Token};
 use crate::slot::innermost_kind;
 use jiter_scan::errors::{Fault, FaultKind, fault_at};
+use jiter_steps::parse::ContainerKind;
 use jiter_value::value::JsonValue;
 
 impl Reader {
     // After an item or member, or an opening bracket.
-    fn container_end(&self, root: &JsonValue<'static>) -> Option<FaultKind> {
+    fn container_end(&self, root: &JsonValue<'static>) -> Option<FaultKind>
+        requires inside { 0 < self.now.depth → (h : ContainerKind) × IsInside self.now.depth (view root.now) h }
+        ensures none { self.now.depth ≡ 0 → result ≡ None }
+        ensures some { (h : ContainerKind) → IsInside self.now.depth (view root.now) h
+            → option_map fault_kind result ≡ Some (end_kind_of h) }
+    {
         if self.depth == 0 {
             None
         } else {
@@ -26,7 +32,11 @@ impl Reader {
     }
 
     // With partial reading off, and no token unfinished.
-    fn end_between(&self, root: &JsonValue<'static>) -> Option<FaultKind> {
+    fn end_between(&self, root: &JsonValue<'static>) -> Option<FaultKind>
+        requires { (s : Arrived) × IsLeft (document self.now (view root.now)).value s }
+        ensures { (s : Arrived) → IsLeft (document self.now (view root.now)).value s
+            → option_map fault_kind result ≡ end_of s }
+    {
         match self.awaits {
             Awaits::Value | Awaits::Next => Some(FaultKind::EofWhileParsingValue),
             Awaits::Colon => Some(FaultKind::EofWhileParsingObject),
@@ -35,7 +45,11 @@ impl Reader {
     }
 
     // With partial reading off. A number can be complete without a byte after it.
-    fn end_kind(&self, root: &JsonValue<'static>) -> Option<FaultKind> {
+    fn end_kind(&self, root: &JsonValue<'static>) -> Option<FaultKind>
+        requires { (t : List ℕ) × (o : Opened) × Settled (document self.now (view root.now)) t o }
+        ensures { (t : List ℕ) → (o : Opened) → (s : Settled (document self.now (view root.now)) t o)
+            → option_map fault_kind result ≡ kind_at_end s.apart o }
+    {
         match self.token {
             Token::Nothing => self.end_between(root),
             Token::Word => Some(FaultKind::EofWhileParsingValue),
@@ -50,7 +64,12 @@ impl Reader {
         }
     }
 
-    fn end_fault(&self, root: &JsonValue<'static>) -> Option<Fault> {
+    fn end_fault(&self, root: &JsonValue<'static>) -> Option<Fault>
+        requires settled { (t : List ℕ) × (o : Opened) × Settled (document self.now (view root.now)) t o }
+        requires room { self.now.base + self.now.at < 2 ^ 64 }
+        ensures { (t : List ℕ) → (o : Opened) → (s : Settled (document self.now (view root.now)) t o)
+            → IsEndFault (document self.now (view root.now)) (kind_at_end s.apart o) result }
+    {
         match self.end_kind(root) {
             Some(kind) => Some(fault_at(kind, self.position())),
             None => None,
@@ -70,14 +89,24 @@ impl Reader {
         self.end_fault(root)
     }
 
-    fn has_value(&self) -> bool {
+    fn has_value(&self) -> bool
+        ensures { (v : Tree) → (t : List ℕ) → (o : Opened) → (s : Settled (document self.now v) t o)
+            → result ≡ is_some (shown (so_far s.apart o)) }
+    {
         0 < self.depth || self.shown || self.is_whole()
     }
 
     // A partial mode can fail at the end for two reasons: the string that it keeps is invalid, or there is no value
     // yet.
     #[inline(always)]
-    fn partial_fault(&self, root: &JsonValue<'static>) -> Option<Fault> {
+    fn partial_fault(&self, root: &JsonValue<'static>) -> Option<Fault>
+        requires arrived { (t : List ℕ) × HasArrived (document self.now (view root.now)) t }
+        requires room { self.now.base + self.now.at < 2 ^ 64 }
+        requires unset { self.now.fault ≡ None }
+        requires active { is_active self.now.settings.mode ≡ true }
+        ensures { (t : List ℕ) → HasArrived (document self.now (view root.now)) t
+            → AnswersSo self.now.settings t result (Some (view root.now)) }
+    {
         if self.keeps() && !self.shown {
             let index = self.begin + 1 + self.string.text().len();
             return Some(fault_at(FaultKind::InvalidUnicodeCodePoint, index));

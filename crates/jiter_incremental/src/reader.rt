@@ -124,6 +124,7 @@ impl Reader {
         ensures arrived { HasArrived (document result null) [] }
         ensures settings { result.settings ≡ settings }
         ensures start { (result.base ≡ 0) × (result.at ≡ 0) }
+        ensures closed { result.depth ≡ 0 }
     {
         Reader {
             alloc,

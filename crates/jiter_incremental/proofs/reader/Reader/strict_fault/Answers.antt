@@ -1,0 +1,19 @@
+use Rattle.std.proofs.Common.{[], Some, ◌∙◌, sym}
+use Rattle.jiter_incremental.specs.Document.{strictly}
+use Rattle.jiter_incremental.specs.Reader.{document}
+use Rattle.jiter_value.specs.Value.{view}
+use Rattle.jiter_incremental.proofs.Answering.{strict-told}
+use Rattle.jiter_incremental.proofs.Documents.Ends.{fault-found, none-found}
+use Rattle.jiter_incremental.proofs.reader.Reader.strict_fault.Goals as goal
+
+pub returns-then-is_some : goal.returns-then-is_some
+returns-then-is_some c = λ t h.
+    let i = c.args.self.now in
+    fault-found (strictly i.settings) t i.first h.read.opened (Some (view c.args.root.now)) (h.read.known.strict [] tt)
+    (sym c.is_some.ensures ∙ c.if-is_some.true)
+
+pub returns : goal.returns
+returns c = λ t h.
+    let d = document c.args.self.now (view c.args.root.now) in
+    let none = none-found d.first (sym c.is_some.ensures ∙ c.if-is_some.false) in
+    strict-told d t h none c.end_fault.result (λ s. c.end_fault.ensures t h.read.opened s)
