@@ -34,7 +34,7 @@ use Rattle.jiter_incremental.proofs.Between.{value-here}
 use Rattle.jiter_incremental.proofs.Documents.{begins-in, follows-byte, known-as, refuses, taken-between}
 use Rattle.jiter_incremental.proofs.Documents.Tokens.{decimal-starts, infinity-begins, infinity-first, name-denied}
 use Rattle.jiter_incremental.proofs.Documents.Tokens.{nan-begins, number-begins, range-first}
-use Rattle.jiter_incremental.proofs.Placing.{depth-of, number-put}
+use Rattle.jiter_incremental.proofs.Placing.{begins-there, depth-of, number-put}
 use Rattle.jiter_incremental.proofs.Settling.{apart-read, read-any, reads-apart, shown-nothing, steps-one}
 use Rattle.jiter_incremental.proofs.Slots.{filled-same}
 
@@ -106,24 +106,7 @@ module _ (level : ℕ) (chunk : List ℕ) (i : Reader) (v : Tree) (h : IsHere le
         }
 
     module _ (awaited : AwaitsValue level chunk i v) (other : is_blank c ≡ false) (low : level ≤ 200) where
-      -- A scalar begins there.
-      pub begins-at : (t : List ℕ) (outer : List OpenFrame) → IsAt level outer → HasReadTo chunk i (filled outer v) t
-          → (fs : List OpenFrame) × BeginsHere c (record (document i (filled outer v)) {
-            value = record (document i (filled outer v)).value { awaits = awaits.Value };
-          }) t fs
-      begins-at t outer at r =
-          let y = filled outer v in
-          let d = document i y in
-          let a = awaited.goes t outer at r in
-          let fs = a.0 in
-          let deep = depth-of i.depth y fs a.1.part in
-          let held = record d.value { awaits = awaits.Value } in (
-            fs,
-            begins-in d held c t (at_value awaits.Value fs) fs a.1.known h.unset r.position
-                (refl, tt, a.1.part, a.1.key) (omega (arith, deep, h.here, low)) (λ p u n here. value-here p u n c here other fs),
-          )
-
-      -- A name does where names are not allowed: it is refused.
+      -- A name is refused where none is allowed.
       pub name-refused : (k : Name) → NameBegins k c → i.settings.allow_inf_nan ≡ false
           → Steps level chunk i v (refused i fault_of.ExpectedSomeValue (i.base + i.at)) v 1
       name-refused k begins off =
@@ -142,7 +125,7 @@ module _ (level : ℕ) (chunk : List ℕ) (i : Reader) (v : Tree) (h : IsHere le
           (λ x unset. shown-nothing (document j x) none)
           (λ t outer at r.
           let d = document i (filled outer v) in
-          let b = begins-at t outer at r in
+          let b = begins-there level chunk i v h none awaited other low t outer at r in
           let held = record d { value = record d.value { awaits = awaits.Value } } in
           let o = in_scalar b.0 (length t) in
           let known = known-as (with_byte c) held d t o refl refl refl b.1.known in
@@ -192,7 +175,7 @@ module _ (level : ℕ) (chunk : List ℕ) (i : Reader) (v : Tree) (h : IsHere le
             (λ t outer at r.
             let d = document i (filled outer v) in
             let new = document k (filled outer v) in
-            let b = begins-at t outer at r in
+            let b = begins-there level chunk i v h none awaited other low t outer at r in
             let was = record d { value = record d.value { awaits = awaits.Value } } in
             let first = record was { number = n } in
             let o = in_scalar b.0 (length t) in

@@ -238,7 +238,7 @@ module _ (level : ℕ) (chunk : List ℕ) (i : Reader) (v : Tree) (h : IsHere le
           }
 
       -- A scalar begins there.
-      begins-there : level ≤ 200 → (t : List ℕ) (outer : List OpenFrame) → IsAt level outer
+      pub begins-there : level ≤ 200 → (t : List ℕ) (outer : List OpenFrame) → IsAt level outer
           → HasReadTo chunk i (filled outer v) t
           → (fs : List OpenFrame) × BeginsHere c (record (document i (filled outer v)) {
             value = record (document i (filled outer v)).value { awaits = awaits.Value };

@@ -49,18 +49,6 @@ use Rattle.jiter_incremental.proofs.Placing.{depth-of, put-there}
 use Rattle.jiter_incremental.proofs.Settling.{apart-read, read-any, reads-apart, shown-nothing, shown-word, steps-one}
 use Rattle.jiter_incremental.proofs.Slots.{filled-same}
 
--- Inside other containers the slot is one.
-pub container-here : (level : ℕ) (chunk : List ℕ) (i : Reader) (v : Tree) → IsHere level chunk i v → 0 < level
-    → IsContainer v
-container-here level chunk i v h some =
-    let t = h.read.0 in
-    let outer = h.read.1 in
-    let d = document i (filled outer v) in
-    let r = h.read.3.read in
-    let o = open-settled d t r.opened (r.held h.unset) (omega (arith, h.here, some)) in
-    let same = filled-same outer o.frames v (begun o.innermost) (omega (arith, o.deep, h.here, h.read.2, some)) o.is in
-    (o.innermost, same.1)
-
 -- ---- words
 
 module _ (level : ℕ) (chunk : List ℕ) (i : Reader) (v : Tree) (h : IsHere level chunk i v) (word : i.token ≡ token.Word)

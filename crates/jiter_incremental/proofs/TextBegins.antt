@@ -27,7 +27,8 @@ use Rattle.jiter_incremental.proofs.Documents.Bytes.{takes-here}
 use Rattle.jiter_incremental.proofs.Documents.Strings.{key-taken}
 use Rattle.jiter_incremental.proofs.Documents.Tokens.{follows-here, key-token, known-on, range-after, string-begins}
 use Rattle.jiter_incremental.proofs.Documents.WholeTexts.{text-follows, text-key, text-some}
-use Rattle.jiter_incremental.proofs.NumberBegins.{begins-at, shown-steps}
+use Rattle.jiter_incremental.proofs.NumberBegins.{shown-steps}
+use Rattle.jiter_incremental.proofs.Placing.{begins-there}
 use Rattle.jiter_incremental.proofs.Settling.{one-slice, read-any, reads-apart, shown-key, shown-nothing, steps-one}
 
 -- The buffer in which escapes are decoded is no part of a document.
@@ -88,7 +89,7 @@ module _ (level : ℕ) (chunk : List ℕ) (i : Reader) (v : Tree) (h : IsHere le
         (λ t outer at r.
         let d = document i (filled outer v) in
         let new = document k (filled outer v) in
-        let b = begins-at level chunk i v h none awaited other low t outer at r in
+        let b = begins-there level chunk i v h none awaited other low t outer at r in
         let held = record d { value = record d.value { awaits = awaits.Value } } in
         subst (λ x. HasTakenIn anything new (t ++ x)) (sym (one-slice chunk i.at h.inside))
         (string-begins held new t c b.0 b.1 record { settings = refl; fault = refl; first = refl } refl refl refl quote

@@ -6,7 +6,8 @@ use Rattle.jiter_incremental.specs.Reader.{Hides, Steps, refused}
 use Rattle.jiter_incremental.specs.declared.reader.Reader.{Reader}
 use Rattle.jiter_incremental.specs.Slot.{HasRoomAt}
 use Rattle.jiter_value.specs.Value.{view}
-use Rattle.jiter_incremental.proofs.StringSteps.{container-here, plain-run, quote-apart, quote-is, quote-steps}
+use Rattle.jiter_incremental.proofs.Showing.{container-here}
+use Rattle.jiter_incremental.proofs.StringSteps.{plain-run, quote-apart, quote-is, quote-steps}
 use Rattle.jiter_incremental.proofs.StringSteps.{taken-steps}
 use Rattle.jiter_incremental.proofs.StringSteps.{wrong-before, wrong-steps}
 use Rattle.jiter_incremental.proofs.reader.Reader.take_string.Goals as goal

@@ -6,7 +6,8 @@ use Rattle.jiter_incremental.specs.Slot.{IsPut}
 use Rattle.jiter_incremental.specs.declared.reader.Reader.{Reader}
 use Rattle.jiter_scan.specs.declared.errors.FaultKind.TheVariants as fault_of
 use Rattle.jiter_value.specs.Value.{view}
-use Rattle.jiter_incremental.proofs.StringSteps.{container-here, word-last, word-part, word-wrong}
+use Rattle.jiter_incremental.proofs.Showing.{container-here}
+use Rattle.jiter_incremental.proofs.StringSteps.{word-last, word-part, word-wrong}
 use Rattle.jiter_incremental.proofs.reader.Reader.take_word.Goals as goal
 
 pub put-requires : goal.put-requires
