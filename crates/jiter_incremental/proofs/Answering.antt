@@ -1,7 +1,7 @@
 -- What the bytes of a document answer that have arrived so far, of which the unfinished scalar may be in the value.
 use Rattle.std.proofs.Common.{◌≡◌, ℕ, ◌+◌, ◌≤◌, Bool, true, false, List, [], ◌∷◌, ◌++◌, length, refl, sym, subst, ap, ◌∙◌}
-use Rattle.std.proofs.Common.{arith, inl, inr}
-use Rattle.std.specs.Prelude.{◌&&◌, ◌||◌, not, is_some, option_map, string_bytes, Option, Some, None}
+use Rattle.std.proofs.Common.{arith}
+use Rattle.std.specs.Prelude.{◌&&◌, ◌||◌, not, is_some, option_map, Option, Some, None}
 use Rattle.std.specs.Str.{IsUtf8}
 use Rattle.std.proofs.lemmas.Bool.{false≢true}
 use Rattle.std.proofs.lemmas.Option.{none-some, same_Some}
@@ -17,7 +17,7 @@ use Rattle.jiter_steps.specs.PartialString.{HasTaken, Wherever, text_or}
 use Rattle.jiter_steps.specs.Read.{prefix_answer}
 use Rattle.jiter_steps.specs.Step.{end_kind_of}
 use Rattle.jiter_steps.specs.StringReading.{checked, content_at, kept}
-use Rattle.jiter_steps.specs.Tree.{Tree, array, items_of, members_of, object}
+use Rattle.jiter_steps.specs.Tree.{Tree}
 use Rattle.jiter_steps.specs.declared.parse.ContainerKind.{ContainerKind}
 use Rattle.jiter_steps.specs.declared.parse.ContainerKind.TheVariants as shape
 use Rattle.jiter_steps.specs.declared.partial_string.PartialString.{PartialString}
@@ -25,11 +25,11 @@ use Rattle.jiter_steps.proofs.OpenStrings.{ended}
 use Rattle.jiter_steps.proofs.OpenTexts.{is_text-broken, is_text-kept}
 use Rattle.jiter_incremental.specs.Arrived.{Arrived, IsLeft, OpenValue, at_end, at_value, between_parts, end_of, owned, shown}
 use Rattle.jiter_incremental.specs.Between.{after_value}
-use Rattle.jiter_incremental.specs.Document.{Comes, Document, EndsRight, HasArrived, HasCome, HasMoved, HasReadIn, Holding, IsMoved, IsShown, Known}
-use Rattle.jiter_incremental.specs.Document.{Next, Opened, ReadsAt, Settled, anything, between_tokens, in_key, in_scalar, is_shown, opened_to}
-use Rattle.jiter_incremental.specs.Document.{shown_as, strictly, token_tree, with_parts}
+use Rattle.jiter_incremental.specs.Document.{Comes, Document, EndsRight, HasArrived, HasCome, IsMoved, Known}
+use Rattle.jiter_incremental.specs.Document.{Opened, ReadsAt, Settled, anything, between_tokens, in_key, in_scalar, is_shown, opened_to}
+use Rattle.jiter_incremental.specs.Document.{shown_as, strictly, token_tree}
 use Rattle.jiter_incremental.specs.Ends.{AnswersSo, IsEndFault, IsInside, KeepsText, broken_as, is_broken, kind_as, kind_at_end, so_far}
-use Rattle.jiter_incremental.specs.Slot.{OpenFrame, begun, filled}
+use Rattle.jiter_incremental.specs.Slot.{OpenFrame, filled}
 use Rattle.jiter_value.specs.Settings.{rules_as}
 use Rattle.jiter_value.specs.Value.{view}
 use Rattle.jiter_incremental.specs.declared.reader.Awaits.TheVariants as awaits

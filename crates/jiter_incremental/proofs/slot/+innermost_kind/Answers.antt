@@ -1,7 +1,5 @@
-use Rattle.std.proofs.Common.{◌≡◌, ◌-◌, ◌<◌, ◌∙◌, refl, sym, ap, arith, vec_len}
+use Rattle.std.proofs.Common.{◌-◌, ◌∙◌, refl, sym, ap, arith}
 use Rattle.std.specs.Vec.{with_item}
-use Rattle.jiter_incremental.specs.Slot.{filled}
-use Rattle.jiter_value.specs.Stacks.{built}
 use Rattle.jiter_value.specs.Value.{view}
 use Rattle.jiter_incremental.proofs.Innermost.{none-other, outermost}
 use Rattle.jiter_incremental.proofs.Slots.{array-place, array-swapped, object-place, object-swapped}
