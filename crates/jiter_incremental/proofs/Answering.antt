@@ -1,5 +1,6 @@
 -- What the bytes of a document answer that have arrived so far, of which the unfinished scalar may be in the value.
-use Rattle.std.proofs.Common.{◌≡◌, ℕ, ◌+◌, ◌≤◌, Bool, true, false, List, [], ◌∷◌, ◌++◌, length, refl, sym, subst, ap, ◌∙◌}
+use Rattle.std.proofs.Common.{◌≡◌, ℕ, ◌+◌, ◌≤◌, Bool, true, false, List, [], ◌∷◌, ◌++◌, length, refl, sym, subst, ap}
+use Rattle.std.proofs.Common.{◌∙◌}
 use Rattle.std.proofs.Common.{arith}
 use Rattle.std.specs.Prelude.{◌&&◌, ◌||◌, not, is_some, option_map, Option, Some, None}
 use Rattle.std.specs.Str.{IsUtf8}
@@ -23,12 +24,15 @@ use Rattle.jiter_steps.specs.declared.parse.ContainerKind.TheVariants as shape
 use Rattle.jiter_steps.specs.declared.partial_string.PartialString.{PartialString}
 use Rattle.jiter_steps.proofs.OpenStrings.{ended}
 use Rattle.jiter_steps.proofs.OpenTexts.{is_text-broken, is_text-kept}
-use Rattle.jiter_incremental.specs.Arrived.{Arrived, IsLeft, OpenValue, at_end, at_value, between_parts, end_of, owned, shown}
+use Rattle.jiter_incremental.specs.Arrived.{Arrived, IsLeft, OpenValue, at_end, at_value, between_parts, end_of, owned}
+use Rattle.jiter_incremental.specs.Arrived.{shown}
 use Rattle.jiter_incremental.specs.Between.{after_value}
 use Rattle.jiter_incremental.specs.Document.{Comes, Document, EndsRight, HasArrived, HasCome, IsMoved, Known}
-use Rattle.jiter_incremental.specs.Document.{Opened, ReadsAt, Settled, anything, between_tokens, in_key, in_scalar, is_shown, opened_to}
+use Rattle.jiter_incremental.specs.Document.{Opened, ReadsAt, Settled, anything, between_tokens, in_key, in_scalar}
+use Rattle.jiter_incremental.specs.Document.{is_shown, opened_to}
 use Rattle.jiter_incremental.specs.Document.{shown_as, strictly, token_tree}
-use Rattle.jiter_incremental.specs.Ends.{AnswersSo, IsEndFault, IsInside, KeepsText, broken_as, is_broken, kind_as, kind_at_end, so_far}
+use Rattle.jiter_incremental.specs.Ends.{AnswersSo, IsEndFault, IsInside, KeepsText, broken_as, is_broken, kind_as}
+use Rattle.jiter_incremental.specs.Ends.{kind_at_end, so_far}
 use Rattle.jiter_incremental.specs.Slot.{OpenFrame, filled}
 use Rattle.jiter_value.specs.Settings.{rules_as}
 use Rattle.jiter_value.specs.Value.{view}
@@ -52,7 +56,8 @@ left-tree v (between_parts b k xs fs) h w is = h.3 ∙ same_Some _ _ is
 left-tree v (at_end x n) h w is = h.2 ∙ same_Some _ _ is
 
 -- and so is what is left after a value that stands there.
-after-tree : (v x : Tree) (fs : List OpenFrame) → v ≡ filled fs x → (w : Tree) → shown (after_value x fs) ≡ Some w → v ≡ w
+after-tree : (v x : Tree) (fs : List OpenFrame) → v ≡ filled fs x → (w : Tree) → shown (after_value x fs) ≡ Some w
+    → v ≡ w
 after-tree v x [] h w is = h ∙ same_Some _ _ is
 after-tree v x (items_frame xs ∷ fs) h w is = h ∙ same_Some _ _ is
 after-tree v x (members_frame ms k ∷ fs) h w is = h ∙ same_Some _ _ is
@@ -191,7 +196,8 @@ strict-told d t h none r end =
 -- ---- in a partial mode
 
 -- What is held of a string is read so, where it is cut.
-kept-text : (s : PartialString) → IsUtf8 s.text.text → (w : List ℕ) (h : HasTaken s w) → Wherever w (λ t i j. length t ≡ j
+kept-text : (s : PartialString) → IsUtf8 s.text.text → (w : List ℕ) (h : HasTaken s w)
+    → Wherever w (λ t i j. length t ≡ j
     → content_at kept t i ≡ text_or (not s.text.broken) i (h.escaped || is_some s.escape) s.text.text j)
 kept-text s utf8 w h t i stands end = (ended s w h t i stands end).0 ∙ by s.text.broken refl where
   own : Bool
@@ -221,7 +227,8 @@ shows-apart d t o s shows is on =
 -- so its characters are UTF-8
 shown-utf8 : (d : Document) (t : List ℕ) (o : Opened) (s : Settled d t o) (v : JsonValue) → d.value.tree ≡ view v
     → s.apart.token ≡ token.Text → d.shown ≡ true → IsUtf8 s.apart.string.text.text
-shown-utf8 d t (between_tokens a) s v root is on = let no : token.Text ≡ token.Nothing = sym is ∙ s.held.0 in absurd (cc)
+shown-utf8 d t (between_tokens a) s v root is on =
+    let no : token.Text ≡ token.Nothing = sym is ∙ s.held.0 in absurd (cc)
 shown-utf8 d t (in_key fs ms b) s v root is on = let no : token.Text ≡ token.Key = sym is ∙ s.held.2 in absurd (cc)
 shown-utf8 d t (in_scalar fs b) s v root is on =
     let left = s.held.3 in
@@ -247,7 +254,8 @@ broken-so d t o s is on hidden =
     let text = sym (token-is d t o s) ∙ is in
     let allows = sym (ap (λ p. allows_trailing_strings p.mode) (settings-are d t o s)) ∙ on in
     let shows = sym hidden ∙ s.shows ∙ ap (shown_as s.apart) text in
-    ap (broken_as s.apart) text ∙ by (allows_trailing_strings s.apart.settings.mode) s.apart.string.text.broken allows shows where
+    ap (broken_as s.apart) text
+    ∙ by (allows_trailing_strings s.apart.settings.mode) s.apart.string.text.broken allows shows where
       by : (a b : Bool) → a ≡ true → false ≡ (a && not b) → (a && b) ≡ true
       by true true h e = refl
       by true false h e = absurd (false≢true e)
@@ -297,7 +305,8 @@ module _ (d : Document) (t : List ℕ) (h : HasArrived d t) (unset : d.fault ≡
             same k.strict;
         ends = subst (λ (x : Document). x.first ≡ None → EndsRight t o) same k.ends;
         noted = subst (λ (x : Document). x.first ≡ None → x.fault ≡ None) same k.noted;
-        same = subst (λ (x : Document). is_active x.settings.mode ≡ false → x.fault ≡ None → x.first ≡ None) same k.same;
+        same = subst (λ (x : Document). is_active x.settings.mode ≡ false → x.fault ≡ None → x.first ≡ None)
+            same k.same;
       }
 
   come-apart : HasCome e t
@@ -335,8 +344,8 @@ module _ (d : Document) (t : List ℕ) (h : HasArrived d t) (unset : d.fault ≡
         let text : length d.string.text.text ≡ length e.string.text.text =
         ap (λ (n : PartialString). length n.text.text) (hidden-so d t o settled hidden).1 in
         told (Some f) (Some d.value.tree)
-        (broken-answered e t o (Some d.value.tree) f (d.begin + 1 + length d.string.text.text) on-apart settled.held keeps
-        bad led (omega (arith, begin, text)) made)
+        (broken-answered e t o (Some d.value.tree) f (d.begin + 1 + length d.string.text.text) on-apart settled.held
+        keeps bad led (omega (arith, begin, text)) made)
 
     pub value-told : KeepsText e → is_broken e ≡ false → is_some far ≡ true
         → AnswersSo d.settings t None (Some d.value.tree)

@@ -64,7 +64,8 @@ innermost_kind-requires-in-Object t c =
     let n = c.len-in-Object.result - 1 in
     let m = c.index-in-Object.result.now in
     let held = sym (ap view c.in-Object.is) ∙ o.is in
-    let seen = object-swapped v (with_item v n (m.0, m.1)) n m m.1 place c.index-in-Object.ensures refl o.frame _ held in
+    let seen =
+    object-swapped v (with_item v n (m.0, m.1)) n m m.1 place c.index-in-Object.ensures refl o.frame _ held in
     (omega (arith, r.3, o.deep), (r.0, r.1, o.others, o.deep, seen.1))
 
 pub unreachable-requires : goal.unreachable-requires
@@ -95,5 +96,6 @@ returns-in-Object t c = λ h xs fs deep is.
     let n = c.len-in-Object.result - 1 in
     let m = c.index-in-Object.result.now in
     let held = sym (ap view c.in-Object.is) ∙ o.is in
-    let seen = object-swapped v (with_item v n (m.0, m.1)) n m m.1 place c.index-in-Object.ensures refl o.frame _ held in
+    let seen =
+    object-swapped v (with_item v n (m.0, m.1)) n m m.1 place c.index-in-Object.ensures refl o.frame _ held in
     c.innermost_kind-in-Object.ensures h xs o.others o.deep seen.1

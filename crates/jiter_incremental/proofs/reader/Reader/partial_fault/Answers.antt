@@ -62,5 +62,6 @@ returns c = λ t h.
       | else-keeps-via-else-keeps w ↦
           absurd (false≢true (sym w.if-keeps.false ∙ c.keeps.ensures.text is ∙ on))
     ] in
-    none-told d t h unset c.requires.active c.end_fault.result (keeps-shown d t o s v refl shows) (good-so d t o s shows)
+    none-told d t h unset c.requires.active c.end_fault.result (keeps-shown d t o s v refl shows)
+    (good-so d t o s shows)
     (sym (c.has_value.ensures (view v) t o s) ∙ c.if-has_value.false) (c.end_fault.ensures t o s)
