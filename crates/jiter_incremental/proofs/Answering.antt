@@ -1,7 +1,8 @@
 -- What the bytes of a document answer that have arrived so far, of which the unfinished scalar may be in the value.
-use Rattle.std.proofs.Common.{◌≡◌, ℕ, ◌+◌, ◌≤◌, Bool, true, false, List, [], ◌∷◌, ◌++◌, length, refl, sym, subst, ap, ◌∙◌}
-use Rattle.std.proofs.Common.{arith, inl, inr}
-use Rattle.std.specs.Prelude.{◌&&◌, ◌||◌, not, is_some, option_map, string_bytes, Option, Some, None}
+use Rattle.std.proofs.Common.{◌≡◌, ℕ, ◌+◌, ◌≤◌, Bool, true, false, List, [], ◌∷◌, ◌++◌, length, refl, sym, subst, ap}
+use Rattle.std.proofs.Common.{◌∙◌}
+use Rattle.std.proofs.Common.{arith}
+use Rattle.std.specs.Prelude.{◌&&◌, ◌||◌, not, is_some, option_map, Option, Some, None}
 use Rattle.std.specs.Str.{IsUtf8}
 use Rattle.std.proofs.lemmas.Bool.{false≢true}
 use Rattle.std.proofs.lemmas.Option.{none-some, same_Some}
@@ -13,30 +14,36 @@ use Rattle.jiter_scan.specs.declared.errors.Fault.{Fault}
 use Rattle.jiter_scan.specs.declared.errors.FaultKind.{FaultKind}
 use Rattle.jiter_scan.specs.declared.errors.FaultKind.TheVariants as fault_of
 use Rattle.jiter_steps.specs.Frames.{items_frame, members_frame}
-use Rattle.jiter_steps.specs.PartialString.{HasTaken, text_or}
+use Rattle.jiter_steps.specs.PartialString.{HasTaken, Wherever, text_or}
 use Rattle.jiter_steps.specs.Read.{prefix_answer}
 use Rattle.jiter_steps.specs.Step.{end_kind_of}
-use Rattle.jiter_steps.specs.StringReading.{checked}
-use Rattle.jiter_steps.specs.Tree.{Tree, array, items_of, members_of, object}
+use Rattle.jiter_steps.specs.StringReading.{checked, content_at, kept}
+use Rattle.jiter_steps.specs.Tree.{Tree}
 use Rattle.jiter_steps.specs.declared.parse.ContainerKind.{ContainerKind}
 use Rattle.jiter_steps.specs.declared.parse.ContainerKind.TheVariants as shape
 use Rattle.jiter_steps.specs.declared.partial_string.PartialString.{PartialString}
 use Rattle.jiter_steps.proofs.OpenStrings.{ended}
 use Rattle.jiter_steps.proofs.OpenTexts.{is_text-broken, is_text-kept}
-use Rattle.jiter_incremental.specs.Arrived.{Arrived, IsLeft, OpenValue, at_end, at_value, between_parts, end_of, owned, shown}
+use Rattle.jiter_incremental.specs.Arrived.{Arrived, IsLeft, OpenValue, at_end, at_value, between_parts, end_of, owned}
+use Rattle.jiter_incremental.specs.Arrived.{shown}
 use Rattle.jiter_incremental.specs.Between.{after_value}
-use Rattle.jiter_incremental.specs.Document.{Document, EndsRight, HasArrived, HasCome, HasMoved, HasReadIn, Holding, IsMoved, IsShown, Known}
-use Rattle.jiter_incremental.specs.Document.{Next, Opened, ReadsAt, Settled, anything, between_tokens, in_key, in_scalar, is_shown, opened_to}
-use Rattle.jiter_incremental.specs.Document.{shown_as, strictly, token_tree, with_parts}
-use Rattle.jiter_incremental.specs.Ends.{AnswersSo, IsEndFault, IsInside, KeepsText, broken_as, is_broken, kind_as, kind_at_end, so_far}
-use Rattle.jiter_incremental.specs.Slot.{OpenFrame, begun, filled}
+use Rattle.jiter_incremental.specs.Document.{Comes, Document, EndsRight, HasArrived, HasCome, IsMoved, Known}
+use Rattle.jiter_incremental.specs.Document.{Opened, ReadsAt, Settled, anything, between_tokens, in_key, in_scalar}
+use Rattle.jiter_incremental.specs.Document.{is_shown, opened_to}
+use Rattle.jiter_incremental.specs.Document.{shown_as, strictly, token_tree}
+use Rattle.jiter_incremental.specs.Ends.{AnswersSo, IsEndFault, IsInside, KeepsText, broken_as, is_broken, kind_as}
+use Rattle.jiter_incremental.specs.Ends.{kind_at_end, so_far}
+use Rattle.jiter_incremental.specs.Slot.{OpenFrame, filled}
 use Rattle.jiter_value.specs.Settings.{rules_as}
+use Rattle.jiter_value.specs.Value.{view}
 use Rattle.jiter_incremental.specs.declared.reader.Awaits.TheVariants as awaits
 use Rattle.jiter_incremental.specs.declared.reader.Token.{Token}
 use Rattle.jiter_incremental.specs.declared.reader.Token.TheVariants as token
 use Rattle.jiter_value.specs.declared.settings.Settings.{Settings}
+use Rattle.jiter_value.specs.declared.value.JsonValue.{JsonValue}
 use Rattle.jiter_incremental.proofs.Documents.Ends.{broken-answered, broken-low, none-answered}
 use Rattle.jiter_incremental.proofs.Documents.Ends.{nothing-comes, partial-answers, strict-answers, value-answered}
+use Rattle.jiter_incremental.proofs.Innermost.{inside-of, utf8-of}
 use Rattle.jiter_incremental.proofs.Settling.{shown-key, shown-nothing}
 
 -- ---- the value so far
@@ -49,7 +56,8 @@ left-tree v (between_parts b k xs fs) h w is = h.3 ∙ same_Some _ _ is
 left-tree v (at_end x n) h w is = h.2 ∙ same_Some _ _ is
 
 -- and so is what is left after a value that stands there.
-after-tree : (v x : Tree) (fs : List OpenFrame) → v ≡ filled fs x → (w : Tree) → shown (after_value x fs) ≡ Some w → v ≡ w
+after-tree : (v x : Tree) (fs : List OpenFrame) → v ≡ filled fs x → (w : Tree) → shown (after_value x fs) ≡ Some w
+    → v ≡ w
 after-tree v x [] h w is = h ∙ same_Some _ _ is
 after-tree v x (items_frame xs ∷ fs) h w is = h ∙ same_Some _ _ is
 after-tree v x (members_frame ms k ∷ fs) h w is = h ∙ same_Some _ _ is
@@ -184,3 +192,172 @@ strict-told d t h none r end =
     (strict-answers s.apart t (sym place ∙ h.position) o r s.held (k.ends none)
     (end-moved d s.apart (kind_at_end s.apart o) r place (end s))
     (subst (λ q. prefix_answer (rules_as owned (strictly q)) t ≡ opened_to (strictly q) t o (length t)) same led)))
+
+-- ---- in a partial mode
+
+-- What is held of a string is read so, where it is cut.
+kept-text : (s : PartialString) → IsUtf8 s.text.text → (w : List ℕ) (h : HasTaken s w)
+    → Wherever w (λ t i j. length t ≡ j
+    → content_at kept t i ≡ text_or (not s.text.broken) i (h.escaped || is_some s.escape) s.text.text j)
+kept-text s utf8 w h t i stands end = (ended s w h t i stands end).0 ∙ by s.text.broken refl where
+  own : Bool
+  own = h.escaped || is_some s.escape
+
+  j : ℕ
+  j = i + length w
+
+  by : (b : Bool) → s.text.broken ≡ b
+      → checked true i own h.decoded j ≡ text_or (not s.text.broken) i own s.text.text j
+  by false is =
+      is_text-kept s.text h.decoded utf8 i j own h.holds is true refl
+      ∙ ap (λ b. text_or (not b) i own s.text.text j) (sym is)
+  by true is =
+      is_text-broken s.text h.decoded utf8 i j own h.holds is true true refl
+      ∙ ap (λ b. text_or (not b) i own s.text.text j) (sym is)
+
+-- the string that is kept is in the value so far
+abbrev pub ShowsText : Document → Type 0
+ShowsText d = d.token ≡ token.Text → allows_trailing_strings d.settings.mode ≡ true → d.shown ≡ true
+
+shows-apart : (d : Document) (t : List ℕ) (o : Opened) (s : Settled d t o) → ShowsText d → s.apart.token ≡ token.Text
+    → allows_trailing_strings s.apart.settings.mode ≡ true → d.shown ≡ true
+shows-apart d t o s shows is on =
+    shows (token-is d t o s ∙ is) (ap (λ p. allows_trailing_strings p.mode) (settings-are d t o s) ∙ on)
+
+-- so its characters are UTF-8
+shown-utf8 : (d : Document) (t : List ℕ) (o : Opened) (s : Settled d t o) (v : JsonValue) → d.value.tree ≡ view v
+    → s.apart.token ≡ token.Text → d.shown ≡ true → IsUtf8 s.apart.string.text.text
+shown-utf8 d t (between_tokens a) s v root is on =
+    let no : token.Text ≡ token.Nothing = sym is ∙ s.held.0 in absurd (cc)
+shown-utf8 d t (in_key fs ms b) s v root is on = let no : token.Text ≡ token.Key = sym is ∙ s.held.2 in absurd (cc)
+shown-utf8 d t (in_scalar fs b) s v root is on =
+    let left = s.held.3 in
+    let m = moved-so d t (in_scalar fs b) s on in
+    let y = inside-of fs v (token_tree s.apart s.apart.token) (sym root ∙ (m.1.value fs left.2 left.3).1) in
+    utf8-of y.0 s.apart.string.text.text (y.1 ∙ ap (token_tree s.apart) is)
+
+pub keeps-shown : (d : Document) (t : List ℕ) (o : Opened) (s : Settled d t o) (v : JsonValue) → d.value.tree ≡ view v
+    → ShowsText d → KeepsText s.apart
+keeps-shown d t o s v root shows = λ is on.
+    kept-text s.apart.string (shown-utf8 d t o s v root is (shows-apart d t o s shows is on))
+
+-- or those that are held are.
+pub keeps-hidden : (d : Document) (t : List ℕ) (o : Opened) (s : Settled d t o) → d.shown ≡ false
+    → IsUtf8 d.string.text.text → KeepsText s.apart
+keeps-hidden d t o s hidden utf8 = λ is on.
+    kept-text s.apart.string (subst (λ (n : PartialString). IsUtf8 n.text.text) (hidden-so d t o s hidden).1 utf8)
+
+-- It is broken, or it isn't.
+pub broken-so : (d : Document) (t : List ℕ) (o : Opened) (s : Settled d t o) → d.token ≡ token.Text
+    → allows_trailing_strings d.settings.mode ≡ true → d.shown ≡ false → is_broken s.apart ≡ true
+broken-so d t o s is on hidden =
+    let text = sym (token-is d t o s) ∙ is in
+    let allows = sym (ap (λ p. allows_trailing_strings p.mode) (settings-are d t o s)) ∙ on in
+    let shows = sym hidden ∙ s.shows ∙ ap (shown_as s.apart) text in
+    ap (broken_as s.apart) text
+    ∙ by (allows_trailing_strings s.apart.settings.mode) s.apart.string.text.broken allows shows where
+      by : (a b : Bool) → a ≡ true → false ≡ (a && not b) → (a && b) ≡ true
+      by true true h e = refl
+      by true false h e = absurd (false≢true e)
+      by false b h e = absurd (false≢true h)
+
+pub good-so : (d : Document) (t : List ℕ) (o : Opened) (s : Settled d t o) → ShowsText d → is_broken s.apart ≡ false
+good-so d t o s shows = by s.apart.token refl where
+  both : (a b : Bool) → (a ≡ true → (a && not b) ≡ true) → (a && b) ≡ false
+  both false b h = refl
+  both true false h = refl
+  both true true h = absurd (false≢true (h refl))
+
+  by : (k : Token) → s.apart.token ≡ k → broken_as s.apart k ≡ false
+  by token.Text is =
+      both (allows_trailing_strings s.apart.settings.mode) s.apart.string.text.broken
+      (λ on. sym (ap (shown_as s.apart) is) ∙ sym s.shows ∙ shows-apart d t o s shows is on)
+  by token.Nothing is = refl
+  by token.Word is = refl
+  by token.Number is = refl
+  by token.Key is = refl
+
+module _ (d : Document) (t : List ℕ) (h : HasArrived d t) (unset : d.fault ≡ None) where
+  abbrev o : Opened
+  o = h.read.opened
+
+  abbrev settled : Settled d t o
+  settled = h.read.held unset
+
+  abbrev e : Document
+  e = settled.apart
+
+  abbrev far : Option Tree
+  far = shown (so_far e o)
+
+  led : prefix_answer (rules_as owned e.settings) t ≡ opened_to e.settings t o (length t)
+  led =
+      subst (λ q. prefix_answer (rules_as owned q) t ≡ opened_to q t o (length t)) (settings-are d t o settled)
+      (nothing-comes d.settings t o (subst (λ f. ReadsAt d.settings t [] f o) unset (h.read.known.mode [] tt)))
+
+  known-apart : Known anything e t o
+  known-apart =
+      let k = h.read.known in
+      let same = settled.same in
+      record {
+        mode = subst (λ (x : Document). (u : List ℕ) → Comes anything u → ReadsAt x.settings t u x.fault o) same k.mode;
+        strict = subst (λ (x : Document). (u : List ℕ) → Comes anything u → ReadsAt (strictly x.settings) t u x.first o)
+            same k.strict;
+        ends = subst (λ (x : Document). x.first ≡ None → EndsRight t o) same k.ends;
+        noted = subst (λ (x : Document). x.first ≡ None → x.fault ≡ None) same k.noted;
+        same = subst (λ (x : Document). is_active x.settings.mode ≡ false → x.fault ≡ None → x.first ≡ None)
+            same k.same;
+      }
+
+  come-apart : HasCome e t
+  come-apart = record {
+    read = record { opened = o; known = known-apart; held = λ none. settled.held };
+    position = sym (position-is d t o settled) ∙ h.position;
+  }
+
+  unset-apart : e.fault ≡ None
+  unset-apart = sym (ap (λ (x : Document). x.fault) settled.same) ∙ unset
+
+  abbrev place : d.position ≡ e.position
+  place = position-is d t o settled
+
+  told : (r : Option Fault) (v : Option Tree) → AnswersSo e.settings t r v → AnswersSo d.settings t r v
+  told r v a = subst (λ q. AnswersSo q t r v) (sym (settings-are d t o settled)) a
+
+  -- where the string is broken that is kept
+  pub broken-index : d.shown ≡ false → is_broken e ≡ true → d.begin + 1 + length d.string.text.text ≤ d.position
+  broken-index hidden bad =
+      let begin : d.begin ≡ e.begin = ap (λ (x : Document). x.begin) settled.same in
+      let text : length d.string.text.text ≡ length e.string.text.text =
+      ap (λ (n : PartialString). length n.text.text) (hidden-so d t o settled hidden).1 in
+      omega (arith, broken-low e t come-apart unset-apart bad, begin, text, place)
+
+  module _ (on : is_active d.settings.mode ≡ true) where
+    on-apart : is_active e.settings.mode ≡ true
+    on-apart = sym (ap (λ p. is_active p.mode) (settings-are d t o settled)) ∙ on
+
+    pub broken-told : (f : Fault) → d.shown ≡ false → KeepsText e → is_broken e ≡ true
+        → f ≡ record { kind = fault_of.InvalidUnicodeCodePoint; index = d.begin + 1 + length d.string.text.text }
+        → AnswersSo d.settings t (Some f) (Some d.value.tree)
+    broken-told f hidden keeps bad made =
+        let begin : d.begin ≡ e.begin = ap (λ (x : Document). x.begin) settled.same in
+        let text : length d.string.text.text ≡ length e.string.text.text =
+        ap (λ (n : PartialString). length n.text.text) (hidden-so d t o settled hidden).1 in
+        told (Some f) (Some d.value.tree)
+        (broken-answered e t o (Some d.value.tree) f (d.begin + 1 + length d.string.text.text) on-apart settled.held
+        keeps bad led (omega (arith, begin, text)) made)
+
+    pub value-told : KeepsText e → is_broken e ≡ false → is_some far ≡ true
+        → AnswersSo d.settings t None (Some d.value.tree)
+    value-told keeps good some =
+        root-told d.settings t None far d.value.tree (root-so d t o settled)
+        (told None far
+        (value-answered e t far (kind_at_end e o) some (partial-answers e t on-apart o settled.held keeps good led)))
+
+    pub none-told : (r : Option Fault) → KeepsText e → is_broken e ≡ false → is_some far ≡ false
+        → IsEndFault d (kind_at_end e o) r → AnswersSo d.settings t r (Some d.value.tree)
+    none-told r keeps good none end =
+        root-told d.settings t r far d.value.tree (root-so d t o settled)
+        (told r far
+        (none-answered e t far (kind_at_end e o) r none (end-moved d e (kind_at_end e o) r place end)
+        (sym place ∙ h.position) (partial-answers e t on-apart o settled.held keeps good led)))

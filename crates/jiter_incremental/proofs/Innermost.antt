@@ -1,8 +1,15 @@
 -- The innermost of the open containers of a value that comes in chunks.
-use Rattle.std.proofs.Common.{◌≡◌, ℕ, ◌+◌, ◌-◌, ◌<◌, List, [], ◌∷◌, ◌++◌, length, refl, sym, ap, ◌∙◌, arith, take, length-append, Vec, rules}
+use Rattle.std.proofs.Common.{◌≡◌, ℕ, ◌+◌, ◌-◌, List, [], ◌∷◌, length, refl, sym, ap, ◌∙◌, arith, take, length-append}
+use Rattle.std.proofs.Common.{Vec, rules, subst}
 use Rattle.std.specs.declared.alloc.Global.{Global}
 use Rattle.std.specs.declared.borrow.CowStr.{CowStr}
-use Rattle.jiter_steps.specs.Tree.{Tree}
+use Rattle.std.specs.declared.borrow.CowStr.TheVariants as text
+use Rattle.std.specs.Str.{IsUtf8}
+use Rattle.std.proofs.lemmas.Bool.{false≢true}
+use Rattle.std.proofs.lemmas.Str.{IsUtf8-string_bytes}
+use Rattle.jiter_steps.specs.StringDecoder.{text_view}
+use Rattle.jiter_incremental.specs.Between.{text_of}
+use Rattle.jiter_steps.specs.Tree.{Text, Tree, string}
 use Rattle.jiter_steps.specs.declared.parse.ContainerKind.{ContainerKind}
 use Rattle.jiter_incremental.specs.Slot.{OpenFrame, around, filled}
 use Rattle.jiter_value.specs.Stacks.{Member, PartTree, built}
@@ -47,6 +54,9 @@ back-object v w is = search (rules, the_lemmas)
 back-str : (v : JsonValue) (s : CowStr Global) → out-JsonValue v ≡ JsonValue-F.Str s → v ≡ Str s
 back-str v s is = search (rules, the_lemmas)
 
+out-str : (s : CowStr Global) → out-JsonValue (Str s) ≡ JsonValue-F.Str s
+out-str s = search (rules, the_lemmas)
+
 -- the last part of a container
 part-of : (v : JsonValue) (f : OpenFrame) (x : Tree) → view v ≡ around f x → (y : JsonValue) × (view y ≡ x)
 part-of v f x h = by (out-JsonValue v) refl where
@@ -74,3 +84,32 @@ part-of v f x h = by (out-JsonValue v) refl where
 pub inside-of : (fs : List OpenFrame) (v : JsonValue) (x : Tree) → view v ≡ filled fs x → (y : JsonValue) × (view y ≡ x)
 inside-of [] v x h = (v, h)
 inside-of (f ∷ fs) v x h = let r = inside-of fs v (around f x) h in part-of r.0 f x r.1
+
+-- A string of its own is UTF-8.
+none-string : (v : JsonValue) (s : Text) → view v ≡ string s → ((w : CowStr Global) → v ≡ Str w → ⊥) → ⊥
+none-string v s is no-string = search (rules, the_lemmas)
+
+string-same : (a b : Text) → string a ≡ string b → a ≡ b
+string-same a b h = cc
+
+owned-utf8 : (s : CowStr Global) (u : List ℕ) → text_view s ≡ text_of u → IsUtf8 u
+owned-utf8 (text.Owned s) u h = subst IsUtf8 (ap (λ (w : Text). w.bytes) h) (IsUtf8-string_bytes s)
+owned-utf8 (text.Borrowed r) u h = absurd (false≢true (ap (λ (w : Text). w.owned) h))
+
+pub utf8-of : (v : JsonValue) (u : List ℕ) → view v ≡ string (text_of u) → IsUtf8 u
+utf8-of v u h = by (out-JsonValue v) refl where
+  other : (y : JsonValue-F JsonValue) → out-JsonValue v ≡ y
+      → ((w : CowStr Global) → y ≡ JsonValue-F.Str w → ⊥) → ⊥
+  other y is no-string =
+      none-string v (text_of u) h (λ w e. no-string w (sym is ∙ ap out-JsonValue e ∙ out-str w))
+
+  by : (y : JsonValue-F JsonValue) → out-JsonValue v ≡ y → IsUtf8 u
+  by (JsonValue-F.Str s) is =
+      owned-utf8 s u (string-same (text_view s) (text_of u) (sym (view_str s) ∙ ap view (sym (back-str v s is)) ∙ h))
+  by JsonValue-F.Null is = absurd (other _ is (λ w e. absurd (cc)))
+  by (JsonValue-F.Bool b) is = absurd (other _ is (λ w e. absurd (cc)))
+  by (JsonValue-F.Int b) is = absurd (other _ is (λ w e. absurd (cc)))
+  by (JsonValue-F.BigInt b) is = absurd (other _ is (λ w e. absurd (cc)))
+  by (JsonValue-F.Float b) is = absurd (other _ is (λ w e. absurd (cc)))
+  by (JsonValue-F.Array b) is = absurd (other _ is (λ w e. absurd (cc)))
+  by (JsonValue-F.Object b) is = absurd (other _ is (λ w e. absurd (cc)))

@@ -1,5 +1,5 @@
 -- What a parser of a document that comes in chunks answers.
-use Rattle.std.proofs.Common.{◌≡◌, Bool, ℕ, List, inr, refl, sym, ap, ap₂, ◌∙◌, subst}
+use Rattle.std.proofs.Common.{◌≡◌, ℕ, List, inr, refl, sym, ap, ap₂, ◌∙◌}
 use Rattle.std.specs.Prelude.{Option, Some, None, Ok, Err}
 use Rattle.std.proofs.lemmas.Option.{same_Some}
 use Rattle.jiter_scan.specs.Kind.{fault_kind, kind_of}
@@ -17,7 +17,7 @@ use Rattle.jiter_value.specs.declared.settings.Settings.{Settings}
 use Rattle.jiter_value.specs.declared.value.JsonValue.{JsonValue}
 use Rattle.jiter_value.proofs.MadeTexts.{answer_as-is}
 use Rattle.jiter_value.proofs.ParsedBy as parsed
-use Rattle.jiter_value.proofs.ParsedDocuments.{laws, parses, parses-same}
+use Rattle.jiter_value.proofs.ParsedDocuments.{laws, parses}
 
 -- What every parse promises, once the answer is told: the value,
 module _ (p : Settings) (t : List ℕ) where

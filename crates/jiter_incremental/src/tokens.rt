@@ -90,6 +90,7 @@ impl Reader {
     pub(crate) fn keeps(&self) -> bool
         ensures text { self.now.token ≡ token_kind.Text → result ≡ allows_trailing_strings self.now.settings.mode }
         ensures key { self.now.token ≡ token_kind.Key → result ≡ false }
+        ensures only { result ≡ true → self.now.token ≡ token_kind.Text }
     {
         matches!(self.token, Token::Text) && self.settings.mode.allow_trailing_str()
     }

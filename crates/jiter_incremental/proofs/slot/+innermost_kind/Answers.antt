@@ -1,7 +1,5 @@
-use Rattle.std.proofs.Common.{◌≡◌, ◌-◌, ◌<◌, ◌∙◌, refl, sym, ap, arith, vec_len}
+use Rattle.std.proofs.Common.{◌-◌, ◌∙◌, refl, sym, ap, arith}
 use Rattle.std.specs.Vec.{with_item}
-use Rattle.jiter_incremental.specs.Slot.{filled}
-use Rattle.jiter_value.specs.Stacks.{built}
 use Rattle.jiter_value.specs.Value.{view}
 use Rattle.jiter_incremental.proofs.Innermost.{none-other, outermost}
 use Rattle.jiter_incremental.proofs.Slots.{array-place, array-swapped, object-place, object-swapped}
@@ -66,7 +64,8 @@ innermost_kind-requires-in-Object t c =
     let n = c.len-in-Object.result - 1 in
     let m = c.index-in-Object.result.now in
     let held = sym (ap view c.in-Object.is) ∙ o.is in
-    let seen = object-swapped v (with_item v n (m.0, m.1)) n m m.1 place c.index-in-Object.ensures refl o.frame _ held in
+    let seen =
+    object-swapped v (with_item v n (m.0, m.1)) n m m.1 place c.index-in-Object.ensures refl o.frame _ held in
     (omega (arith, r.3, o.deep), (r.0, r.1, o.others, o.deep, seen.1))
 
 pub unreachable-requires : goal.unreachable-requires
@@ -97,5 +96,6 @@ returns-in-Object t c = λ h xs fs deep is.
     let n = c.len-in-Object.result - 1 in
     let m = c.index-in-Object.result.now in
     let held = sym (ap view c.in-Object.is) ∙ o.is in
-    let seen = object-swapped v (with_item v n (m.0, m.1)) n m m.1 place c.index-in-Object.ensures refl o.frame _ held in
+    let seen =
+    object-swapped v (with_item v n (m.0, m.1)) n m m.1 place c.index-in-Object.ensures refl o.frame _ held in
     c.innermost_kind-in-Object.ensures h xs o.others o.deep seen.1

@@ -12,7 +12,8 @@ returns-in-Some c =
     let root = Some (view c.self.inside.root) in
     rw (← c.self.view_is) (λ t h.
     fault-promised p t c.in-Some.fault root c.from.result
-    (subst (λ (x : Option Fault). AnswersSo p t x root) c.in-Some.is (c.strict_fault.ensures t h.arrived)) c.from.ensures)
+    (subst (λ (x : Option Fault). AnswersSo p t x root) c.in-Some.is (c.strict_fault.ensures t h.arrived))
+    c.from.ensures)
 
 pub returns-in-None : goal.returns-in-None
 returns-in-None c =

@@ -1,0 +1,67 @@
+use Rattle.std.proofs.Common.{◌+◌, ◌∙◌, List, ℕ, ap, arith, length, refl, subst, sym}
+use Rattle.std.proofs.lemmas.Bool.{false≢true}
+use Rattle.std.specs.Str.{IsUtf8}
+use Rattle.jiter_scan.specs.declared.errors.FaultKind.TheVariants as fault_of
+use Rattle.jiter_incremental.specs.Reader.{document}
+use Rattle.jiter_value.specs.Value.{view}
+use Rattle.jiter_incremental.proofs.Answering.{ShowsText, broken-index, broken-so, broken-told, good-so, keeps-hidden}
+use Rattle.jiter_incremental.proofs.Answering.{keeps-shown, none-told, value-told}
+use Rattle.jiter_incremental.proofs.reader.Reader.partial_fault.Goals.{else-keeps-via-then-keeps+else-not-self}
+use Rattle.jiter_incremental.proofs.reader.Reader.partial_fault.Goals.{else-keeps-via-else-keeps}
+use Rattle.jiter_incremental.proofs.reader.Reader.partial_fault.Goals as goal
+
+pub overflow_add-index-then-not-self : goal.overflow_add-index-then-not-self
+overflow_add-index-then-not-self c =
+    let d = document c.args.self.now (view c.args.root.now) in
+    let a = c.requires.arrived in
+    let unset = c.requires.unset in
+    let is = c.keeps.ensures.only c.if-keeps.true in
+    let on = sym (c.keeps.ensures.text is) ∙ c.if-keeps.true in
+    let bad = broken-so d a.0 a.1.read.opened (a.1.read.held unset) is on c.if-not-self.true in
+    omega (arith, broken-index d a.0 a.1 unset c.if-not-self.true bad, ap length c.text.ensures, c.requires.room)
+
+pub returns-then-not-self : goal.returns-then-not-self
+returns-then-not-self c = λ t h.
+    let d = document c.args.self.now (view c.args.root.now) in
+    let unset = c.requires.unset in
+    let s = h.read.held unset in
+    let is = c.keeps.ensures.only c.if-keeps.true in
+    let on = sym (c.keeps.ensures.text is) ∙ c.if-keeps.true in
+    let hidden = c.if-not-self.true in
+    let utf8 = subst IsUtf8 c.text.ensures c.text.utf8 in
+    broken-told d t h unset c.requires.active c.fault_at.result hidden (keeps-hidden d t h.read.opened s hidden utf8)
+    (broken-so d t h.read.opened s is on hidden)
+    (c.fault_at.ensures
+    ∙ ap (λ (x : List ℕ). record { kind = fault_of.InvalidUnicodeCodePoint; index = d.begin + 1 + length x })
+    c.text.ensures)
+
+pub returns-then-has_value : goal.returns-then-has_value
+returns-then-has_value c = λ t h.
+    let v = c.args.root.now in
+    let d = document c.args.self.now (view v) in
+    let unset = c.requires.unset in
+    let o = h.read.opened in
+    let s = h.read.held unset in
+    let shows : ShowsText d = λ is on. elim c.else-keeps.branch [
+      | else-keeps-via-then-keeps+else-not-self w ↦ w.if-not-self.false
+      | else-keeps-via-else-keeps w ↦
+          absurd (false≢true (sym w.if-keeps.false ∙ c.keeps.ensures.text is ∙ on))
+    ] in
+    value-told d t h unset c.requires.active (keeps-shown d t o s v refl shows) (good-so d t o s shows)
+    (sym (c.has_value.ensures (view v) t o s) ∙ c.if-has_value.true)
+
+pub returns : goal.returns
+returns c = λ t h.
+    let v = c.args.root.now in
+    let d = document c.args.self.now (view v) in
+    let unset = c.requires.unset in
+    let o = h.read.opened in
+    let s = h.read.held unset in
+    let shows : ShowsText d = λ is on. elim c.else-keeps.branch [
+      | else-keeps-via-then-keeps+else-not-self w ↦ w.if-not-self.false
+      | else-keeps-via-else-keeps w ↦
+          absurd (false≢true (sym w.if-keeps.false ∙ c.keeps.ensures.text is ∙ on))
+    ] in
+    none-told d t h unset c.requires.active c.end_fault.result (keeps-shown d t o s v refl shows)
+    (good-so d t o s shows)
+    (sym (c.has_value.ensures (view v) t o s) ∙ c.if-has_value.false) (c.end_fault.ensures t o s)
