@@ -15,6 +15,7 @@ ghost use Rattle.jiter_steps.specs.ReadError.{WhereRefused};
 ghost use Rattle.jiter_steps.specs.StringReading.{string_at, text_form};
 ghost use Rattle.jiter_steps.specs.StringDecoder.{text_view, WantsMemory};
 
+use crate::blank::past_blanks;
 use crate::fast::peek;
 use crate::read_error::ReadError;
 use crate::string_decoder::string_at;
@@ -313,10 +314,11 @@ impl<'j> Parser<'j> {
         ensures value { Leads result self.new.index
             (step self.old.bytes.now document_end self.old.index) }
     {
-        match self.next_byte() {
-            None => Ok(()),
-            Some(_) => Err(self.fault(FaultKind::TrailingCharacters)),
+        self.index = past_blanks(self.bytes, self.index);
+        if self.index < self.bytes.len() {
+            return Err(self.fault(FaultKind::TrailingCharacters));
         }
+        Ok(())
     }
 
     /// Reads the literal at the reader's position (RFC 8259, 3). After an error the reader is where it was.
