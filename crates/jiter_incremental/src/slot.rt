@@ -154,11 +154,7 @@ fn append_text(value: &mut JsonValue<'static>, bytes: &[u8]) -> Result<(), Alloc
 
 /// Appends bytes below 80 hex to the string that is the last item or member, or the root. If the allocation fails,
 /// nothing changes.
-pub fn grow_in(
-    slot: &mut JsonValue<'static>,
-    level: usize,
-    bytes: &[u8],
-) -> Result<(), AllocFailed>
+pub fn grow_in(slot: &mut JsonValue<'static>, level: usize, bytes: &[u8]) -> Result<(), AllocFailed>
     requires text { (w : List ℕ) × IsLast level (view slot.old) (string (text_of w)) }
     requires ascii { IsAscii bytes.now }
     ensures ok { (w : List ℕ) → OnOk result
