@@ -1,11 +1,11 @@
 -- A byte of a chunk where no token is unfinished: it is taken, or refused, in an open container whatever that is in.
-use Rattle.std.proofs.Common.{◌≡◌, ◌⊎◌, ℕ, ◌+◌, ◌-◌, ◌<◌, ◌≤◌, Bool, true, false, List, [], ◌∷◌, ◌++◌, length, get_or, refl, sym, subst, ap, ◌∙◌}
+use Rattle.std.proofs.Common.{◌≡◌, ◌⊎◌, ℕ, ◌+◌, ◌-◌, ◌<◌, ◌≤◌, true, false, List, [], ◌∷◌, ◌++◌, length, refl, sym, subst, ap, ◌∙◌}
 use Rattle.std.proofs.Common.{arith, inl, inr}
 use Rattle.std.specs.Prelude.{slice_get, slice_index, slice_range, None, Some}
 use Rattle.std.proofs.lemmas.List.{append-nil}
 use Rattle.std.specs.declared.alloc.Global.{Global}
 use Rattle.std.specs.declared.borrow.CowStr.{CowStr}
-use Rattle.std.proofs.lemmas.Option.{slice_get-get_or, none-some}
+use Rattle.std.proofs.lemmas.Option.{slice_get-get_or}
 use Rattle.std.proofs.Common.{◌==◌, eqb-true}
 use Rattle.jiter_scan.specs.Ascii as ascii
 use Rattle.jiter_scan.specs.Kind.{fault_kind, is_forgiven}
@@ -24,7 +24,7 @@ use Rattle.jiter_steps.specs.Tree.{Text, Tree}
 use Rattle.jiter_incremental.specs.Arrived.{Arrived, IsBeforeValue, IsBetweenParts, IsLeft, OpenValue, at_value, at_end, between_parts}
 use Rattle.jiter_incremental.specs.Between.{ClosesBefore, Everywhere, IsAfter, IsBeforePart, TakesByte, completed}
 use Rattle.jiter_incremental.specs.Document.{Document, HasReadIn, HasTakenIn, Known, Next, Opened, IsRefused, StandsAt, anything, between_tokens, in_key}
-use Rattle.jiter_incremental.specs.Document.{in_scalar, noted_in, with_byte}
+use Rattle.jiter_incremental.specs.Document.{noted_in, with_byte}
 use Rattle.jiter_incremental.specs.Reader.{AwaitsKey, AwaitsValue, HasReadTo, IsAt, IsHere, IsStill, KeyHere, ValueHere, Moves, Steps, ahead, ahead_as, document, next_of, noted, refused, after_level}
 use Rattle.jiter_incremental.specs.Slot.{OpenFrame, filled}
 use Rattle.jiter_incremental.specs.declared.reader.Awaits.{Awaits}
@@ -32,7 +32,7 @@ use Rattle.jiter_incremental.specs.declared.reader.Awaits.TheVariants as awaits
 use Rattle.jiter_incremental.specs.declared.reader.Reader.{Reader}
 use Rattle.jiter_incremental.specs.declared.reader.Token.{Token}
 use Rattle.jiter_incremental.specs.declared.reader.Token.TheVariants as token
-use Rattle.jiter_incremental.proofs.Documents.{Between, byte-first, known-here, closes-noted, closes-refused, follows-byte, refuses, taken-between, takes-byte, wrong-refused}
+use Rattle.jiter_incremental.proofs.Documents.{byte-first, known-here, closes-noted, closes-refused, follows-byte, refuses, taken-between, takes-byte, wrong-refused}
 use Rattle.jiter_incremental.proofs.Between.{RowIs, at-value, between-of, between-parts, item-begins, key-begins, not-both, object-array, row-item, row-key, colon-missing, goes-colon, goes-comma, goes-end}
 use Rattle.jiter_incremental.proofs.Between.{goes-missing, goes-wrong, missing-forgiven, put-left, row-comma, row-missing}
 use Rattle.jiter_incremental.proofs.Slots.{filled-same}

@@ -1,13 +1,12 @@
 -- What a byte makes of a value that comes in chunks, by the rules of its reading.
-use Rattle.std.proofs.Common.{◌≡◌, ℕ, suc, ◌+◌, ◌-◌, ◌<◌, ◌≤◌, ◌==◌, ◌⊎◌, Bool, true, false, List, [], ◌∷◌, length, get_or}
-use Rattle.std.proofs.Common.{refl, sym, subst, ap, ◌∙◌, ◌++◌, arith, add-one, append_assoc, inl, inr, length-append}
-use Rattle.std.proofs.Math.Seq.{get_or-append_seam}
-use Rattle.std.proofs.lemmas.Bool.{eq-eqb, ne_eqb, eqb-true}
+use Rattle.std.proofs.Common.{◌≡◌, ℕ, suc, ◌+◌, ◌-◌, ◌<◌, ◌≤◌, ◌==◌, Bool, true, false, List, [], ◌∷◌, length, get_or}
+use Rattle.std.proofs.Common.{refl, sym, subst, ap, ◌∙◌, arith, add-one, inl, inr}
+use Rattle.std.proofs.lemmas.Bool.{eq-eqb, ne_eqb}
 use Rattle.std.proofs.lemmas.Bool.Decides.{nat_tests}
 use Rattle.std.specs.Prelude.{slice_get, Option, Some, None}
-use Rattle.std.proofs.lemmas.Option.{slice_get_within, slice_get-get_or, get_or_from_slice_get}
+use Rattle.std.proofs.lemmas.Option.{slice_get_within, get_or_from_slice_get}
 use Rattle.jiter_scan.proofs.Choices.{if_case, if-true, if-false}
-use Rattle.jiter_scan.specs.Kind.{Kind, fault_kind, is_forgiven, recursion_limit, expected_value, expected_colon, trailing_comma, key_must_be_a_string}
+use Rattle.jiter_scan.specs.Kind.{Kind, is_forgiven, recursion_limit, expected_value, expected_colon, trailing_comma, key_must_be_a_string}
 use Rattle.jiter_scan.specs.NumberReading.{extent_then}
 use Rattle.jiter_scan.specs.PartialMode.{is_active}
 use Rattle.jiter_scan.specs.Scanned.{taken, failed}
@@ -18,10 +17,10 @@ use Rattle.jiter_steps.specs.Frames.{items_frame, members_frame, resolve_step, r
 use Rattle.jiter_steps.specs.Frames.{array_in, object_in, parts_from, parts_step}
 use Rattle.jiter_steps.specs.Literal.{start_of}
 use Rattle.jiter_steps.specs.Step.{Step, more, closed, stuck, step, colon, object_colon, value_first, container_first}
-use Rattle.jiter_steps.specs.Step.{opening, begins_part, closer_of, comma_kind_of, container_comma, end_kind_of}
+use Rattle.jiter_steps.specs.Step.{opening, begins_part, closer_of, comma_kind_of, container_comma}
 use Rattle.jiter_steps.specs.Read.{Rules, done, fault, after_colon, after_key, after_part, prefix_answer}
 use Rattle.jiter_steps.specs.Read.{if_begun, with_key}
-use Rattle.jiter_steps.specs.Tree.{Text, Tree, object, members_of}
+use Rattle.jiter_steps.specs.Tree.{Text, Tree}
 use Rattle.jiter_steps.specs.declared.parse.ContainerKind.{ContainerKind}
 use Rattle.jiter_steps.specs.declared.parse.ContainerKind.TheVariants as shape
 use Rattle.jiter_steps.specs.declared.parse.Start.TheVariants as start
@@ -30,12 +29,12 @@ use Rattle.jiter_steps.proofs.Calls.Resumed.{items-value, container-begins, cont
 use Rattle.jiter_steps.proofs.Grammar.Blanks.{past_blanks-blank, past_blanks-other}
 use Rattle.jiter_steps.proofs.Reading.Values.{Advances, inside_at-none, inside_at-starts, parts_at_is}
 use Rattle.jiter_incremental.specs.Arrived.{Arrived, IsLeft, OpenValue, at_value, between_parts, at_end, value_then, part_row}
-use Rattle.jiter_incremental.specs.Arrived.{container_of, end_of, owned, HasRead, IsBeforeValue, IsBetweenParts}
+use Rattle.jiter_incremental.specs.Arrived.{container_of, owned, HasRead, IsBeforeValue, IsBetweenParts}
 use Rattle.jiter_incremental.specs.Between.{after_value, completed, Everywhere, EndsHere, TakesByte}
-use Rattle.jiter_incremental.specs.Between.{ClosesBefore, passed, BeginsItem, IsBeforePart, IsAfter}
+use Rattle.jiter_incremental.specs.Between.{ClosesBefore, passed, BeginsItem, IsBeforePart}
 use Rattle.jiter_incremental.specs.Reader.{after_level}
 use Rattle.jiter_value.specs.Settings.{rules_as}
-use Rattle.jiter_incremental.specs.Slot.{OpenFrame, begun, AwaitsPart, IsOfKey, filled, HasValue}
+use Rattle.jiter_incremental.specs.Slot.{OpenFrame, AwaitsPart, IsOfKey, filled, HasValue}
 use Rattle.jiter_value.specs.Stacks.{PartTree, built, empty_tree}
 use Rattle.jiter_incremental.specs.declared.reader.Awaits.{Awaits}
 use Rattle.jiter_incremental.specs.declared.reader.Awaits.TheVariants as awaits

@@ -2,21 +2,18 @@
 use Rattle.std.proofs.Common.{◌≡◌, ◌≢◌, ℕ, zero, suc, ◌+◌, ◌-◌, ◌<◌, ◌≤◌, true, List, [], ◌∷◌, ◌++◌, length, get_or}
 use Rattle.std.proofs.Common.{refl, sym, subst, ap, ◌∙◌}
 use Rattle.std.proofs.Common.{arith, inl, Vec}
-use Rattle.std.specs.Prelude.{Result, Ok, Err, None, OnOk, OnErr, slice_range}
+use Rattle.std.specs.Prelude.{Result, Ok, Err, OnOk, OnErr, slice_range}
 use Rattle.std.specs.Vec.{with_item}
 use Rattle.std.specs.declared.alloc.Global.{Global}
 use Rattle.jiter_scan.specs.Scan.{Pass, is_plain_ascii}
-use Rattle.jiter_scan.specs.declared.partial_number.PartialNumber.{PartialNumber}
 use Rattle.jiter_steps.specs.PartialString.{IsEven, grown}
 use Rattle.jiter_steps.specs.Tree.{Tree, string}
-use Rattle.jiter_steps.specs.declared.partial_string.PartialString.{PartialString}
 use Rattle.jiter_steps.proofs.OpenStrings.{grown-taken, plain-of}
 use Rattle.jiter_incremental.specs.Between.{text_of}
 use Rattle.jiter_incremental.specs.Document.{Document, HasMoved, HasReadIn, Holding, IsMoved, IsShown, Known, Opened}
 use Rattle.jiter_incremental.specs.Document.{Settled, anything}
-use Rattle.jiter_incremental.specs.Document.{between_tokens, in_key, in_scalar, is_shown, shown_as, token_tree}
-use Rattle.jiter_incremental.specs.Document.{with_parts}
-use Rattle.jiter_incremental.specs.Reader.{HasReadTo, IsAt, IsHere, Moves, Steps, ahead, ahead_as, document}
+use Rattle.jiter_incremental.specs.Document.{between_tokens, in_key, in_scalar, shown_as, token_tree}
+use Rattle.jiter_incremental.specs.Reader.{HasReadTo, IsAt, IsHere, Steps, ahead, ahead_as, document}
 use Rattle.jiter_incremental.specs.Slot.{AwaitsPart, HasValue, IsLast, IsOfKey, IsReplaced, OpenFrame, around, filled}
 use Rattle.jiter_incremental.specs.declared.reader.Reader.{Reader}
 use Rattle.jiter_incremental.specs.declared.reader.Token.{Token}

@@ -1,18 +1,17 @@
 -- The open path of a value that comes in chunks: what is read in a container is read in those that it is in.
-use Rattle.std.proofs.Common.{◌≡◌, ℕ, zero, suc, ◌+◌, ◌-◌, ◌<◌, ◌≤◌, ◌^◌, Bool, true, false, List, [], ◌∷◌, ◌++◌, length, take}
+use Rattle.std.proofs.Common.{◌≡◌, ℕ, ◌+◌, ◌-◌, ◌<◌, ◌≤◌, ◌^◌, Bool, true, false, List, [], ◌∷◌, ◌++◌, length, take}
 use Rattle.std.proofs.Common.{refl, sym, subst, ap, ◌∙◌, arith, length-append, add-one, append_assoc}
-use Rattle.std.specs.Prelude.{None, slice_get, slice_range}
+use Rattle.std.specs.Prelude.{None, slice_range}
 use Rattle.std.proofs.lemmas.List.{append-nil, take_all}
 use Rattle.std.proofs.lemmas.Option.{slice_get_past}
-use Rattle.std.proofs.lemmas.Bool.{false≢true}
 use Rattle.jiter_steps.specs.Frames.{items_frame, members_frame}
-use Rattle.jiter_steps.specs.Tree.{Tree, members_of, object}
+use Rattle.jiter_steps.specs.Tree.{Tree}
 use Rattle.jiter_steps.specs.declared.parse.ContainerKind.TheVariants as shape
 use Rattle.jiter_incremental.specs.Arrived.{Arrived, IsLeft, OpenValue, at_value, between_parts, at_end}
 use Rattle.jiter_incremental.specs.Between.{text_of}
-use Rattle.jiter_incremental.specs.Document.{Document, HasArrived, HasMoved, HasReadIn, Holding, HoldsScalar, IsMoved, IsShown, Next, Opened, Settled}
-use Rattle.jiter_incremental.specs.Document.{anything, between_tokens, in_key, in_scalar, token_tree, with_parts}
-use Rattle.jiter_incremental.specs.Reader.{HasReadTo, IsAt, Leads, Ready, Refuses, Steps, Went, ahead, ahead_as, document, next_of}
+use Rattle.jiter_incremental.specs.Document.{Document, HasArrived, HasMoved, HasReadIn, Holding, IsMoved, Next, Opened, Settled}
+use Rattle.jiter_incremental.specs.Document.{anything, between_tokens, in_key, in_scalar, token_tree}
+use Rattle.jiter_incremental.specs.Reader.{HasReadTo, Ready, Refuses, Steps, Went, ahead, ahead_as, document, next_of}
 use Rattle.jiter_incremental.specs.Slot.{OpenFrame, around, begun, filled}
 use Rattle.jiter_incremental.specs.declared.reader.Awaits.{Awaits}
 use Rattle.jiter_incremental.specs.declared.reader.Awaits.TheVariants as awaits
@@ -22,7 +21,7 @@ use Rattle.jiter_incremental.specs.declared.reader.Token.TheVariants as token
 use Rattle.jiter_incremental.proofs.Chunks.{range-long, take-on}
 use Rattle.jiter_incremental.proofs.Documents.{counted-holding, known-as}
 use Rattle.jiter_incremental.proofs.Settling.{read-any}
-use Rattle.jiter_incremental.proofs.Slots.{Nested, filled-push, last-of, nested-in, part-more}
+use Rattle.jiter_incremental.proofs.Slots.{filled-push, last-of, nested-in, part-more}
 
 -- So many containers are open in a value: the innermost is between two parts.
 pub record OpenTree (depth : ℕ) (v : Tree) : Type 0 where

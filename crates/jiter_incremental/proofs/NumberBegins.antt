@@ -17,7 +17,6 @@ use Rattle.jiter_steps.specs.StringDecoder.{text_view}
 use Rattle.jiter_steps.specs.Tree.{Tree}
 use Rattle.jiter_steps.specs.declared.parse.Start.TheVariants as start
 use Rattle.jiter_value.specs.Owned.{owned_text, tree_as}
-use Rattle.jiter_incremental.specs.Arrived.{at_value}
 use Rattle.jiter_incremental.specs.Document.{BeginsHere, HasReadIn, HasTakenIn, NameBegins, anything}
 use Rattle.jiter_incremental.specs.Document.{between_tokens, in_scalar, noted_in, with_byte}
 use Rattle.jiter_incremental.specs.Reader.{AwaitsValue, HasReadTo, IsAt, IsHere, Moves, Shows, Stays, Steps}
@@ -30,11 +29,10 @@ use Rattle.jiter_incremental.specs.declared.reader.Awaits.TheVariants as awaits
 use Rattle.jiter_incremental.specs.declared.reader.Reader.{Reader}
 use Rattle.jiter_incremental.specs.declared.reader.Token.TheVariants as token
 use Rattle.jiter_incremental.proofs.Arms.{hidden-here, turned}
-use Rattle.jiter_incremental.proofs.Between.{value-here}
-use Rattle.jiter_incremental.proofs.Documents.{begins-in, follows-byte, known-as, refuses, taken-between}
+use Rattle.jiter_incremental.proofs.Documents.{follows-byte, known-as, refuses, taken-between}
 use Rattle.jiter_incremental.proofs.Documents.Tokens.{decimal-starts, infinity-begins, infinity-first, name-denied}
 use Rattle.jiter_incremental.proofs.Documents.Tokens.{nan-begins, number-begins, range-first}
-use Rattle.jiter_incremental.proofs.Placing.{begins-there, depth-of, number-put}
+use Rattle.jiter_incremental.proofs.Placing.{begins-there, number-put}
 use Rattle.jiter_incremental.proofs.Settling.{apart-read, read-any, reads-apart, shown-nothing, steps-one}
 use Rattle.jiter_incremental.proofs.Slots.{filled-same}
 

@@ -1,5 +1,5 @@
 -- A document that is over takes whatever comes.
-use Rattle.std.proofs.Common.{◌≡◌, ◌⊎◌, ℕ, ◌+◌, ◌-◌, ◌<◌, ◌≤◌, false, List, ◌∷◌, [], ◌++◌, length, take, get_or, refl, sym, subst, ap, ◌∙◌}
+use Rattle.std.proofs.Common.{◌≡◌, ℕ, ◌+◌, ◌-◌, ◌<◌, ◌≤◌, false, List, ◌∷◌, [], ◌++◌, length, take, refl, sym, subst, ap, ◌∙◌}
 use Rattle.std.proofs.Common.{arith, inl, inr}
 use Rattle.std.specs.Prelude.{slice_get, slice_index, slice_range, Option, None, Some, Result, Ok, Err, IfOk, OnErr}
 use Rattle.jiter_steps.specs.Blank.{is_blank}
@@ -7,8 +7,8 @@ use Rattle.std.proofs.lemmas.Option.{none-some, slice_get-get_or}
 use Rattle.jiter_scan.proofs.Standing.{slice_range-split}
 use Rattle.jiter_scan.specs.declared.errors.Fault.{Fault}
 use Rattle.jiter_steps.specs.Tree.{Tree}
-use Rattle.jiter_incremental.specs.Document.{Document, Follows, HasReadIn, HasTakenIn, IsOver, MayRefuseAt, Next, anything, is_shown, with_byte}
-use Rattle.jiter_incremental.specs.Reader.{HasReadTo, IsAt, Moves, Ready, Refuses, Stays, Steps, Went, ahead, ahead_as, document, next_of}
+use Rattle.jiter_incremental.specs.Document.{Document, Follows, HasReadIn, HasTakenIn, IsOver, MayRefuseAt, Next}
+use Rattle.jiter_incremental.specs.Reader.{HasReadTo, IsAt, Ready, Refuses, Stays, Steps, Went, ahead, ahead_as, document, next_of}
 use Rattle.jiter_incremental.specs.Slot.{OpenFrame, filled}
 use Rattle.jiter_incremental.specs.declared.reader.Awaits.{Awaits}
 use Rattle.jiter_incremental.specs.declared.reader.Awaits.TheVariants as awaits

@@ -1,14 +1,14 @@
 -- Whitespace of a chunk is taken, in an open container whatever that is in.
-use Rattle.std.proofs.Common.{◌≡◌, ℕ, ◌+◌, ◌-◌, ◌<◌, ◌≤◌, true, List, ◌∷◌, [], ◌++◌, length, get_or, refl, sym, subst, ap, ◌∙◌}
+use Rattle.std.proofs.Common.{◌≡◌, ℕ, ◌+◌, ◌-◌, ◌<◌, ◌≤◌, true, List, ◌∷◌, [], ◌++◌, length, refl, sym, subst, ap, ◌∙◌}
 use Rattle.std.proofs.Common.{append_assoc, arith, inl}
 use Rattle.std.specs.Prelude.{slice_index, slice_range}
 use Rattle.jiter_scan.proofs.Standing.{slice_range-split}
 use Rattle.jiter_steps.specs.Blank.{is_blank, past_blanks}
 use Rattle.jiter_steps.specs.Tree.{Tree}
 use Rattle.jiter_steps.proofs.Grammar.Blanks.{past_blanks-blank}
-use Rattle.jiter_incremental.specs.Document.{HasReadIn, HasTakenIn, anything}
-use Rattle.jiter_incremental.specs.Reader.{HasReadTo, IsAt, IsHere, Steps, ahead, document}
-use Rattle.jiter_incremental.specs.Slot.{OpenFrame, filled}
+use Rattle.jiter_incremental.specs.Document.{HasTakenIn, anything}
+use Rattle.jiter_incremental.specs.Reader.{IsHere, Steps, ahead, document}
+use Rattle.jiter_incremental.specs.Slot.{filled}
 use Rattle.jiter_incremental.specs.declared.reader.Reader.{Reader}
 use Rattle.jiter_incremental.specs.declared.reader.Token.TheVariants as token
 use Rattle.jiter_incremental.proofs.Arms.{here-at, hidden-here}

@@ -1,7 +1,7 @@
 -- A value of a chunk is put where one is awaited, in an open container whatever that is in.
-use Rattle.std.proofs.Common.{◌≡◌, ℕ, ◌+◌, ◌-◌, ◌<◌, ◌≤◌, Bool, true, false, List, [], ◌∷◌, ◌++◌, length, get_or, refl, sym, subst, ap, ◌∙◌}
-use Rattle.std.proofs.Common.{add-one, arith, inl, inr}
-use Rattle.std.specs.Prelude.{slice_get, slice_index, slice_range, None, Some}
+use Rattle.std.proofs.Common.{◌≡◌, ℕ, ◌+◌, ◌-◌, ◌<◌, ◌≤◌, false, List, [], ◌∷◌, ◌++◌, length, refl, sym, subst, ap, ◌∙◌}
+use Rattle.std.proofs.Common.{add-one, arith, inl}
+use Rattle.std.specs.Prelude.{slice_index, slice_range}
 use Rattle.std.specs.declared.alloc.Global.{Global}
 use Rattle.std.specs.declared.borrow.CowStr.{CowStr}
 use Rattle.jiter_scan.specs.Kind.{fault_kind}
@@ -16,17 +16,16 @@ use Rattle.jiter_steps.specs.StringDecoder.{text_view}
 use Rattle.jiter_steps.specs.Tree.{Text, Tree}
 use Rattle.jiter_steps.specs.declared.parse.ContainerKind.{ContainerKind}
 use Rattle.jiter_steps.specs.declared.parse.Start.TheVariants as start
-use Rattle.jiter_incremental.specs.Arrived.{Arrived, IsLeft, OpenValue, at_value, between_parts}
-use Rattle.jiter_incremental.specs.Between.{Everywhere, TakesByte, after_value, completed}
-use Rattle.jiter_incremental.specs.Document.{BeginsHere, Document, EndsBefore, Follows, HasReadIn, HasTakenIn, IsAllowed, IsNumberWithin, IsScalarWithin, StandsAt, WordBegins, anything}
+use Rattle.jiter_incremental.specs.Arrived.{at_value, between_parts}
+use Rattle.jiter_incremental.specs.Between.{Everywhere, TakesByte, completed}
+use Rattle.jiter_incremental.specs.Document.{BeginsHere, Follows, HasReadIn, IsAllowed, IsNumberWithin, IsScalarWithin, StandsAt, WordBegins, anything}
 use Rattle.jiter_incremental.specs.Document.{between_tokens, noted_in, with_byte}
 use Rattle.jiter_incremental.specs.Names.{name_start, name_word}
 use Rattle.jiter_incremental.specs.declared.names.Name.{Name}
 use Rattle.jiter_scan.specs.declared.partial_word.PartialWord.{PartialWord}
-use Rattle.jiter_incremental.specs.Reader.{AwaitsValue, HasReadTo, IsAt, IsHere, Moves, Steps, ValueHere, after_level, ahead, document, refused}
+use Rattle.jiter_incremental.specs.Reader.{AwaitsValue, HasReadTo, IsAt, IsHere, Moves, Steps, after_level, ahead, document, refused}
 use Rattle.jiter_incremental.specs.Slot.{AwaitsPart, IsOfKey, IsPut, OpenFrame, begun, filled}
-use Rattle.jiter_value.specs.Stacks.{built, empty_tree}
-use Rattle.jiter_incremental.specs.declared.reader.Awaits.{Awaits}
+use Rattle.jiter_value.specs.Stacks.{empty_tree}
 use Rattle.jiter_incremental.specs.declared.reader.Awaits.TheVariants as awaits
 use Rattle.jiter_incremental.specs.declared.reader.Reader.{Reader}
 use Rattle.jiter_incremental.specs.declared.reader.Token.TheVariants as token

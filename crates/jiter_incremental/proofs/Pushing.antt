@@ -1,9 +1,9 @@
 -- What a parser of a document that comes in chunks has received of them.
-use Rattle.std.proofs.Common.{◌≡◌, Bool, ℕ, ◌+◌, ◌-◌, ◌^◌, ◌<◌, ◌≤◌, List, [], ◌∷◌, ◌++◌, length, take, drop, get_or}
+use Rattle.std.proofs.Common.{◌≡◌, Bool, ℕ, ◌+◌, ◌^◌, ◌<◌, ◌≤◌, List, [], ◌∷◌, ◌++◌, length, take, drop, get_or}
 use Rattle.std.proofs.Common.{Bor}
 use Rattle.std.proofs.Common.{refl, sym, ap, ◌∙◌, subst, inl, arith, length-append}
 use Rattle.std.specs.List.{flat_map}
-use Rattle.std.specs.Prelude.{Result, Ok, Err, OnOk, OnErr}
+use Rattle.std.specs.Prelude.{Result, Err}
 use Rattle.std.proofs.lemmas.Grind.{flat_map-append}
 use Rattle.std.proofs.lemmas.List.{append-nil, take-append-drop, take_more}
 use Rattle.jiter_scan.specs.declared.errors.JsonError.{JsonError}
@@ -11,7 +11,7 @@ use Rattle.jiter_scan.specs.declared.errors.JsonErrorType.TheVariants.{OutOfMemo
 use Rattle.jiter_scan.specs.declared.partial_mode.PartialMode.TheVariants.{Off}
 use Rattle.jiter_steps.specs.Blank.{past_blanks}
 use Rattle.jiter_steps.specs.Node.{nesting_limit}
-use Rattle.jiter_steps.specs.Tree.{Tree, null}
+use Rattle.jiter_steps.specs.Tree.{null}
 use Rattle.jiter_incremental.specs.Document.{HasArrived, MayRefuseAt}
 use Rattle.jiter_incremental.specs.IncrementalParser.{HasReceived, received}
 use Rattle.jiter_incremental.specs.Reader.{document}
@@ -51,12 +51,6 @@ received-so j k w t h low room is =
     }) where
       none : j.base + j.at + 0 ≡ j.base + j.at
       none = omega arith
-
--- Bytes have arrived, whether memory was refused or not.
-pub arrived-either : {T E : Type 0} (r : Result T E) (P : List ℕ → Type 0) (t chunk : List ℕ) (n : ℕ)
-    → OnOk r (P (t ++ chunk)) → OnErr r (P (t ++ take n chunk)) → (u : List ℕ) × P u
-arrived-either (Ok x) P t chunk n ok err = (t ++ chunk, ok)
-arrived-either (Err e) P t chunk n ok err = (t ++ take n chunk, err)
 
 -- Where memory may be refused, its want is answered.
 pub refused-promised : (names : Bool) (t : List ℕ) (i : ℕ) → MayRefuseAt t i

@@ -1,22 +1,16 @@
 -- A document whose unfinished scalar is in the value so far, or apart from it.
-use Rattle.std.proofs.Common.{◌≡◌, ℕ, zero, suc, ◌+◌, ◌-◌, ◌<◌, ◌≤◌, Bool, true, false, List, [], ◌∷◌, ◌++◌, length, take, drop, get_or, refl, sym, subst, ap, ◌∙◌}
-use Rattle.std.proofs.Common.{arith, inl, inr}
-use Rattle.std.specs.Prelude.{slice_get, slice_index, slice_range, None, Some}
-use Rattle.std.proofs.lemmas.Bool.{false≢true}
+use Rattle.std.proofs.Common.{◌≡◌, ℕ, zero, suc, ◌+◌, ◌-◌, ◌<◌, Bool, false, List, [], ◌∷◌, ◌++◌, length, take, drop, get_or, refl, sym, subst, ap, ◌∙◌}
+use Rattle.std.proofs.Common.{arith}
+use Rattle.std.specs.Prelude.{slice_index, slice_range, None}
 use Rattle.std.proofs.lemmas.Option.{slice_get-get_or}
 use Rattle.jiter_scan.proofs.Standing.{slice-one}
-use Rattle.jiter_scan.specs.PartialNumber.{HoldsNumber}
-use Rattle.jiter_steps.specs.PartialString.{HasTaken}
 use Rattle.jiter_steps.specs.Tree.{Tree}
-use Rattle.jiter_incremental.specs.Arrived.{Arrived, OpenValue}
-use Rattle.jiter_incremental.specs.Document.{BeginsAs, Comes, Document, HasCome, HasReadIn, HasTakenIn, Holding, HoldsScalar, HoldsString}
-use Rattle.jiter_incremental.specs.Document.{HoldsWord, IsAllowed, IsMoved, Known, Next, Opened, Settled, TakenFrom, anything, between_tokens}
+use Rattle.jiter_incremental.specs.Document.{Document, HasReadIn, HasTakenIn, Holding, HoldsScalar}
+use Rattle.jiter_incremental.specs.Document.{IsMoved, Known, Next, Opened, anything, between_tokens}
 use Rattle.jiter_incremental.specs.Document.{in_key, in_scalar, is_shown, shown_as, with_byte, with_parts}
-use Rattle.jiter_incremental.specs.Names.{name_start}
-use Rattle.jiter_incremental.specs.Reader.{HasReadTo, IsAt, IsHere, Moves, Steps, after_level, ahead, ahead_as, document, next_of}
+use Rattle.jiter_incremental.specs.Reader.{HasReadTo, IsAt, Moves, Steps, after_level, ahead, ahead_as, document, next_of}
 use Rattle.jiter_incremental.specs.Slot.{OpenFrame, filled}
 use Rattle.jiter_incremental.specs.declared.reader.Awaits.{Awaits}
-use Rattle.jiter_incremental.specs.declared.reader.Awaits.TheVariants as awaits
 use Rattle.jiter_incremental.specs.declared.reader.Reader.{Reader}
 use Rattle.jiter_incremental.specs.declared.reader.Token.{Token}
 use Rattle.jiter_incremental.specs.declared.reader.Token.TheVariants as token

@@ -10,7 +10,7 @@ use Rattle.jiter_steps.specs.Frames.{items_frame, members_frame}
 use Rattle.jiter_steps.specs.StringDecoder.{text_view}
 use Rattle.jiter_steps.specs.Tree.{Text, Tree, Items, no_items, item, Members, no_members, member, array, object}
 use Rattle.jiter_steps.specs.Tree.{items_of, members_of}
-use Rattle.jiter_incremental.specs.Slot.{OpenFrame, around, begun, filled, IsContainer, IsOfKey}
+use Rattle.jiter_incremental.specs.Slot.{OpenFrame, around, begun, filled, IsOfKey}
 use Rattle.jiter_value.specs.Stacks.{Member, member_view}
 use Rattle.jiter_value.specs.Value.{view}
 use Rattle.jiter_value.specs.declared.value.JsonValue.{JsonValue, Array, Object, out-JsonValue, the_lemmas}

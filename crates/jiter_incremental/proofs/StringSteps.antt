@@ -31,7 +31,7 @@ use Rattle.jiter_incremental.specs.Names.{name_tree}
 use Rattle.jiter_incremental.specs.Reader.{HasReadTo, HasTakenTo, Hides, IsApart, IsAt, IsHere, Moves, Steps}
 use Rattle.jiter_incremental.specs.Reader.{StepsFrom, after_level, ahead, ahead_as}
 use Rattle.jiter_incremental.specs.Reader.{Shows, document, noted, refused, with_shown}
-use Rattle.jiter_incremental.specs.Slot.{IsContainer, IsPut, OpenFrame, begun, filled}
+use Rattle.jiter_incremental.specs.Slot.{IsPut, OpenFrame, filled}
 use Rattle.jiter_incremental.specs.Strings.{IsClosedAs, IsOfString, IsTextAs}
 use Rattle.jiter_incremental.specs.declared.reader.Reader.{Reader}
 use Rattle.jiter_incremental.specs.declared.reader.Token.{Token}
@@ -44,10 +44,8 @@ use Rattle.jiter_incremental.proofs.Documents.Strings.{noted-held, noted-known, 
 use Rattle.jiter_incremental.proofs.Documents.Strings.{taken-on, taken-same, whole-text, with_string, wrong-low}
 use Rattle.jiter_incremental.proofs.Documents.Strings.{wrong-refused}
 use Rattle.jiter_incremental.proofs.Documents.Tokens.{Unfinished, word-ends, word-goes-on, word-open, word-refused}
-use Rattle.jiter_incremental.proofs.Leading.{open-settled}
 use Rattle.jiter_incremental.proofs.Placing.{depth-of, put-there}
 use Rattle.jiter_incremental.proofs.Settling.{apart-read, read-any, reads-apart, shown-nothing, shown-word, steps-one}
-use Rattle.jiter_incremental.proofs.Slots.{filled-same}
 
 -- ---- words
 

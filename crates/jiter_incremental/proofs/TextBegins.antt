@@ -10,7 +10,7 @@ use Rattle.jiter_steps.specs.Blank.{is_blank}
 use Rattle.jiter_steps.specs.Frames.{members_frame}
 use Rattle.jiter_steps.specs.PartialString.{HasTaken, IsTextWithin}
 use Rattle.jiter_steps.specs.StringDecoder.{text_view}
-use Rattle.jiter_steps.specs.Tree.{Text, Tree}
+use Rattle.jiter_steps.specs.Tree.{Tree}
 use Rattle.jiter_steps.specs.declared.partial_string.PartialString.{PartialString}
 use Rattle.jiter_incremental.specs.Arrived.{Arrived, IsLeft, at_value}
 use Rattle.jiter_incremental.specs.Between.{TakesByte, text_of}

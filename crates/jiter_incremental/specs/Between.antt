@@ -1,7 +1,7 @@
 -- A value that comes byte by byte: what the next byte makes of it, whatever comes after it.
 use Rattle.std.specs.Prelude.{◌≡◌, ◌⊎◌, ℕ, ◌+◌, ◌≤◌, true, false, List, [], ◌∷◌, ◌++◌, length, slice_get, Some}
 use Rattle.jiter_scan.specs.Ascii as ascii
-use Rattle.jiter_scan.specs.Kind.{Kind, fault_kind, is_forgiven}
+use Rattle.jiter_scan.specs.Kind.{Kind}
 use Rattle.jiter_scan.specs.PartialMode.{is_active}
 use Rattle.jiter_steps.specs.Blank.{is_blank}
 use Rattle.jiter_steps.specs.Frames.{items_frame, members_frame, value_from, key_from}

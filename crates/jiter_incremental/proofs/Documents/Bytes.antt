@@ -1,13 +1,13 @@
 -- What the next byte is to a document that arrives, where no token is unfinished.
 use Rattle.std.proofs.Common.{◌≡◌, ◌+◌, ◌<◌, ◌≤◌, ◌∷◌, ◌++◌, ◌∙◌, ℕ, List, [], ap, append_assoc, arith, get_or, length, subst, sym}
 use Rattle.std.proofs.lemmas.Option.{slice_get-get_or}
-use Rattle.std.specs.Prelude.{IfOk, Result, Ok, Err, None, slice_range}
+use Rattle.std.specs.Prelude.{None, slice_range}
 use Rattle.jiter_scan.proofs.Standing.{slice-one, slice_range-split}
 use Rattle.jiter_steps.specs.Node.{nesting_limit}
 use Rattle.jiter_steps.specs.Tree.{Tree}
 use Rattle.jiter_incremental.specs.Arrived.{Arrived, IsLeft, OpenValue, at_value}
-use Rattle.jiter_incremental.specs.Between.{BeginsItem, BeginsKey, TakesByte}
-use Rattle.jiter_incremental.specs.Document.{BeginsHere, Document, EndsBefore, Follows, HasCome, HasTakenIn, IsReadAs, IsScalarWithin, Known, Next, StandsAt, anything, between_tokens, in_scalar, with_byte}
+use Rattle.jiter_incremental.specs.Between.{TakesByte}
+use Rattle.jiter_incremental.specs.Document.{BeginsHere, Document, EndsBefore, Follows, HasTakenIn, IsReadAs, IsScalarWithin, Known, Next, anything, between_tokens, in_scalar, with_byte}
 use Rattle.jiter_incremental.specs.Slot.{OpenFrame}
 use Rattle.jiter_incremental.specs.declared.reader.Token.TheVariants as token
 use Rattle.jiter_incremental.specs.declared.reader.Awaits.TheVariants as awaits

@@ -1,7 +1,7 @@
 -- The tokens of a document that arrives in chunks: how they begin, go on, end and fail, whatever comes after them.
 use Rattle.std.proofs.Common.{◌≡◌, ◌⊎◌, inl, inr, ℕ, ◌+◌, ◌-◌, ◌<◌, ◌≤◌, ◌==◌, Bool, true, false, List, [], ◌∷◌, ◌++◌}
 use Rattle.std.proofs.Common.{length, take, drop, get_or, refl, sym, subst, ap, ◌∙◌, arith, append_assoc, length-append}
-use Rattle.std.proofs.Common.{slice_range, codes, map}
+use Rattle.std.proofs.Common.{slice_range, codes}
 use Rattle.std.specs.Prelude.{slice_get, string_bytes, Option, Some, None}
 use Rattle.std.proofs.Math.Seq.{get_or-append_seam, drop-append_seam, take-append_seam}
 use Rattle.std.proofs.lemmas.Bool.Decides.{nat_tests}
@@ -47,7 +47,6 @@ use Rattle.jiter_incremental.specs.Names.{name_bytes, name_extent, name_start, n
 use Rattle.jiter_incremental.specs.Slot.{OpenFrame}
 use Rattle.jiter_value.specs.Owned.{owned_text, tree_as}
 use Rattle.jiter_value.specs.Settings.{answer_as, rules_as}
-use Rattle.jiter_value.specs.Value.{view}
 use Rattle.jiter_incremental.specs.declared.names.Name.{Name}
 use Rattle.jiter_incremental.specs.declared.names.Name.TheVariants as name
 use Rattle.jiter_incremental.specs.declared.reader.Token.{Token}

@@ -1,4 +1,4 @@
-use Rattle.std.proofs.Common.{◌≡◌, ◌+◌, ◌++◌, ◌<◌, ◌^◌, arith, length, take, rules}
+use Rattle.std.proofs.Common.{◌+◌, ◌++◌, ◌<◌, ◌^◌, take, rules}
 use Rattle.jiter_incremental.proofs.Pushing.{received-so}
 use Rattle.jiter_incremental.proofs.incremental_parser.IncrementalParser.push.Goals as goal
 

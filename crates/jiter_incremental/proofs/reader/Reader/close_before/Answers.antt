@@ -1,6 +1,5 @@
-use Rattle.std.proofs.Common.{◌≡◌, ◌-◌, ◌∙◌, ap, refl, subst, sym}
-use Rattle.jiter_steps.specs.Step.{closer_of, comma_kind_of}
-use Rattle.jiter_value.specs.Stacks.{PartTree, built}
+use Rattle.std.proofs.Common.{◌-◌, ◌∙◌, ap, refl, subst, sym}
+use Rattle.jiter_steps.specs.Step.{comma_kind_of}
 use Rattle.jiter_value.specs.Value.{view}
 use Rattle.jiter_incremental.specs.Reader.{Steps, after_level, noted, refused}
 use Rattle.jiter_incremental.specs.declared.reader.Awaits.TheVariants as awaits

@@ -1,4 +1,4 @@
-use Rattle.std.proofs.Common.{◌≡◌, ◌+◌, ◌-◌, ◌∙◌, ap, refl, subst, sym}
+use Rattle.std.proofs.Common.{◌+◌, ◌∙◌, ap, refl, subst, sym}
 use Rattle.std.specs.Prelude.{slice_index}
 use Rattle.jiter_scan.specs.Kind.{trailing_comma}
 use Rattle.jiter_scan.specs.declared.errors.FaultKind.TheVariants as fault_of

@@ -1,10 +1,8 @@
-use Rattle.std.proofs.Common.{◌≡◌, List, ℕ, subst, sym, ◌∙◌, ◌-◌, ◌<◌, arith}
-use Rattle.jiter_scan.specs.Scan.{IsAsciiTo}
+use Rattle.std.proofs.Common.{◌≡◌, List, ℕ, subst, sym, ◌-◌, arith}
 use Rattle.jiter_steps.specs.PartialString.{Goes, HasTaken}
 use Rattle.jiter_steps.specs.declared.partial_string.Went.{Went}
 use Rattle.jiter_incremental.specs.Reader.{Hides, Steps, refused}
 use Rattle.jiter_incremental.specs.declared.reader.Reader.{Reader}
-use Rattle.jiter_incremental.specs.Slot.{HasRoomAt}
 use Rattle.jiter_value.specs.Value.{view}
 use Rattle.jiter_incremental.proofs.Showing.{container-here}
 use Rattle.jiter_incremental.proofs.StringSteps.{plain-run, quote-apart, quote-is, quote-steps}

@@ -1,6 +1,6 @@
 use Rattle.std.proofs.Common.{◌-◌, ◌∙◌, ap, subst, sym, string_bytes}
 use Rattle.jiter_steps.specs.StringDecoder.{text_view}
-use Rattle.jiter_steps.specs.Tree.{Tree, string}
+use Rattle.jiter_steps.specs.Tree.{Tree}
 use Rattle.jiter_value.specs.Value.{view}
 use Rattle.jiter_incremental.specs.Reader.{Shows, Steps, with_shown}
 use Rattle.jiter_incremental.specs.Slot.{IsPut}
