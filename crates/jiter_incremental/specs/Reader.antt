@@ -1,5 +1,5 @@
 -- What a reader makes of a chunk, in an open container of the value so far, whatever that is in.
-use Rattle.std.specs.Prelude.{◌≡◌, ◌⊎◌, ℕ, zero, suc, ◌+◌, ◌-◌, ◌≤◌, ◌<◌, ◌^◌, List, ◌++◌, length, take, slice_get, slice_index, slice_range, Bool, false}
+use Rattle.std.specs.Prelude.{◌≡◌, ◌⊎◌, ℕ, zero, suc, ◌+◌, ◌-◌, ◌≤◌, ◌<◌, ◌^◌, List, ◌++◌, length, take, slice_get, slice_index, slice_range, Bool, false, true}
 use Rattle.std.specs.Prelude.{Option, Some, None}
 use Rattle.std.specs.declared.alloc.Global.{Global}
 use Rattle.std.specs.declared.borrow.CowStr.{CowStr}
@@ -7,6 +7,7 @@ use Rattle.jiter_scan.specs.Ascii as ascii
 use Rattle.jiter_scan.specs.declared.partial_number.PartialNumber.{PartialNumber}
 use Rattle.jiter_steps.specs.declared.partial_string.PartialString.{PartialString}
 use Rattle.jiter_steps.specs.Node.{nesting_limit}
+use Rattle.jiter_steps.specs.PartialString.{IsEven}
 use Rattle.jiter_steps.specs.StringDecoder.{text_view}
 use Rattle.jiter_steps.specs.Tree.{Text, Tree, members_of, object}
 use Rattle.jiter_incremental.specs.Arrived.{at_value}
@@ -193,3 +194,7 @@ pub record Refuses (level : ℕ) (chunk : List ℕ) (i : Reader) (v : Tree) (j :
   pub goes : (t : List ℕ) (outer : List OpenFrame) → IsAt level outer
       → HasReadTo chunk i (filled outer v) (t ++ take i.at chunk) → MayRefuseAt (t ++ chunk) (j.base + j.at)
   pub free : ahead j chunk j.at ≡ anything
+
+-- A string that is shown is unfinished, and its bytes so far are whole characters and whole escapes.
+abbrev pub IsGrowing : Reader → Type 0
+IsGrowing r = (r.fault ≡ None) × (r.token ≡ token.Text) × (r.shown ≡ true) × IsEven r.string

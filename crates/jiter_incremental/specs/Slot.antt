@@ -1,5 +1,5 @@
 -- The open containers of a document that comes in chunks: each is the last part of the one outside it.
-use Rattle.std.specs.Prelude.{◌≡◌, ℕ, zero, suc, ◌+◌, ◌<◌, List, [], ◌∷◌, ◌++◌, length, vec_len, vec_capacity}
+use Rattle.std.specs.Prelude.{◌≡◌, ℕ, ◌+◌, ◌<◌, List, [], ◌∷◌, ◌++◌, length, vec_len, vec_capacity}
 use Rattle.jiter_steps.specs.Frames.{Frame, items_frame, members_frame}
 use Rattle.jiter_steps.specs.Tree.{Text, Tree, array, object, items_of, members_of}
 use Rattle.jiter_value.specs.declared.value.JsonValue.{JsonValue, out-JsonValue}
@@ -69,13 +69,3 @@ pub record IsTaken (level : ℕ) (v x w : Tree) (k : Text) : Type 0 where
   pub root : level ≡ 0 → x ≡ v
   pub part : (f : OpenFrame) (y : Tree) → 0 < level → v ≡ around f y
       → (x ≡ y) × (w ≡ begun f) × IsOfKey k (f ∷ [])
-
--- the value in a slot at this level: the root, or the last part of the container
-abbrev pub IsLast : ℕ → Tree → Tree → Type 0
-IsLast zero v x = v ≡ x
-IsLast (suc n) v x = (f : OpenFrame) × (v ≡ around f x)
-
--- The value y stands there in the place of x.
-pub record IsReplaced (level : ℕ) (v x w y : Tree) : Type 0 where
-  pub root : level ≡ 0 → v ≡ x → w ≡ y
-  pub part : (f : OpenFrame) → 0 < level → v ≡ around f x → w ≡ around f y

@@ -2,6 +2,7 @@
 #![tactic(auto)]
 
 pub mod ends;
+mod growing;
 pub mod incremental_parser;
 mod line_index;
 pub mod names;

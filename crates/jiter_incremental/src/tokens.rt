@@ -13,10 +13,8 @@ ghost use Rattle.jiter_scan.specs.Ascii as ascii;
 ghost use Rattle.jiter_scan.specs.Number.{Number};
 ghost use Rattle.jiter_scan.specs.PartialMode.{allows_trailing_strings};
 ghost use Rattle.jiter_scan.specs.PartialNumber.{Fits, IsBegun, Leads, is_whole, kept_bytes, own_view};
-ghost use Rattle.jiter_scan.specs.Scan.{Pass, is_plain_ascii};
 ghost use Rattle.jiter_scan.specs.declared.partial_number.Went.TheVariants as number_went;
 ghost use Rattle.jiter_steps.specs.Node.{number_tree};
-ghost use Rattle.jiter_steps.specs.PartialString.{IsEven};
 ghost use Rattle.jiter_steps.specs.PartialText.{with_text};
 ghost use Rattle.jiter_steps.specs.StringDecoder.{text_view};
 ghost use Rattle.jiter_steps.specs.Tree.{Tree, null, string};
@@ -26,13 +24,12 @@ ghost use Rattle.jiter_value.specs.Value.{view};
 use crate::names::Name;
 use crate::punctuation::is_blank;
 use crate::reader::{Reader, Token};
-use crate::slot::{grow_in, put_in, reserve_in, take_from};
+use crate::slot::{put_in, reserve_in, take_from};
 use crate::values::text_value;
 use jiter_scan::errors::FaultKind;
 use jiter_scan::memory::AllocFailed;
 use jiter_scan::partial_number::{OwnNumber, Went as NumberWent};
 use jiter_scan::partial_word::Seen;
-use jiter_scan::simd::scan_string;
 use jiter_steps::partial_string::Went as StringWent;
 use jiter_value::value::JsonValue;
 use std::alloc::Global;
@@ -330,28 +327,6 @@ impl Reader {
         1
     }
 
-    // ASCII that needs no escape is appended where the string is shown.
-    fn grow(
-        &self,
-        slot: &mut JsonValue<'static>,
-        level: usize,
-        chunk: &[u8],
-        to: usize,
-    ) -> Result<usize, AllocFailed>
-        requires here { IsHere level chunk.now self.now (view slot.old) }
-        requires token { self.now.token ≡ token_kind.Text }
-        requires shown { self.now.shown ≡ true }
-        requires even { IsEven self.now.string }
-        requires some { self.now.at < to }
-        requires within { to ≤ length chunk.now }
-        requires plain { Pass is_plain_ascii (slice_range chunk.now self.now.at to) }
-        ensures steps { IfOk result (λ n. Steps level chunk.now self.now (view slot.old) self.now (view slot.new) n) }
-        ensures stays { OnErr result (Stays level chunk.now self.now (view slot.old) self.now (view slot.new)) }
-    {
-        grow_in(slot, level, &chunk[self.at..to])?;
-        Ok(to - self.at)
-    }
-
     // A wrong byte counts as taken: the error is final.
     fn take_string(
         &mut self,
@@ -364,12 +339,6 @@ impl Reader {
         ensures steps { IfOk result (λ n. Steps level chunk.now self.old (view slot.old) self.new (view slot.new) n) }
         ensures stays { OnErr result (Stays level chunk.now self.old (view slot.old) self.new (view slot.new)) }
     {
-        if self.shown && self.string.is_even() {
-            let (to, low) = scan_string(chunk, self.at);
-            if low && self.at < to {
-                return self.grow(slot, level, chunk, to);
-            }
-        }
         reserve_in(slot)?;
         self.hide(slot, level);
         match self.string.next(chunk, self.at) {
