@@ -80,7 +80,7 @@ over-step level chunk i v r here inside over =
     }
 
 -- Where an allocation fails the byte is no blank, or one came before.
-refuse-read : (n : Next) (d : Document) (t : List ℕ) (c : ℕ) → HasReadIn n d t → d.fault ≡ None
+pub refuse-read : (n : Next) (d : Document) (t : List ℕ) (c : ℕ) → HasReadIn n d t → d.fault ≡ None
     → ¬ (d.token ≡ token.Nothing) → MayRefuseAt (t ++ c ∷ []) (length t)
 refuse-read n d t c h unset begun =
     let s = h.held unset in

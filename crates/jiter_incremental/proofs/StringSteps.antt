@@ -311,16 +311,6 @@ module _ (level : ℕ) (chunk : List ℕ) (i : Reader) (v : Tree) (h : IsApart l
 
 -- ---- strings that go on
 
--- Plain bytes below 80 hex
-plain-each : (v : List ℕ) → Pass is_plain v → AllPass is_ascii v → Pass is_plain_ascii v
-plain-each [] h low = tt
-plain-each (c ∷ v) h low =
-    (ap₂ (λ x y. x && y) h.0 (low 0 0 (omega arith)), plain-each v h.1 (λ i x l. low (suc i) x (omega arith)))
-
-pub plain-run : (chunk : List ℕ) (at to : ℕ) → to ≡ scan_stop chunk at → IsAsciiTo chunk at to
-    → Pass is_plain_ascii (slice_range chunk at to)
-plain-run chunk at to stop low = plain-each (slice_range chunk at to) (run-plain chunk at to stop) low
-
 ahead-string : (k : Token) (r : Reader) (chunk : List ℕ) (i : ℕ) → r.token ≡ k → IsOfString k
     → ahead r chunk i ≡ anything
 ahead-string k r chunk i is (inl e) = ap (λ x. ahead_as x r.awaits chunk i) (is ∙ e)

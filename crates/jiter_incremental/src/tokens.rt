@@ -1,6 +1,6 @@
 //! Goes on with the token that the last chunk cut (RFC 8259, 3, 6 and 7). A number and a string that are a value if the
 //! input ends here are in the value so far.
-ghost use Rattle.std.specs.Prelude.{◌≡◌, ◌⊎◌, ◌+◌, ◌^◌, ◌<◌, ◌≤◌, IfOk, List, None, OnErr, length, slice_get, slice_index, slice_range};
+ghost use Rattle.std.specs.Prelude.{◌≡◌, ◌⊎◌, ◌+◌, ◌^◌, ◌<◌, IfOk, List, None, OnErr, length, slice_get, slice_index};
 ghost use Rattle.std.specs.Prelude.{Some, string_bytes, false, true, ℕ};
 ghost use Rattle.jiter_incremental.specs.Between.{text_of};
 ghost use Rattle.jiter_incremental.specs.Document.{Next, HasMoved, HasReadIn, bytes_in, is_shown, token_tree};

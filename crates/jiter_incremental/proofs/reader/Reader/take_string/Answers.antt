@@ -5,15 +5,10 @@ use Rattle.jiter_incremental.specs.Reader.{Hides, Steps, refused}
 use Rattle.jiter_incremental.specs.declared.reader.Reader.{Reader}
 use Rattle.jiter_value.specs.Value.{view}
 use Rattle.jiter_incremental.proofs.Showing.{container-here}
-use Rattle.jiter_incremental.proofs.StringSteps.{plain-run, quote-apart, quote-is, quote-steps}
+use Rattle.jiter_incremental.proofs.StringSteps.{quote-apart, quote-is, quote-steps}
 use Rattle.jiter_incremental.proofs.StringSteps.{taken-steps}
 use Rattle.jiter_incremental.proofs.StringSteps.{wrong-before, wrong-steps}
 use Rattle.jiter_incremental.proofs.reader.Reader.take_string.Goals as goal
-
-pub grow-requires-clause-plain : goal.grow-requires-clause-plain
-grow-requires-clause-plain c =
-    plain-run c.args.chunk.now c.args.self.now.at c.scan_string-to.result.0 c.scan_string-to.ensures.stop
-    (c.scan_string-to.ensures.ascii.0 c.if-low.true)
 
 pub show-requires-clause-room : goal.show-requires-clause-room
 show-requires-clause-room c =
