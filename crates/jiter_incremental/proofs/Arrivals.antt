@@ -1,7 +1,6 @@
 -- What is open of a document that arrives in chunks is, where the text ends, its value so far.
-use Rattle.std.proofs.Common.{◌≡◌, ℕ, suc, ◌-◌, ◌≤◌, true, false, List, [], ◌∷◌, ◌++◌, length, refl, sym, subst, ap, ◌∙◌, arith}
+use Rattle.std.proofs.Common.{◌≡◌, ℕ, suc, ◌-◌, ◌≤◌, true, false, List, [], ◌∷◌, ◌++◌, length, refl, ap, ◌∙◌, arith}
 use Rattle.std.specs.Prelude.{slice_get, Option, Some, None}
-use Rattle.std.proofs.lemmas.List.{append-nil}
 use Rattle.std.proofs.lemmas.Option.{slice_get_past, none-some, same_Some}
 use Rattle.jiter_scan.proofs.Choices.{if-true, if-false}
 use Rattle.jiter_scan.specs.Scanned.{failed}
@@ -20,16 +19,13 @@ use Rattle.jiter_steps.proofs.Calls.Resumed.{if_forgiven-yes, if_forgiven-no, re
 use Rattle.jiter_steps.proofs.Cut.Halting.{end-forgiven}
 use Rattle.jiter_steps.proofs.Grammar.Blanks.{past_blanks-end}
 use Rattle.jiter_steps.proofs.Reading.BothShapes.{end_kind-early}
-use Rattle.jiter_incremental.specs.Arrived.{Arrived, HasRead, at_end, at_value, between_parts, container_of, end_of, leads_on, owned, part_row, shown, value_extent, value_then}
+use Rattle.jiter_incremental.specs.Arrived.{Arrived, at_end, at_value, between_parts, container_of, end_of, leads_on, owned, part_row, shown, value_extent, value_then}
 use Rattle.jiter_incremental.specs.Slot.{OpenFrame, around, begun, filled}
-use Rattle.jiter_value.specs.Parses.{reading_as}
-use Rattle.jiter_value.specs.Owned.{owned_tree}
-use Rattle.jiter_value.specs.Settings.{answer_as, rules_as, answer_by}
+use Rattle.jiter_value.specs.Settings.{answer_as, rules_as}
 use Rattle.jiter_value.specs.Stacks.{PartTree, built}
 use Rattle.jiter_incremental.specs.declared.reader.Awaits.{Awaits}
 use Rattle.jiter_incremental.specs.declared.reader.Awaits.TheVariants as awaits
 use Rattle.jiter_value.specs.declared.settings.Settings.{Settings}
-use Rattle.jiter_value.proofs.MadeTexts.{answer_as-is}
 
 -- at the end of the text a step decides by that
 step-past : {A : Type 0} (t : List ℕ) (row : ℕ → Option ℕ → A) (j : ℕ) → length t ≤ j → step t row j ≡ row j None
@@ -147,20 +143,6 @@ led-answers p t s v on led h =
     let r = rules_as owned p in
     (end.0, if-true (is_active p.mode) (prefix_answer r t) (whole_answer r t) on ∙ led ∙ end.1)
 
--- what was read so far, and nothing comes
-read-led : (p : Settings) (t : List ℕ) (s : Arrived) → HasRead p t s
-    → prefix_answer (rules_as owned p) t ≡ leads_on (rules_as owned p) t s (length t)
-read-led p t s read =
-    let r = rules_as owned p in
-    subst (λ w. prefix_answer r w ≡ leads_on r w s (length t)) (append-nil t) (read.goes [])
-
--- What was read so far, where the text ends in a partial mode, answers the value so far.
-pub shown-answers : (p : Settings) (t : List ℕ) (s : Arrived) (v : Tree) → is_active p.mode ≡ true → HasRead p t s
-    → shown s ≡ Some v → (e : ℕ) × (reading_as owned_tree (answer_by p t) ≡ done v e)
-shown-answers p t s v on read h =
-    let end = led-answers p t s v on (read-led p t s read) h in
-    (end.0, sym (answer_as-is owned refl p t) ∙ end.1)
-
 -- The same with partial reading off: the end is a fault there, unless the value is whole.
 module _ (p : Settings) (t : List ℕ) (off : is_active p.mode ≡ false) where
   abbrev strict : Rules Text Tree
@@ -212,7 +194,3 @@ module _ (p : Settings) (t : List ℕ) (off : is_active p.mode ≡ false) where
   pub led-end : (s : Arrived) (k : Kind) → prefix_answer strict t ≡ leads_on strict t s end → end_of s ≡ Some k
       → answer_as owned p t ≡ fault k end end
   led-end s k led h = off-answers ∙ ap (to_end t) (led ∙ leads-end s k h)
-
-  pub end-answers : (s : Arrived) (k : Kind) → HasRead p t s → end_of s ≡ Some k
-      → reading_as owned_tree (answer_by p t) ≡ fault k end end
-  end-answers s k read h = sym (answer_as-is owned refl p t) ∙ led-end s k (read-led p t s read) h

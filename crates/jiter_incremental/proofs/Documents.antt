@@ -377,24 +377,6 @@ begins-in d v c t s fs k unset place left low goes =
     before-here : (c : ℕ) (t u : List ℕ) → slice_get (t ++ c ∷ u) (length t) ≡ Some c
     before-here c t u = subst (λ v. slice_get v (length t) ≡ Some c) (append_assoc t (c ∷ []) u) (byte-here c t u)
 
--- A scalar begins with it,
-pub begins-here : (d : Document) (v : OpenValue) (c : ℕ) (t : List ℕ) (s : Arrived)
-    → Known (with_byte c) d t (between_tokens s) → d.fault ≡ None → d.position ≡ length t
-    → (g : BeginsScalar v s c) → BeginsHere c (record d { value = v }) t g.frames
-begins-here d v c t s k unset place g =
-    begins-in d v c t s g.frames k unset place g.left g.low g.goes
-
--- It stands where the value has moved on already.
-pub stands-at : (d : Document) (v : OpenValue) (c : ℕ) (t : List ℕ) (s : Arrived)
-    → Known (with_byte c) d t (between_tokens s) → d.token ≡ token.Nothing → d.fault ≡ None → d.position ≡ length t
-    → StandsAt c (record d { value = v }) t s
-stands-at d v c t s k none unset place = record {
-  known = known-as (with_byte c) d (record d { value = v }) t (between_tokens s) refl refl refl k;
-  token = none;
-  unset = unset;
-  position = place;
-}
-
 -- It is wrong there: the document is refused.
 pub wrong-refused : (d : Document) (v : OpenValue) (c : ℕ) (t : List ℕ) (s : Arrived) (kind : FaultKind)
     → StandsAt c d t s → Everywhere c (λ p u j. completed p u s j ≡ fault (fault_kind kind) j j)

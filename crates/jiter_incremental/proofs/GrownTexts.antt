@@ -3,7 +3,7 @@ use Rattle.std.proofs.Common.{◌≡◌, ◌≢◌, ℕ, suc, ◌+◌, ◌-◌, 
 use Rattle.std.proofs.Common.{refl, sym, subst, ap, ap₂, ◌∙◌, append_assoc, arith, inl, length-append, Vec}
 use Rattle.std.proofs.lemmas.List.{take_all}
 use Rattle.std.specs.List.{AllPass}
-use Rattle.std.specs.Prelude.{◌&&◌, None}
+use Rattle.std.specs.Prelude.{◌&&◌}
 use Rattle.std.specs.Prelude.{Result, Ok, Err, OnOk, OnErr, slice_range}
 use Rattle.std.specs.Vec.{with_item}
 use Rattle.std.specs.declared.alloc.Global.{Global}

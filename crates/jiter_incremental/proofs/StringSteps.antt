@@ -1,15 +1,13 @@
 -- Words and strings that a chunk cut go on and end, in an open container whatever that is in.
-use Rattle.std.proofs.Common.{◌≡◌, ℕ, suc, ◌+◌, ◌-◌, ◌<◌, ◌≤◌, Bool, true, false, List, [], ◌∷◌, ◌++◌, length, refl}
+use Rattle.std.proofs.Common.{◌≡◌, ℕ, ◌+◌, ◌-◌, ◌<◌, ◌≤◌, Bool, true, false, List, [], ◌∷◌, ◌++◌, length, refl}
 use Rattle.std.proofs.Common.{sym, subst, ap, ◌∙◌}
-use Rattle.std.proofs.Common.{ap₂, arith, inl, inr, length-append}
-use Rattle.std.specs.List.{AllPass}
-use Rattle.std.specs.Prelude.{◌&&◌, slice_get, slice_index, slice_range, Option, None, Some}
+use Rattle.std.proofs.Common.{arith, inl, inr, length-append}
+use Rattle.std.specs.Prelude.{slice_get, slice_index, slice_range, Option, None, Some}
 use Rattle.std.specs.declared.alloc.Global.{Global}
 use Rattle.std.specs.declared.borrow.CowStr.{CowStr}
 use Rattle.jiter_scan.proofs.Standing.{slice-one}
 use Rattle.jiter_scan.specs.Ascii as ascii
 use Rattle.jiter_scan.specs.PartialMode.{allows_trailing_strings}
-use Rattle.jiter_scan.specs.Scan.{IsAsciiTo, Pass, is_ascii, is_plain, is_plain_ascii, scan_stop}
 use Rattle.jiter_scan.specs.declared.errors.Fault.{Fault}
 use Rattle.jiter_scan.specs.declared.errors.FaultKind.{FaultKind}
 use Rattle.jiter_scan.specs.declared.errors.FaultKind.TheVariants as fault_of
@@ -21,7 +19,6 @@ use Rattle.jiter_steps.specs.StringDecoder.{text_view}
 use Rattle.jiter_steps.specs.Tree.{Tree, string}
 use Rattle.jiter_steps.specs.declared.partial_string.PartialString.{PartialString}
 use Rattle.jiter_steps.specs.declared.partial_string.Went.TheVariants as went
-use Rattle.jiter_steps.proofs.OpenStrings.{run-plain}
 use Rattle.jiter_incremental.specs.Between.{text_of}
 use Rattle.jiter_incremental.specs.Document.{Document, Follows, HasCome, HasReadIn, HasTakenIn, Holding, Known, Next}
 use Rattle.jiter_incremental.specs.Document.{Opened, anything}

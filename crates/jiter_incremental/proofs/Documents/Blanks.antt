@@ -9,15 +9,14 @@ use Rattle.std.proofs.lemmas.Option.{get_or_from_slice_get, slice_get-get_or, sl
 use Rattle.jiter_scan.proofs.Runs.{run_end-passes}
 use Rattle.jiter_scan.proofs.Standing.{slice-one, slice_range-split}
 use Rattle.jiter_steps.specs.Blank.{is_blank, past_blanks}
-use Rattle.jiter_steps.proofs.Grammar.Blanks.{no_blank-after, past_blanks-after, past_blanks-bound}
+use Rattle.jiter_steps.proofs.Grammar.Blanks.{no_blank-after, past_blanks-bound}
 use Rattle.jiter_incremental.specs.Between.{IsScalarStart}
-use Rattle.jiter_incremental.specs.Document.{Document, HasCome, HasTakenIn, Holding, HoldsScalar, MayRefuseAt, Opened, anything, between_tokens, in_key, in_scalar}
+use Rattle.jiter_incremental.specs.Document.{Document, HasTakenIn, Holding, HoldsScalar, MayRefuseAt, Opened, anything, between_tokens, in_key, in_scalar}
 use Rattle.jiter_incremental.specs.Names.{name_start}
 use Rattle.jiter_incremental.specs.declared.names.Name.{Name}
 use Rattle.jiter_incremental.specs.declared.names.Name.TheVariants as name
 use Rattle.jiter_incremental.specs.declared.reader.Token.{Token}
 use Rattle.jiter_incremental.specs.declared.reader.Token.TheVariants as token
-use Rattle.jiter_incremental.proofs.Documents.Bytes.{two-parts}
 use Rattle.jiter_incremental.proofs.Documents.Ends.{no-blank}
 use Rattle.jiter_incremental.proofs.Documents.Tokens.{stands-last}
 use Rattle.jiter_incremental.proofs.Documents.{known-before, taken-between, takes-byte}
@@ -60,16 +59,6 @@ module _ (d : Document) (t : List ℕ) (h : HasTakenIn anything d t) (unset : d.
   run-taken n end le =
       let bound = past_blanks-bound s i le in
       blanks-taken n (omega arith) (λ k from to. run_end-passes is_blank s i k from (omega arith))
-
--- After bytes of a chunk that were taken the blanks are taken too.
-pub blanks-after : (d : Document) (chunk : List ℕ) (at e r : ℕ) (t : List ℕ) → at ≤ e → e ≤ length chunk
-    → d.fault ≡ None → d.token ≡ token.Nothing → at + r ≡ past_blanks chunk e
-    → HasTakenIn anything d (t ++ slice_range chunk at e) → HasTakenIn anything d (t ++ slice_range chunk at (at + r))
-blanks-after d chunk at e r t le within unset none is h =
-    let n = past_blanks chunk e - e in
-    let all : e + n ≡ past_blanks chunk e = omega (arith, past_blanks-after chunk e) in
-    two-parts d chunk at e n r t le (is ∙ sym all)
-    (run-taken d (t ++ slice_range chunk at e) h unset none chunk e n all within)
 
 -- a byte that is no blank is not passed
 blank-stops : (s : List ℕ) (i c : ℕ) → slice_get s i ≡ Some c → is_blank c ≡ false → past_blanks s 0 ≤ i
@@ -155,12 +144,6 @@ held-byte d t (in_key fs ms b) h begun =
       here = ap (λ u. slice_get u (length f.prefix)) is ∙ stands-last f.prefix q.rest 34;
       other = refl;
     }
-
--- Inside a token memory may be refused.
-pub refuse-in : (d : Document) (t : List ℕ) (c : ℕ) → HasCome d t → d.fault ≡ None → d.token ≢ token.Nothing
-    → MayRefuseAt (t ++ c ∷ []) (length t)
-refuse-in d t c h unset begun =
-    refuse-after t c (held-byte d t h.read.opened (h.read.held unset) begun)
 
 -- a byte that is passed is a blank
 pub first-blank : (s : List ℕ) (i : ℕ) → i < past_blanks s i → is_blank (get_or s i 0) ≡ true

@@ -40,7 +40,7 @@ use Rattle.jiter_incremental.specs.Arrived.{IsLeft, OpenValue, at_value, owned}
 use Rattle.jiter_incremental.specs.Between.{completed, text_of}
 use Rattle.jiter_incremental.specs.Document.{Comes, Document, EndsRight, Follows, HasCome, HasTakenIn, Holding, HoldsScalar, HoldsString, IsReadAs, IsReading, IsRefused, Known, Next, Opened, ReadsAt, TakenFrom, anything, between_tokens, in_key, in_scalar, noted_in, opened_to, strictly, with_byte, with_first}
 use Rattle.jiter_incremental.specs.Slot.{OpenFrame, filled}
-use Rattle.jiter_incremental.specs.Strings.{IsClosedAs, IsInString, IsKeyAs, IsOfString, IsTextAs, Takes}
+use Rattle.jiter_incremental.specs.Strings.{IsClosedAs, IsInString, IsKeyAs, IsOfString, IsTextAs}
 use Rattle.jiter_value.specs.Owned.{owned_text}
 use Rattle.jiter_value.specs.Settings.{answer_as, rules_as}
 use Rattle.jiter_incremental.specs.declared.reader.Token.{Token}
@@ -691,24 +691,3 @@ module _ (d : Document) (s : PartialString) (chunk : List ℕ) (at : ℕ)
     read = taken-same d s t k unset (λ w x. (goes w x).0) h.read;
     position = h.position;
   }
-
-  pub quote-in : IsInString d → IsInString (with_string d s)
-  quote-in (inl x) = inl ((x.0.0, quote-arrived x.0.0 (inl x.2) x.1 x.0.1), x.1, x.2)
-  quote-in (inr x) = inr ((x.0.0, quote-arrived x.0.0 (inr x.2) x.1 x.0.1), x.1, x.2)
-
-  quote-at : IsInString d → (s.escape ≡ None) × (slice_get chunk at ≡ Some 34)
-  quote-at inside =
-      let a = arrived-in d inside in
-      let k = of-string d inside in
-      let unset = unset-in d inside in
-      let i = string-in d k unset a.0 a.1 in
-      let g = goes i.rest i.taken_so in (g.1, g.2)
-
-  pub quote-whole : IsInString d → s.escape ≡ None
-  quote-whole inside = (quote-at inside).0
-
-  pub quote-takes : IsInString d → (new : Document) → Takes (with_string d s) new (34 ∷ [])
-      → Takes d new (slice_range chunk at (at + 1))
-  quote-takes inside new takes = λ t h.
-      subst (λ w. HasTakenIn anything new (t ++ w)) (sym (slice-one chunk at 34 (quote-at inside).1))
-      (takes t (quote-arrived t (of-string d inside) (unset-in d inside) h))

@@ -41,7 +41,7 @@ use Rattle.jiter_steps.specs.declared.parse.Start.{Start}
 use Rattle.jiter_steps.specs.declared.parse.Start.TheVariants as start
 use Rattle.jiter_incremental.proofs.Chunks.{range-long}
 use Rattle.jiter_incremental.specs.Arrived.{Arrived, IsLeft, at_value, owned}
-use Rattle.jiter_incremental.specs.Between.{BeginsItem, BeginsKey}
+use Rattle.jiter_incremental.specs.Between.{BeginsKey}
 use Rattle.jiter_incremental.specs.Document.{BeginsAs, BeginsHere, Comes, Document, EndsBefore, EndsRight, Follows, HasCome, HasTakenIn, Holding, HoldsMinus, HoldsScalar, HoldsString, HoldsWord, IsAllowed, IsNumberWithin, IsReadAs, IsReading, IsRefused, Known, NameBegins, Next, Opened, ReadsAt, StandsAt, TakenFrom, WordBegins, anything, between_tokens, in_key, in_scalar, opened_to, own_number, strictly, with_byte}
 use Rattle.jiter_incremental.specs.Names.{name_bytes, name_extent, name_start, name_tree, name_word}
 use Rattle.jiter_incremental.specs.Slot.{OpenFrame}
@@ -738,9 +738,6 @@ module _ (d : Document) (t : List ℕ) (x : Unfinished d t token.Number) (c : �
 
 pub decimal-starts : (c : ℕ) → begins_decimal c ≡ true → start_of c ≡ start.Number
 decimal-starts c h = grind (arith, nat_tests, h)
-
-pub decimal-item : (c : ℕ) → begins_decimal c ≡ true → BeginsItem c
-decimal-item c h = (grind (arith, nat_tests, h), grind (arith, nat_tests, h))
 
 -- the bytes of a chunk from a place on begin with the one there
 pub range-first : (chunk : List ℕ) (at e : ℕ) → at < e → e ≤ length chunk
