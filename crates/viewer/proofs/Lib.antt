@@ -1,3 +1,4 @@
+mod Arriving
 mod Drawing
 mod Following
 mod Lines
