@@ -4,7 +4,7 @@
 PREFIX ?= /usr/local
 PROGRAMS = look config csv_of filter importer viewer
 BUILT = $(foreach name,$(PROGRAMS),crates/$(name)/out/$(name))
-LIBRARIES = $(wildcard crates/jiter*/src/*.rt crates/jiter*/src/*/*.rt crates/json_lines/src/*.rt)
+LIBRARIES = $(wildcard crates/jiter*/src/*.rt crates/jiter*/src/*/*.rt crates/json_lines/src/*.rt crates/json_screen/src/*.rt)
 
 all: $(BUILT)
 

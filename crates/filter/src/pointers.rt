@@ -19,28 +19,6 @@ pub struct Member {
 }
 
 impl Member {
-    fn new(
-        alloc: Global,
-        name: String,
-        deep: Option<String>,
-        label: String,
-        is_first: bool,
-    ) -> Result<Member, AllocError>
-        ensures parts { IfOk result (λ m. (m.name ≡ name) × (m.deep ≡ deep) × (m.label ≡ label)) }
-        ensures key { IfOk result (λ m. m.key.items ≡ key_text is_first (string_bytes m.label)) }
-    {
-        let mut key = Vec::new(alloc);
-        key.push(if is_first { b'{' } else { b',' })?;
-        print_str(&mut key, label.as_str())?;
-        key.push(b':')?;
-        Ok(Member {
-            name,
-            deep,
-            label,
-            key,
-        })
-    }
-
     /// Returns the member that a JSON Pointer names, or `None` if it isn't one or leads to the whole line.
     ///
     /// # Errors
@@ -62,20 +40,22 @@ impl Member {
             return Ok(None);
         };
         let first = steps.split_once('/').map_or(steps, |(first, _)| first);
-        let Some(name) = decoded(alloc, first)? else {
+        let (Some(name), Some(all)) = (decoded(alloc, first)?, decoded(alloc, steps)?) else {
             return Ok(None);
         };
-        if first.len() == steps.len() {
-            let label = String::from_str(alloc, name.as_str())?;
-            let member = Member::new(alloc, name, None, label, is_first)?;
-            return Ok(Some(member));
-        }
-        let Some(label) = decoded(alloc, steps)? else {
-            return Ok(None);
+        let (label, deep) = match first.len() == steps.len() {
+            true => (String::from_str(alloc, name.as_str())?, None),
+            false => (all, Some(String::from_str(alloc, pointer)?)),
         };
-        let deep = String::from_str(alloc, pointer)?;
-        let member = Member::new(alloc, name, Some(deep), label, is_first)?;
-        Ok(Some(member))
+        let mut key = Vec::from_slice(alloc, if is_first { b"{" } else { b"," })?;
+        print_str(&mut key, label.as_str())?;
+        key.push(b':')?;
+        Ok(Some(Member {
+            name,
+            deep,
+            label,
+            key,
+        }))
     }
 }
 

@@ -8,14 +8,14 @@ ghost use Rattle.jiter_steps.specs.ReadError.{WhereRefused};
 ghost use Rattle.jiter_value.specs.Scratch.{HoldsNothing, IsCleared};
 ghost use Rattle.jiter_value.specs.Settings.{Keeping, rules_as};
 ghost use Rattle.jiter_value.specs.Size.{value_size, key_size};
-ghost use Rattle.jiter_value.specs.Stacks.{slot_of, from_value, from_key, StandsAtKey, IsFree};
+ghost use Rattle.jiter_value.specs.Stacks.{slot_of, from_value, from_key, HasRoom, StandsAtKey, IsFree};
 ghost use Rattle.jiter_value.specs.Stacks.{HaveKeys, KeepsKeys, LeavesKeys, keys_then};
 ghost use Rattle.jiter_value.specs.Turns.{GoesOn, HasGone, HasTurned, IsAtValue, Proceeds, MayGrowFor, left, outcome};
 ghost use Rattle.jiter_value.specs.Value.{view, MayGrowBy};
 ghost use Rattle.jiter_value.specs.declared.stacks.Stacks.{Stacks as StacksView};
 
 use crate::settings::Settings;
-use crate::stacks::{Slot, Stacks, State, no_error, no_memory, reserve, take_error, take_root};
+use crate::stacks::{Slot, Stacks, State, no_error, take_error, take_root};
 use crate::texts::StringStorage;
 use crate::turns::containers::{after_value, begin};
 use crate::turns::fast::{Plain, fast_put_key, fast_put_scalar};
@@ -33,7 +33,18 @@ pub(crate) mod general;
 pub(crate) mod scalar;
 pub(crate) mod unique;
 
-// One turn at a value. A scalar takes the fast path if that applies, and otherwise the slow path.
+// Whether the expected value fits into its slot without an allocation. Only an item may need one.
+#[inline(always)]
+fn has_room(stacks: &Stacks<'_>, slot: Slot) -> bool
+    ensures { result ≡ true → HasRoom stacks.now slot }
+{
+    match slot {
+        Slot::Item => stacks.items.len() < stacks.items.capacity(),
+        _ => true,
+    }
+}
+
+// One turn at a value. A scalar takes the fast path if that applies and its stack has room, and otherwise the slow path.
 #[inline(always)]
 fn value_turn<'s, T: StringStorage<'s>>(
     reading: &mut Reading<'s>,
@@ -58,8 +69,9 @@ fn value_turn<'s, T: StringStorage<'s>>(
         b'{' => return begin::<T>(reading, bytes, at, slot, ContainerKind::Object),
         _ => {}
     }
-    if let Err(refused) = reserve(&mut reading.stacks, slot) {
-        return no_memory(&mut reading.stacks, refused, at);
+    // The slow path makes room. A call here that returned into this turn would cost each scalar.
+    if !has_room(&reading.stacks, slot) {
+        return slow_scalar(reading, texts, bytes, at, slot);
     }
     match fast_put_scalar(reading, texts, bytes, at, slot) {
         (end, Plain::Put) => after_value::<T>(reading, bytes, end, slot),

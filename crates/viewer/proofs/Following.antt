@@ -11,54 +11,54 @@ use Rattle.std.specs.List.{concat, dedup}
 use Rattle.std.specs.Io.{StartsWith}
 use Rattle.std.specs.Io.KnownBytes.{Appends, Consumes, IsAtEnd, Keeps}
 use Rattle.jiter_print.specs.Written.{AppendsPrefix}
-use Rattle.viewer.specs.Arrived.{HasArrived}
-use Rattle.viewer.specs.Rows.{rows_of}
+use Rattle.json_screen.specs.Arrived.{HasArrived}
+use Rattle.json_screen.specs.Rows.{rows_of}
 use Rattle.viewer.specs.Shown.{BreaksOff, Changes, if_any, last_line, line_at, lines_of, new_line, shown, Shows, ShowsAll}
 use Rattle.viewer.specs.Shown.{ShowsPrefix, ShowsRows, WritesChange}
-use Rattle.viewer.specs.Terminal.{IsPlain, Redraws}
-use Rattle.viewer.specs.declared.input.Input.{Input}
-use Rattle.viewer.specs.declared.input.Words.{Words}
-use Rattle.viewer.proofs.Drawing.{redraws-then}
+use Rattle.json_screen.specs.Terminal.{IsPlain, Redraws}
+use Rattle.json_screen.specs.declared.input.Input.{Input}
+use Rattle.json_screen.specs.declared.input.Options.{Options}
+use Rattle.json_screen.proofs.Drawing.{redraws-then}
 use Rattle.viewer.proofs.Lines.{last_of, last-more, lines-more, shown-more}
-use Rattle.viewer.proofs.Plain.{below_or_not, plain-rows}
+use Rattle.json_screen.proofs.Plain.{below_or_not, plain-rows}
 
 -- What was shown of some pieces, and what was written for that. In rows: the screen ends with what was shown.
-abbrev pub State : Option ℕ → Words → List (List ℕ) → List ℕ → List ℕ → Type 0
-State None words pieces last bytes = (last ≡ last_of [] (lines_of words pieces)) × (bytes ≡ shown words pieces)
-State (Some width) words pieces last bytes =
+abbrev pub State : Option ℕ → Options → List (List ℕ) → List ℕ → List ℕ → Type 0
+State None options pieces last bytes = (last ≡ last_of [] (lines_of options pieces)) × (bytes ≡ shown options pieces)
+State (Some width) options pieces last bytes =
     (IsPlain last × Redraws [] last bytes)
-    × ((writes : List (List ℕ)) × ShowsRows words width pieces writes × (bytes ≡ concat writes))
+    × ((writes : List (List ℕ)) × ShowsRows options width pieces writes × (bytes ≡ concat writes))
 
-shows-is : (width : Option ℕ) (words : Words) (pieces : List (List ℕ)) (last bytes : List ℕ)
-    → State width words pieces last bytes → Shows width words pieces bytes
-shows-is None words pieces last bytes s = s.1
-shows-is (Some width) words pieces last bytes s = s.1
+shows-is : (width : Option ℕ) (options : Options) (pieces : List (List ℕ)) (last bytes : List ℕ)
+    → State width options pieces last bytes → Shows width options pieces bytes
+shows-is None options pieces last bytes s = s.1
+shows-is (Some width) options pieces last bytes s = s.1
 
-pub begun : (width : Option ℕ) (words : Words) → State width words [] [] []
-begun None words = (refl, refl)
-begun (Some width) words =
+pub begun : (width : Option ℕ) (options : Options) → State width options [] [] []
+begun None options = (refl, refl)
+begun (Some width) options =
     ((tt, λ top plain whole. refl), ([], record { count = refl; rows = λ n some few. absurd (omega (arith, some, few)) }, refl))
 
 one-more : (pieces : List (List ℕ)) (piece : List ℕ) → concat (pieces ++ piece ∷ []) ≡ concat pieces ++ piece
 one-more pieces piece = concat-append pieces (piece ∷ []) ∙ ap (λ l. concat pieces ++ l) (append-nil piece)
 
 -- what one read more shows
-pub state-then : (width : Option ℕ) (words : Words) (pieces : List (List ℕ)) (last bytes piece new more : List ℕ)
-    → State width words pieces last bytes → Changes width words (concat pieces ++ piece) last new more
-    → State width words (pieces ++ piece ∷ []) new (bytes ++ more)
-state-then None words pieces last bytes piece new more s c =
-    let line = line_at words (concat pieces ++ piece) in
-    let all : lines_of words (pieces ++ piece ∷ []) ≡ lines_of words pieces ++ if_any line = lines-more words pieces piece in (
-      c.0 ∙ ap (λ l. last_line l line) s.0 ∙ sym (ap (last_of []) all ∙ last-more [] (lines_of words pieces) line),
+pub state-then : (width : Option ℕ) (options : Options) (pieces : List (List ℕ)) (last bytes piece new more : List ℕ)
+    → State width options pieces last bytes → Changes width options (concat pieces ++ piece) last new more
+    → State width options (pieces ++ piece ∷ []) new (bytes ++ more)
+state-then None options pieces last bytes piece new more s c =
+    let line = line_at options (concat pieces ++ piece) in
+    let all : lines_of options (pieces ++ piece ∷ []) ≡ lines_of options pieces ++ if_any line = lines-more options pieces piece in (
+      c.0 ∙ ap (λ l. last_line l line) s.0 ∙ sym (ap (last_of []) all ∙ last-more [] (lines_of options pieces) line),
       ap₂ (λ a b. a ++ b) s.1 (c.1 ∙ ap (λ l. new_line l line) s.0)
-          ∙ sym (ap (λ l. concat (dedup bytes_eq l)) all ∙ shown-more (lines_of words pieces) line),
+          ∙ sym (ap (λ l. concat (dedup bytes_eq l)) all ∙ shown-more (lines_of options pieces) line),
     )
-state-then (Some width) words pieces last bytes piece new more s c =
+state-then (Some width) options pieces last bytes piece new more s c =
     let writes = s.1.0 in
     let before = s.1.1 in
     let joined : concat (writes ++ more ∷ []) ≡ bytes ++ more = one-more writes more ∙ ap (λ l. l ++ more) (sym s.1.2) in
     let drawn : Redraws [] new (bytes ++ more) = redraws-then [] last new bytes more s.0.1 (c.1 s.0.0) in (
-      (subst IsPlain (sym c.0) (plain-rows words width (concat pieces ++ piece)), drawn),
+      (subst IsPlain (sym c.0) (plain-rows options width (concat pieces ++ piece)), drawn),
       (
         writes ++ more ∷ [],
         record {
@@ -68,9 +68,9 @@ state-then (Some width) words pieces last bytes piece new more s c =
         sym joined,
       ),
     ) where
-      rows-then : (n : ℕ) → 1 ≤ n → n ≤ length (pieces ++ piece ∷ []) → ShowsRows words width pieces s.1.0
+      rows-then : (n : ℕ) → 1 ≤ n → n ≤ length (pieces ++ piece ∷ []) → ShowsRows options width pieces s.1.0
           → concat (s.1.0 ++ more ∷ []) ≡ bytes ++ more → Redraws [] new (bytes ++ more)
-          → Redraws [] (rows_of words width (concat (take n (pieces ++ piece ∷ [])))) (concat (take n (s.1.0 ++ more ∷ [])))
+          → Redraws [] (rows_of options width (concat (take n (pieces ++ piece ∷ [])))) (concat (take n (s.1.0 ++ more ∷ [])))
       rows-then n some few before joined drawn =
           ⊎_elim
           (λ earlier.
@@ -86,29 +86,29 @@ state-then (Some width) words pieces last bytes piece new more s c =
           let written : take n (s.1.0 ++ more ∷ []) ≡ s.1.0 ++ more ∷ [] =
           ap (λ m. take m (s.1.0 ++ more ∷ [])) same ∙ take-length (s.1.0 ++ more ∷ []) in
           subst (λ x. Redraws [] x (concat (take n (s.1.0 ++ more ∷ []))))
-          (c.0 ∙ ap (rows_of words width) (sym (ap concat whole ∙ one-more pieces piece)))
+          (c.0 ∙ ap (rows_of options width) (sym (ap concat whole ∙ one-more pieces piece)))
           (subst (Redraws [] new) (sym (ap concat written ∙ joined)) drawn))
           (below_or_not n (length pieces + 1))
 
 -- What was read has arrived in some pieces, and they are shown.
-pub record Follows (width : Option ℕ) (words : Words) (from from' out out' : Option (List ℕ)) (input : Input) (last : List ℕ)
+pub record Follows (width : Option ℕ) (options : Options) (from from' out out' : Option (List ℕ)) (input : Input) (last : List ℕ)
     : Type 0 where
   pub pieces : List (List ℕ)
   pub bytes : List ℕ
-  pub arrived : HasArrived words input (concat pieces)
+  pub arrived : HasArrived options input (concat pieces)
   pub taken : Consumes from from' (concat pieces)
-  pub state : State width words pieces last bytes
+  pub state : State width options pieces last bytes
   pub shown-is : Appends out out' bytes
 
 -- nothing was read yet
-pub begins : (width : Option ℕ) (words : Words) (from out : Option (List ℕ)) (input : Input) → HasArrived words input []
-    → Follows width words from from out out input []
-begins width words from out input h = record {
+pub begins : (width : Option ℕ) (options : Options) (from out : Option (List ℕ)) (input : Input) → HasArrived options input []
+    → Follows width options from from out out input []
+begins width options from out input h = record {
   pieces = [];
   bytes = [];
   arrived = h;
   taken = Consumes-nil from;
-  state = begun width words;
+  state = begun width options;
   shown-is = Appends-nil out;
 }
 
@@ -130,20 +130,20 @@ appends-kept (Some x) None c t h k = absurd h
 appends-kept (Some x) (Some y) None t h k = absurd k
 appends-kept (Some x) (Some y) (Some z) t h k = k ∙ h
 
-module _ (width : Option ℕ) (words : Words) (from out : Option (List ℕ)) where
+module _ (width : Option ℕ) (options : Options) (from out : Option (List ℕ)) where
   -- a prefix of what pieces that were read show
   stopped-in : (from' out' : Option (List ℕ)) (pieces : List (List ℕ)) (bytes : List ℕ) → Consumes from from' (concat pieces)
-      → Shows width words pieces bytes → AppendsPrefix out out' bytes → IfSome from (λ t. ShowsPrefix width words t out out')
+      → Shows width options pieces bytes → AppendsPrefix out out' bytes → IfSome from (λ t. ShowsPrefix width options t out out')
   stopped-in from' out' pieces bytes taken shows prefix =
       IfSome_then from (prefix-of from from' (concat pieces) taken) (λ t starts. (pieces, starts, (bytes, shows, prefix)))
 
   module _ (from' out' : Option (List ℕ)) (input : Input) (last : List ℕ)
-      (h : Follows width words from from' out out' input last) where
-    shows : Shows width words h.pieces h.bytes
-    shows = shows-is width words h.pieces last h.bytes h.state
+      (h : Follows width options from from' out out' input last) where
+    shows : Shows width options h.pieces h.bytes
+    shows = shows-is width options h.pieces last h.bytes h.state
 
     -- nothing was read
-    pub stays : (from'' : Option (List ℕ)) → Keeps from' from'' → Follows width words from from'' out out' input last
+    pub stays : (from'' : Option (List ℕ)) → Keeps from' from'' → Follows width options from from'' out out' input last
     stays from'' kept = record {
       pieces = h.pieces;
       bytes = h.bytes;
@@ -160,14 +160,14 @@ module _ (width : Option ℕ) (words : Words) (from out : Option (List ℕ)) whe
           Consumes-all from from'' (concat h.pieces ++ []) [] (concat h.pieces)
           (Consumes-trans from from' from'' (concat h.pieces) [] h.taken none) end (sym (append-nil (concat h.pieces)))
 
-      pub all-arrived : IfSome from (λ t. HasArrived words input t)
-      all-arrived = IfSome_then from all-read (λ t is. subst (HasArrived words input) is h.arrived)
+      pub all-arrived : IfSome from (λ t. HasArrived options input t)
+      all-arrived = IfSome_then from all-read (λ t is. subst (HasArrived options input) is h.arrived)
 
-      pub all-shown : IfSome from (λ t. ShowsAll width words t out out')
+      pub all-shown : IfSome from (λ t. ShowsAll width options t out out')
       all-shown = IfSome_then from all-read (λ t is. (h.pieces, is, (h.bytes, shows, h.shown-is)))
 
     -- no more is read
-    pub stopped : (out'' : Option (List ℕ)) → Keeps out' out'' → IfSome from (λ t. ShowsPrefix width words t out out'')
+    pub stopped : (out'' : Option (List ℕ)) → Keeps out' out'' → IfSome from (λ t. ShowsPrefix width options t out out'')
     stopped out'' kept =
         let whole = appends-kept out out' out'' h.bytes h.shown-is kept in
         stopped-in from' out'' h.pieces h.bytes h.taken shows
@@ -186,45 +186,41 @@ module _ (width : Option ℕ) (words : Words) (from out : Option (List ℕ)) whe
           (Consumes-trans from from' from'' (concat h.pieces) piece h.taken read)
 
       -- what stands then is shown
-      pub goes-on : (input' : Input) → HasArrived words input' (concat h.pieces ++ piece)
-          → (out'' : Option (List ℕ)) (new : List ℕ) → WritesChange width words (concat h.pieces ++ piece) last new out' out''
-          → Follows width words from from'' out out'' input' new
+      pub goes-on : (input' : Input) → HasArrived options input' (concat h.pieces ++ piece)
+          → (out'' : Option (List ℕ)) (new : List ℕ) → WritesChange width options (concat h.pieces ++ piece) last new out' out''
+          → Follows width options from from'' out out'' input' new
       goes-on input' more-arrived out'' new wrote = record {
         pieces = pieces;
         bytes = h.bytes ++ wrote.0;
-        arrived = subst (HasArrived words input') joined more-arrived;
+        arrived = subst (HasArrived options input') joined more-arrived;
         taken = taken-then;
-        state = state-then width words h.pieces last h.bytes piece new wrote.0 h.state wrote.1;
+        state = state-then width options h.pieces last h.bytes piece new wrote.0 h.state wrote.1;
         shown-is = Appends-trans out out' out'' _ _ h.shown-is wrote.2;
       }
 
       -- a prefix of it is
-      pub breaks-off : (out'' : Option (List ℕ)) → BreaksOff width words (concat h.pieces ++ piece) last out' out''
-          → IfSome from (λ t. ShowsPrefix width words t out out'')
+      pub breaks-off : (out'' : Option (List ℕ)) → BreaksOff width options (concat h.pieces ++ piece) last out' out''
+          → IfSome from (λ t. ShowsPrefix width options t out out'')
       breaks-off out'' (inl kept) = stopped out'' kept
       breaks-off out'' (inr (new, (more, changes, prefix))) =
-          let state = state-then width words h.pieces last h.bytes piece new more h.state changes in
+          let state = state-then width options h.pieces last h.bytes piece new more h.state changes in
           stopped-in from'' out'' pieces (h.bytes ++ more) taken-then
-          (shows-is width words pieces new (h.bytes ++ more) state) (
+          (shows-is width options pieces new (h.bytes ++ more) state) (
             length h.bytes + prefix.0,
             subst (Appends out out'') (sym (take-append-add h.bytes more prefix.0))
                 (Appends-trans out out' out'' _ _ h.shown-is prefix.1),
           )
 
-pub if-ok : {T E P Q : Type 0} (r : Result T E) → OnOk r P → (P → Q) → OnOk r Q
-if-ok (Ok x) p f = f p
-if-ok (Err e) p f = tt
-
 -- A line that was written, or a prefix of it.
-pub line-written : {T E : Type 0} (r : Result T E) (items : T → List ℕ) (words : Words) (t last : List ℕ)
-    (out out' : Option (List ℕ)) → IfOk r (λ x. items x ≡ last_line last (line_at words t))
-    → OnOk r (Appends out out' (new_line last (line_at words t)))
-    → IfOk r (λ x. WritesChange None words t last (items x) out out')
-line-written (Ok x) items words t last out out' is wrote = (new_line last (line_at words t), (is, refl), wrote)
-line-written (Err e) items words t last out out' is wrote = tt
+pub line-written : {T E : Type 0} (r : Result T E) (items : T → List ℕ) (options : Options) (t last : List ℕ)
+    (out out' : Option (List ℕ)) → IfOk r (λ x. items x ≡ last_line last (line_at options t))
+    → OnOk r (Appends out out' (new_line last (line_at options t)))
+    → IfOk r (λ x. WritesChange None options t last (items x) out out')
+line-written (Ok x) items options t last out out' is wrote = (new_line last (line_at options t), (is, refl), wrote)
+line-written (Err e) items options t last out out' is wrote = tt
 
-pub line-broken : {T E : Type 0} (r : Result T E) (words : Words) (t last : List ℕ) (out out' : Option (List ℕ))
-    → OnErr r (AppendsPrefix out out' (new_line last (line_at words t))) → OnErr r (BreaksOff None words t last out out')
-line-broken (Ok x) words t last out out' prefix = tt
-line-broken (Err e) words t last out out' prefix =
-    inr (last_line last (line_at words t), (new_line last (line_at words t), (refl, refl), prefix))
+pub line-broken : {T E : Type 0} (r : Result T E) (options : Options) (t last : List ℕ) (out out' : Option (List ℕ))
+    → OnErr r (AppendsPrefix out out' (new_line last (line_at options t))) → OnErr r (BreaksOff None options t last out out')
+line-broken (Ok x) options t last out out' prefix = tt
+line-broken (Err e) options t last out out' prefix =
+    inr (last_line last (line_at options t), (new_line last (line_at options t), (refl, refl), prefix))

@@ -1,8 +1,4 @@
-mod Arriving
-mod Drawing
 mod Following
 mod Lines
-mod Plain
-mod Split
 mod StringEnd
 mod Told

@@ -8,7 +8,7 @@ use Rattle.std.proofs.lemmas.Grind.{flat_map-append}
 use Rattle.std.proofs.lemmas.List.Folds.{concat-append}
 use Rattle.std.proofs.lemmas.Slice.Eq.{bytes_eq-Decides}
 use Rattle.viewer.specs.Shown.{prefixes, if_any, last_line, lines_at, lines_of, new_line}
-use Rattle.viewer.specs.declared.input.Words.{Words}
+use Rattle.json_screen.specs.declared.input.Options.{Options}
 
 -- the last of some lines, where there is one
 abbrev pub last_of : List ℕ → List (List ℕ) → List ℕ
@@ -27,12 +27,12 @@ prefixes-more t (q ∷ ps) p =
     ∙ ap (λ u. prefixes (t ++ q) ps ++ (u ++ p) ∷ []) (append_assoc t q (concat ps)))
 
 -- the lines of one piece more
-pub lines-more : (words : Words) (ps : List (List ℕ)) (p : List ℕ)
-    → lines_of words (ps ++ p ∷ []) ≡ lines_of words ps ++ lines_at words (concat ps ++ p)
-lines-more words ps p =
-    ap (flat_map (lines_at words)) (prefixes-more [] ps p)
-    ∙ flat_map-append (lines_at words) (prefixes [] ps) _
-    ∙ ap (λ l. lines_of words ps ++ l) (append-nil (lines_at words (concat ps ++ p)))
+pub lines-more : (options : Options) (ps : List (List ℕ)) (p : List ℕ)
+    → lines_of options (ps ++ p ∷ []) ≡ lines_of options ps ++ lines_at options (concat ps ++ p)
+lines-more options ps p =
+    ap (flat_map (lines_at options)) (prefixes-more [] ps p)
+    ∙ flat_map-append (lines_at options) (prefixes [] ps) _
+    ∙ ap (λ l. lines_of options ps ++ l) (append-nil (lines_at options (concat ps ++ p)))
 
 -- a line more after k and the lines xs
 dedup-more : (k : List ℕ) (xs : List (List ℕ)) (x : List ℕ)

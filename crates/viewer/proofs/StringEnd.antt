@@ -1,5 +1,5 @@
 -- What is shown of a document that is cut, and how a run ends.
-use Rattle.std.proofs.Common.{◌≡◌, refl, subst, ℕ, Bool, true, false, List, Option, Some, None, IfSome}
+use Rattle.std.proofs.Common.{◌≡◌, refl, ℕ, Bool, true, false, List, Option, Some, None, IfSome}
 use Rattle.std.proofs.Common.{inl, inr}
 use Rattle.std.specs.Prelude.{codes, if◌then◌else◌, length, Result, Ok, Err, IsErr}
 use Rattle.std.specs.Io.KnownBytes.{Appends, Keeps}
@@ -9,20 +9,19 @@ use Rattle.jiter_print.specs.Written.{AppendsPrefix}
 use Rattle.jiter.specs.Caller.{Reading, done, fault, Tree, answer, answer_in, is_active, IsBegunContainer}
 use Rattle.jiter_steps.proofs.Cut.CutLaw.{AnswersCut, answer_in-cut}
 use Rattle.jiter_steps.proofs.Grammar.Documents.{IsRead, answer-is}
-use Rattle.viewer.specs.Parts.{inside_of, parts_of}
-use Rattle.viewer.specs.Shown.{document_error, EndsAs, error_of, Finishes, has_mark, IsErrorText, IsLineOfCut, Ran}
-use Rattle.viewer.specs.Shown.{ShowsAll, ShowsPrefix, Tells}
-use Rattle.viewer.specs.Shown.{value_line}
+use Rattle.json_screen.specs.Parts.{inside_of, parts_of}
+use Rattle.json_screen.specs.Report.{document_error, error_of, has_mark, IsReport}
+use Rattle.viewer.specs.Shown.{EndsAs, Finishes, IsLineOfCut, Ran, ShowsAll, ShowsPrefix, Tells, value_line}
 use Rattle.viewer.specs.declared.view.Settings.{Settings}
-use Rattle.viewer.specs.declared.input.Words.{Words}
+use Rattle.json_screen.specs.declared.input.Options.{Options}
 
 -- the line of a prefix of an array or object
-pub cut-shown : (words : Words) → is_active words.mode ≡ true → (prefix : List ℕ)
-    → (f : IsBegunContainer words.inf_nan prefix)
-    → IsLineOfCut words f (value_line (answer_in words.inf_nan words.mode prefix))
-cut-shown words active prefix f =
-    by (answer_in words.inf_nan words.mode prefix) (answer_in-cut words.inf_nan prefix words.mode f active) where
-      by : (x : Reading Tree) → AnswersCut words.inf_nan prefix words.mode f x → IsLineOfCut words f (value_line x)
+pub cut-shown : (options : Options) → is_active options.mode ≡ true → (prefix : List ℕ)
+    → (f : IsBegunContainer options.inf_nan prefix)
+    → IsLineOfCut options f (value_line (answer_in options.inf_nan options.mode prefix))
+cut-shown options active prefix f =
+    by (answer_in options.inf_nan options.mode prefix) (answer_in-cut options.inf_nan prefix options.mode f active) where
+      by : (x : Reading Tree) → AnswersCut options.inf_nan prefix options.mode f x → IsLineOfCut options f (value_line x)
       by (done v e) is = (v, is, refl)
       by (fault k i stop) is = absurd is
 
@@ -55,21 +54,21 @@ ends-as {E = E} names name t end err err' h = by (has_mark t) refl h where
   by false e told = in-document (answer names (inside_of t)) end (answer-is names (inside_of t)) told
 
 pub ended : {E : Type 0} (settings : Settings) (from err err' : Option (List ℕ)) (end : Result Bool E)
-    → IfSome from (λ t. Finishes settings t end err err') → IfSome from (λ t. EndsAs settings.words.inf_nan t end)
+    → IfSome from (λ t. Finishes settings t end err err') → IfSome from (λ t. EndsAs settings.options.inf_nan t end)
 ended settings from err err' end told =
-    IfSome_then from told (λ t h. ends-as settings.words.inf_nan settings.name.now t end err err' h)
+    IfSome_then from told (λ t h. ends-as settings.options.inf_nan settings.name.now t end err err' h)
 
 -- there is no error
-pub nothing-told : (E : Type 0) (name t : List ℕ) (o : Option (ℕ × List ℕ)) → None ≡ o → (err err' : Option (List ℕ))
-    → Keeps err err' → Tells {E = E} name t o (Ok true) err err'
-nothing-told E name t o same err err' kept = subst (λ l. Tells {E = E} name t l (Ok true) err err') same kept
+pub nothing-told : (E : Type 0) (name t : List ℕ) (o : Option (ℕ × List ℕ)) → IsReport name t o None
+    → (err err' : Option (List ℕ)) → Keeps err err' → Tells {E = E} name t o (Ok true) err err'
+nothing-told E name t None is err err' kept = kept
+nothing-told E name t (Some x) is err err' kept = absurd is
 
 -- its text was written
-pub all-told : (E : Type 0) (name t : List ℕ) (o : Option (ℕ × List ℕ)) (x : ℕ × List ℕ) → Some x ≡ o
-    → (err err' : Option (List ℕ)) (text : List ℕ) → IsErrorText name t x.0 x.1 text → Appends err err' text
-    → Tells {E = E} name t o (Ok false) err err'
-all-told E name t o x same err err' text is whole =
-    subst (λ l. Tells {E = E} name t l (Ok false) err err') same (text, is, whole)
+pub all-told : (E : Type 0) (name t : List ℕ) (o : Option (ℕ × List ℕ)) (text : List ℕ) → IsReport name t o (Some text)
+    → (err err' : Option (List ℕ)) → Appends err err' text → Tells {E = E} name t o (Ok false) err err'
+all-told E name t None text is err err' whole = absurd is
+all-told E name t (Some x) text is err err' whole = (text, is, whole)
 
 -- nothing of it was
 pub untold : {E : Type 0} (name t : List ℕ) (o : Option (ℕ × List ℕ)) (end : Result Bool E) → IsErr end
@@ -80,15 +79,15 @@ untold name t (Some x) (Err e) is err = inl (Keeps-refl err)
 
 -- a prefix of it was
 pub half-told : {E : Type 0} (end : Result Bool E) → IsErr end → (name t : List ℕ) (o : Option (ℕ × List ℕ))
-    (x : ℕ × List ℕ) → Some x ≡ o → (err err' : Option (List ℕ)) (text : List ℕ) → IsErrorText name t x.0 x.1 text
-    → AppendsPrefix err err' text → Tells name t o end err err'
-half-told (Ok whole) is name t o x same err err' text told prefix = absurd (cc)
-half-told (Err e) is name t o x same err err' text told prefix =
-    subst (λ l. Tells name t l (Err e) err err') same (inr (text, told, prefix))
+    (text : List ℕ) → IsReport name t o (Some text) → (err err' : Option (List ℕ)) → AppendsPrefix err err' text
+    → Tells name t o end err err'
+half-told (Ok whole) is name t o text told err err' prefix = absurd (cc)
+half-told (Err e) is name t None text told err err' prefix = absurd told
+half-told (Err e) is name t (Some x) text told err err' prefix = inr (text, told, prefix)
 
 -- all was shown, and then the fault
 pub ran : {E : Type 0} (settings : Settings) (from out out' err err' : Option (List ℕ)) (end : Result Bool E)
-    → IfSome from (λ t. ShowsAll settings.width settings.words t out out') → IfSome from (λ t. Finishes settings t end err err')
+    → IfSome from (λ t. ShowsAll settings.width settings.options t out out') → IfSome from (λ t. Finishes settings t end err err')
     → IfSome from (λ t. Ran settings t end out out' err err')
 ran settings None out out' err err' end shown told = tt
 ran settings (Some t) out out' err err' (Ok whole) shown told = (shown, told)
@@ -96,7 +95,7 @@ ran settings (Some t) out out' err err' (Err e) shown told = inl (shown, told)
 
 -- not all was read, or shown
 pub broke-off : {E : Type 0} (settings : Settings) (from out out' err : Option (List ℕ))
-    (end : Result Bool E) → IsErr end → IfSome from (λ t. ShowsPrefix settings.width settings.words t out out')
+    (end : Result Bool E) → IsErr end → IfSome from (λ t. ShowsPrefix settings.width settings.options t out out')
     → IfSome from (λ t. Ran settings t end out out' err err)
 broke-off settings from out out' err (Ok whole) is prefix = absurd (cc)
 broke-off settings from out out' err (Err e) is prefix = IfSome_then from prefix (λ t h. inr (h, Keeps-refl err))

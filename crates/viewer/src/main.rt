@@ -1,14 +1,12 @@
 //! Shows a JSON document while it is read: on a terminal in place, into a pipe as a line for each change.
 #![tactic(auto)]
 
-mod input;
-mod screen;
 mod view;
 
 use clap::{Arg, ArgAction, ArgMatches, Command};
-use input::Words;
 use jiter::PartialMode;
 use json_lines::{Program, ReadInput, base_command, main_of, read_each};
+use json_screen::Options;
 use std::alloc::{AllocError, Global};
 use std::io::{IsTerminal, Read};
 use std::process::ExitCode;
@@ -42,7 +40,7 @@ fn width(rt: &HostRuntime) -> usize {
 // How inputs are shown.
 #[derive(Drop)]
 struct Viewer {
-    words: Words,
+    options: Options,
     width: Option<usize>,
 }
 
@@ -55,7 +53,7 @@ impl ReadInput for Viewer {
     ) -> io::Result<bool> {
         let settings = Settings {
             name,
-            words: self.words,
+            options: self.options,
             width: self.width,
         };
         let (mut out, mut err) = (rt.stdout(), rt.stderr());
@@ -85,8 +83,8 @@ impl Program for Viewer {
             true => None,
             false => Some(width(rt)),
         };
-        let words = Words { mode, inf_nan };
-        Ok(read_each(rt, NAME, matches, &mut Viewer { words, width }))
+        let options = Options { mode, inf_nan };
+        Ok(read_each(rt, NAME, matches, &mut Viewer { options, width }))
     }
 }
 

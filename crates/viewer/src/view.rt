@@ -1,25 +1,19 @@
 //! A complete run, over one reader and two writers.
-ghost use Rattle.std.specs.Prelude.{◌≡◌, [], List, ℕ, true, IfOk, IfSome, OnErr, OnOk, Some, string_bytes};
-ghost use Rattle.std.specs.Option.{option_map};
+ghost use Rattle.std.specs.Prelude.{◌≡◌, [], List, ℕ, true, IfOk, IfSome, OnErr, OnOk, Some};
 ghost use Rattle.std.specs.Io.KnownBytes.{Appends};
 ghost use Rattle.jiter.specs.Caller.{answer_in, is_active, IsBegunContainer};
 ghost use Rattle.jiter_print.specs.Written.{AppendsPrefix};
-ghost use Rattle.viewer.specs.Arrived.{HasArrived, ReadsAs};
-ghost use Rattle.viewer.specs.Rows.{filled, put_reading, rows_of};
-ghost use Rattle.viewer.specs.Shown.{BreaksOff, EndsAs, Finishes, IsErrorText, cause_seen, error_of, IsLineOfCut, last_line, new_line, Ran};
-ghost use Rattle.viewer.specs.Shown.{ShowsAll, ShowsPrefix, value_line, WritesChange};
-ghost use Rattle.viewer.specs.declared.input.Words.{Words};
+ghost use Rattle.json_screen.specs.Arrived.{HasArrived, ReadsAs};
+ghost use Rattle.json_screen.specs.declared.input.Options.{Options};
+ghost use Rattle.viewer.specs.Shown.{BreaksOff, EndsAs, Finishes, IsLineOfCut, last_line, new_line, Ran, ShowsAll, ShowsPrefix};
+ghost use Rattle.viewer.specs.Shown.{value_line, WritesChange};
 
-use crate::input::{Input, Words};
-use crate::screen::{Rows, redraw};
-use jiter::LinePosition;
 use jiter_incremental::IncrementalParser;
-use jiter_print::{print, print_pretty, write_line};
+use jiter_print::{print, write_line};
+use json_screen::{Input, Options, error_report, redraw, rows_of};
 use std::alloc::{AllocError, Global};
 use std::io;
 use std::io::{ErrorKind, Read, Write};
-
-const BYTE_ORDER_MARK: [u8; 3] = [0xef, 0xbb, 0xbf];
 
 /// How a document is read and shown.
 #[derive(Clone, Copy)]
@@ -27,7 +21,7 @@ pub struct Settings<'a> {
     /// The input's name in its error.
     pub name: &'a str,
     /// How the document is read.
-    pub words: Words,
+    pub options: Options,
     /// The columns of the terminal's rows; `None` if a line is written for each change.
     pub width: Option<usize>,
 }
@@ -54,13 +48,13 @@ pub fn run<R: Read, O: Write, E: Write>(
 ) -> io::Result<bool>
     ensures wrote { IfSome (R.remaining reader.old) (λ t. Ran settings.entry t result
         (O.contents out.old) (O.contents out.new) (E.contents err.old) (E.contents err.new)) }
-    ensures document { IfSome (R.remaining reader.old) (λ t. EndsAs settings.entry.words.inf_nan t result) }
-    ensures cut { is_active settings.entry.words.mode ≡ true → (prefix : List ℕ)
-        → (f : IsBegunContainer settings.entry.words.inf_nan prefix)
-        → IsLineOfCut settings.entry.words f
-        (value_line (answer_in settings.entry.words.inf_nan settings.entry.words.mode prefix)) }
+    ensures document { IfSome (R.remaining reader.old) (λ t. EndsAs settings.entry.options.inf_nan t result) }
+    ensures cut { is_active settings.entry.options.mode ≡ true → (prefix : List ℕ)
+        → (f : IsBegunContainer settings.entry.options.inf_nan prefix)
+        → IsLineOfCut settings.entry.options f
+        (value_line (answer_in settings.entry.options.inf_nan settings.entry.options.mode prefix)) }
 {
-    let mut input = Input::new(alloc, settings.words);
+    let mut input = Input::new(alloc, settings.options);
     follow(alloc, settings.width, &mut input, reader, out)?;
     finish(alloc, settings, input, err)
 }
@@ -74,13 +68,13 @@ fn follow<R: Read, O: Write>(
     reader: &mut R,
     out: &mut O,
 ) -> io::Result<()>
-    ensures all { (words : Words) → HasArrived words input.old []
-        → OnOk result (IfSome (R.remaining reader.old) (λ t. HasArrived words input.new t)) }
-    ensures shown { (words : Words) → HasArrived words input.old []
-        → OnOk result (IfSome (R.remaining reader.old) (λ t. ShowsAll width words t
+    ensures all { (options : Options) → HasArrived options input.old []
+        → OnOk result (IfSome (R.remaining reader.old) (λ t. HasArrived options input.new t)) }
+    ensures shown { (options : Options) → HasArrived options input.old []
+        → OnOk result (IfSome (R.remaining reader.old) (λ t. ShowsAll width options t
         (O.contents out.old) (O.contents out.new))) }
-    ensures prefix { (words : Words) → HasArrived words input.old []
-        → OnErr result (IfSome (R.remaining reader.old) (λ t. ShowsPrefix width words t
+    ensures prefix { (options : Options) → HasArrived options input.old []
+        → OnErr result (IfSome (R.remaining reader.old) (λ t. ShowsPrefix width options t
         (O.contents out.old) (O.contents out.new))) }
 {
     let mut last = Vec::new(alloc);
@@ -107,10 +101,10 @@ fn show<O: Write>(
     last: Vec<u8>,
     out: &mut O,
 ) -> io::Result<Vec<u8>>
-    ensures whole { (words : Words) → (t : List ℕ) → HasArrived words input.now t → IfOk result (λ text.
-        WritesChange width words t last.items text.items (O.contents out.old) (O.contents out.new)) }
-    ensures prefix { (words : Words) → (t : List ℕ) → HasArrived words input.now t → OnErr result
-        (BreaksOff width words t last.items (O.contents out.old) (O.contents out.new)) }
+    ensures whole { (options : Options) → (t : List ℕ) → HasArrived options input.now t → IfOk result (λ text.
+        WritesChange width options t last.items text.items (O.contents out.old) (O.contents out.new)) }
+    ensures prefix { (options : Options) → (t : List ℕ) → HasArrived options input.now t → OnErr result
+        (BreaksOff width options t last.items (O.contents out.old) (O.contents out.new)) }
 {
     match width {
         Some(width) => show_rows(alloc, width, input, last, out),
@@ -125,14 +119,14 @@ fn show_line<O: Write>(
     last: Vec<u8>,
     out: &mut O,
 ) -> io::Result<Vec<u8>>
-    ensures last { (words : Words) → (t : List ℕ) → ReadsAs words document.now t → IfOk result (λ line. line.items
-        ≡ last_line last.items (value_line (answer_in words.inf_nan words.mode t))) }
-    ensures whole { (words : Words) → (t : List ℕ) → ReadsAs words document.now t
+    ensures last { (options : Options) → (t : List ℕ) → ReadsAs options document.now t → IfOk result (λ line. line.items
+        ≡ last_line last.items (value_line (answer_in options.inf_nan options.mode t))) }
+    ensures whole { (options : Options) → (t : List ℕ) → ReadsAs options document.now t
         → OnOk result (Appends (O.contents out.old) (O.contents out.new)
-        (new_line last.items (value_line (answer_in words.inf_nan words.mode t)))) }
-    ensures prefix { (words : Words) → (t : List ℕ) → ReadsAs words document.now t
+        (new_line last.items (value_line (answer_in options.inf_nan options.mode t)))) }
+    ensures prefix { (options : Options) → (t : List ℕ) → ReadsAs options document.now t
         → OnErr result (AppendsPrefix (O.contents out.old) (O.contents out.new)
-        (new_line last.items (value_line (answer_in words.inf_nan words.mode t)))) }
+        (new_line last.items (value_line (answer_in options.inf_nan options.mode t)))) }
 {
     let mut line = match document.value() {
         Ok(value) => print(alloc, value)?,
@@ -152,10 +146,10 @@ fn show_rows<O: Write>(
     last: Vec<u8>,
     out: &mut O,
 ) -> io::Result<Vec<u8>>
-    ensures whole { (words : Words) → (t : List ℕ) → HasArrived words input.now t → IfOk result (λ text.
-        WritesChange (Some width) words t last.items text.items (O.contents out.old) (O.contents out.new)) }
-    ensures prefix { (words : Words) → (t : List ℕ) → HasArrived words input.now t → OnErr result
-        (BreaksOff (Some width) words t last.items (O.contents out.old) (O.contents out.new)) }
+    ensures whole { (options : Options) → (t : List ℕ) → HasArrived options input.now t → IfOk result (λ text.
+        WritesChange (Some width) options t last.items text.items (O.contents out.old) (O.contents out.new)) }
+    ensures prefix { (options : Options) → (t : List ℕ) → HasArrived options input.now t → OnErr result
+        (BreaksOff (Some width) options t last.items (O.contents out.old) (O.contents out.new)) }
 {
     let rows = rows_of(alloc, width, input)?;
     let text = rows.text.into_bytes();
@@ -164,97 +158,18 @@ fn show_rows<O: Write>(
     Ok(text)
 }
 
-// The rows of the input so far. A document with an error is shown as it is.
-fn rows_of(alloc: Global, width: usize, input: &Input) -> Result<Rows, AllocError>
-    ensures { (words : Words) → (t : List ℕ) → HasArrived words input.now t
-        → IfOk result (λ rows. string_bytes rows.text ≡ rows_of words width t) }
-{
-    let mut rows = Rows::new(alloc, width);
-    rows.append(alloc, input.before.as_slice())?;
-    append_document(alloc, input, &mut rows)?;
-    rows.append(alloc, input.after.as_slice())?;
-    rows.end()?;
-    Ok(rows)
-}
-
-fn append_document(alloc: Global, input: &Input, rows: &mut Rows) -> Result<(), AllocError>
-    ensures rows { (words : Words) → (t : List ℕ) → ReadsAs words input.now.document t → t ≡ input.now.inside.items
-        → OnOk result (filled rows.new ≡ put_reading rows.old.width input.now.extent.depth (filled rows.old) t
-        (answer_in words.inf_nan words.mode t)) }
-    ensures width { rows.new.width ≡ rows.old.width }
-{
-    let Ok(value) = input.document.value() else {
-        return rows.append(alloc, input.inside.as_slice());
-    };
-    let text = print_pretty(alloc, value, 2)?;
-    if input.extent.depth == 0 {
-        return rows.append(alloc, text.as_slice());
-    }
-    rows.append_marked(alloc, text.as_slice(), input.extent.depth)
-}
-
 fn finish<E: Write>(
     alloc: Global,
     settings: Settings<'_>,
     input: Input,
     err: &mut E,
 ) -> io::Result<bool>
-    ensures { (t : List ℕ) → HasArrived settings.entry.words input t
+    ensures { (t : List ℕ) → HasArrived settings.entry.options input t
         → Finishes settings.entry t result (E.contents err.old) (E.contents err.new) }
 {
-    let bytes = input.bytes(alloc)?;
-    let Some(cause) = cause_of(alloc, input, bytes.as_slice())? else {
+    let Some(report) = error_report(alloc, settings.name, input)? else {
         return Ok(true);
     };
-    let text = error_text(alloc, settings.name, bytes.as_slice(), cause)?;
-    write_line(err, text.as_bytes())?;
+    write_line(err, report.as_bytes())?;
     Ok(false)
-}
-
-// Why the input is no document, and where.
-#[derive(Drop)]
-struct Cause {
-    index: usize,
-    text: String,
-}
-
-// A byte order mark isn't JSON, and invisible in an editor: it is named.
-fn cause_of(alloc: Global, input: Input, bytes: &[u8]) -> Result<Option<Cause>, AllocError>
-    ensures { (words : Words) → (t : List ℕ) → HasArrived words input t → bytes.now ≡ t
-        → IfOk result (λ cause. option_map cause_seen cause ≡ error_of words.inf_nan t) }
-{
-    if bytes.starts_with(&BYTE_ORDER_MARK) {
-        let text = format!(in alloc; "byte order mark")?;
-        return Ok(Some(Cause { index: 0, text }));
-    }
-    let begin = input.before.len();
-    match input.document.finish() {
-        Ok(_) => Ok(None),
-        Err(error) => {
-            let index = begin.saturating_add(error.index);
-            let text = format!(in alloc; "{}", error.error_type)?;
-            Ok(Some(Cause { index, text }))
-        }
-    }
-}
-
-// `NAME:LINE:COLUMN: CAUSE`, the line, and a caret under the byte. Of a long line, what is around the byte.
-fn error_text(alloc: Global, name: &str, bytes: &[u8], cause: Cause) -> Result<String, AllocError>
-    ensures { IfOk result
-        (λ text. IsErrorText name.now bytes.now cause.index (string_bytes cause.text) (string_bytes text)) }
-{
-    let LinePosition { line, column } = LinePosition::find(bytes, cause.index);
-    let through = cause.index.saturating_add(1).min(bytes.len());
-    let at = through.saturating_sub(column.min(1));
-    let begin = through.saturating_sub(column.min(60)).min(at);
-    let rest = &bytes[at..at.saturating_add(20).min(bytes.len())];
-    let count = rest.iter().take_while(|byte| **byte != b'\n').count();
-    let mut rows = Rows::new(alloc, usize::MAX);
-    rows.append(alloc, &bytes[begin..at])?;
-    let indent = usize::MAX.saturating_sub(rows.left);
-    rows.append(alloc, &rest[..count])?;
-    let (cause, shown) = (cause.text, rows.text);
-    let mut text = format!(in alloc; "{name}:{line}:{column}: {cause}\n")?;
-    text.push_str(format!(in alloc; "{shown}\n{:indent$}^\n", "")?.as_str())?;
-    Ok(text)
 }

@@ -279,7 +279,7 @@ pub fn fast_put_scalar<'s, T: StringStorage<'s>>(
     }
 }
 
-/// Pushes a plain key, if its colon and a value follow. Returns the index of the value.
+/// Pushes a plain key, if its colon and a value follow and its stack has room. Returns the index of the value.
 #[inline(always)]
 pub fn fast_put_key<'s, T: StringStorage<'s>>(
     texts: T,
@@ -298,6 +298,9 @@ pub fn fast_put_key<'s, T: StringStorage<'s>>(
     ensures keys { result.1 ≡ Plain.Put
         → KeepsKeys T.made bytes.now stacks.old.members.items state.Key at stacks.new.members.items }
 {
+    if stacks.members.len() == stacks.members.capacity() {
+        return (at, Plain::Other);
+    }
     let Some(to) = fast_string_end(bytes, at) else {
         return (at, Plain::Other);
     };

@@ -1,5 +1,3 @@
-use Rattle.std.proofs.Common.{subst}
-use Rattle.jiter_value.specs.Stacks.{LeavesKeys}
 use Rattle.jiter_value.proofs.KeptKeys.{leaves-on}
 use Rattle.jiter_value.proofs.turns.value_turn.Goals as goal
 
@@ -7,5 +5,4 @@ pub returns-in_default-Put-clause-keys : goal.returns-in_default-Put-clause-keys
 returns-in_default-Put-clause-keys g c =
     let put = c.fast_put_scalar in
     leaves-on c.after_value.new.reading.stacks c.after_value.result.1 c.args.reading.now.stacks.members.items put.new.reading.stacks.members.items _
-    (subst (λ s. LeavesKeys s.items put.new.reading.stacks.members.items) c.reserve.ensures.same.members
-    (put.ensures.keys c.in_default-Put.is-1)) c.after_value.ensures.keys
+    (put.ensures.keys c.in_default-Put.is-1) c.after_value.ensures.keys

@@ -1,9 +1,0 @@
-use Rattle.std.proofs.Common.{◌≡◌, take}
-use Rattle.std.specs.List.{fold}
-use Rattle.viewer.specs.Parts.{Grows, part_step, parts}
-use Rattle.viewer.proofs.input.Input.take.Given as goal
-
-abbrev pub invariant-loop-byte : goal.invariant-loop-byte
-invariant-loop-byte l =
-    (parts l.self ≡ fold part_step (parts l.fn.self) (take l.byte-index l.piece))
-    × Grows l.fn.self.inside.items l.self.inside.items × (l.self.document ≡ l.fn.self.document)
