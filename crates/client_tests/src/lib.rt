@@ -1,5 +1,4 @@
-//! What clients of `jiter` write: the examples of README.md and docs/CALLING.md, its names, and two prefixes of one
-//! document. Tests alone.
+//! What clients of `jiter` write: the examples of README.md and docs/CALLING.md, and its names. Tests alone.
 #![tactic(auto)]
 
 #[cfg(test)]

@@ -1,3 +1,2 @@
-//! Examples of the documents, and two prefixes of one document.
+//! Examples of the documents.
 mod examples;
-mod prefixes;

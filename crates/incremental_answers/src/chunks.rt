@@ -19,6 +19,15 @@ pub fn pushed(alloc: Global, row: Row<'_>, chunks: &[Vec<u8>]) -> Result<String,
     Ok(out)
 }
 
+/// The value of all chunks in the row's mode, moved out of the parser.
+pub fn moved_out(alloc: Global, row: Row<'_>, chunks: &[Vec<u8>]) -> Result<String, AllocError> {
+    let mut incremental_parser = IncrementalParser::new(alloc, row.allow_inf_nan, mode_of(&row));
+    for chunk in chunks {
+        incremental_parser.push(chunk.as_slice())?;
+    }
+    outcome_text(alloc, &incremental_parser.into_value())
+}
+
 /// The error after each chunk, if the document isn't complete there.
 pub fn errors(alloc: Global, row: Row<'_>, chunks: &[Vec<u8>]) -> Result<String, AllocError> {
     let mut incremental_parser = IncrementalParser::new(alloc, row.allow_inf_nan, mode_of(&row));

@@ -5,7 +5,7 @@
 
 mod chunks;
 
-use chunks::{errors, feeds, pushed, whole};
+use chunks::{errors, feeds, moved_out, pushed, whole};
 use std::alloc::{AllocError, Global};
 use std::io;
 use test_rows::{Row, bytes_of, row_of};
@@ -33,6 +33,7 @@ fn answer_of(alloc: Global, row: Row<'_>) -> Result<String, AllocError> {
     let chunks = chunks.as_slice();
     let answer = match row.call {
         "push" => pushed(alloc, row, chunks)?,
+        "into_value" => moved_out(alloc, row, chunks)?,
         "error" => errors(alloc, row, chunks)?,
         "parse_chunks" => whole(alloc, row, chunks)?,
         "line_index" => feeds(alloc, chunks)?,

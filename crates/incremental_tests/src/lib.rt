@@ -1,4 +1,4 @@
-//! What a document in chunks answers, beside a parse of the bytes so far: tests of `jiter_incremental` alone.
+//! What clients of `jiter_incremental` write. Tests alone.
 #![tactic(auto)]
 
 #[cfg(test)]

@@ -1,74 +1,8 @@
-//! Documents in pieces of a few bytes, in each mode, with names and without.
+//! The examples of docs/CALLING.md whose document comes in chunks.
 use jiter::{JsonError, JsonValue, PartialMode};
-use jiter_incremental::{IncrementalParser, parse_chunks};
-use readings::{MODES, is_read_once};
+use jiter_incremental::{IncrementalParser, LineIndex, parse_chunks};
 use std::alloc::{AllocError, Global};
 use std::test::*;
-
-mod bounds;
-mod deep;
-mod growing;
-mod lines;
-mod long;
-mod readings;
-mod rows;
-
-const DOCUMENTS: [&[u8]; 39] = [
-    b"  ",
-    b"null",
-    b" true ,",
-    b"[false, tru",
-    b"nul]",
-    b"-12.5e+3 x",
-    b"01",
-    b"1.",
-    b"-",
-    b"[1, 2 , 3] ",
-    b"[1 x, 2]",
-    b"[1,]",
-    b"[[1}, 2]",
-    b"[{\"a\":[1}, 2]",
-    b"{\"a\": [1.5, {\"b\": \"c\"}], \"d\": null}",
-    b"{\"a\" 1}",
-    b"{\"a\": 1,}",
-    b"{1: 2}",
-    b"{\"a\": 1 \"b\": 2}",
-    b"\"abc\\n\\u0041\\ud83d\\ude00\"",
-    b"[\"\\ud83d\\u0041\"]",
-    b"[\"\\udc00\"]",
-    b"[\"\\u12g4\"]",
-    b"[\"\\x\"]",
-    b"[\"a\tb\"]",
-    b"[\"\xc3\xa9\xe2\x82\xac\xf0\x9f\x98\x80\"]",
-    b"[\"\xc3\"]",
-    b"[\"\xc3\\n\"]",
-    b"[\"\xff\x1f\"]",
-    b"[\"\xe2\x28\xa1\", 1]",
-    b"{\"\xc3\": 1}",
-    b"[NaN, -Infinity, Infinity]",
-    b"[-Infin, 1]",
-    b"[12345678901234567890123, -9223372036854775808, 1e5, 1.0]",
-    b"[[], {}, [[]], {\"a\": {}}] []",
-    b"{\"\": \"\", \"a\": [\"\"]}",
-    b"[1 1 1",
-    b"[-]",
-    b"[1-2]",
-];
-
-#[test]
-fn the_value_so_far_is_that_of_a_parse(rt: HostRuntime) -> Result<(), Fail> {
-    for &bytes in &DOCUMENTS {
-        for &mode in &MODES {
-            for &names in &[true, false] {
-                for &size in &[1, 2, 3, 7] {
-                    let is_once = is_read_once(rt.alloc(), bytes, size, names, mode)?;
-                    assert!(rt; is_once, "{bytes:?} by {size} in {mode:?}");
-                }
-            }
-        }
-    }
-    Ok(())
-}
 
 // The example of docs/CALLING.md: the document that comes in pieces, and how many items stand after each.
 fn whole(
@@ -102,5 +36,31 @@ fn a_document_that_comes_in_pieces_is_shown_and_whole(rt: HostRuntime) -> Result
     assert!(rt; parse_chunks(rt.alloc(), &pieces, false) == wanted);
     let none = JsonValue::parse_owned(rt.alloc(), b"", false, PartialMode::Off);
     assert!(rt; parse_chunks(rt.alloc(), &[], false) == none);
+    Ok(())
+}
+
+// The example of docs/CALLING.md: the fault of a document that comes in pieces, if it is none.
+fn fault(alloc: Global, pieces: &[&[u8]]) -> Result<Option<String>, AllocError> {
+    let mut incremental_parser = IncrementalParser::new(alloc, false, PartialMode::Off);
+    let mut lines = LineIndex::new(alloc);
+    for piece in pieces {
+        incremental_parser.push(piece)?;
+        lines.push(piece)?;
+    }
+    let Err(error) = incremental_parser.finish() else {
+        return Ok(None);
+    };
+    let position = lines.position(error.index);
+    Ok(Some(format!(in alloc; "{} at {position}", error.error_type)?))
+}
+
+#[test]
+fn a_fault_is_told_at_its_line_and_column(rt: HostRuntime) -> Result<(), Fail> {
+    let told = fault(rt.alloc(), &[b"[1,\n ".as_slice(), b"2,]"])?;
+    match told {
+        Some(text) => assert_eq!(rt; text.as_str(), "trailing comma at line 2 column 4"),
+        None => assert!(rt; false, "it is no document"),
+    }
+    assert!(rt; fault(rt.alloc(), &[b"[1,\n ".as_slice(), b"2]"])?.is_none());
     Ok(())
 }

@@ -1,6 +1,4 @@
-//! Each length and each place of numbers, scans and the tape; growths of every size; equality and clones.
-mod kernels;
+//! The tape; growths of every size; equality and clones.
 mod numbers;
-mod plain_numbers;
 mod sizes;
 mod tapes;

@@ -1,7 +1,7 @@
 //! What the readings of a whole document answer.
-use jiter::{JsonValue, Machine, PartialMode, Turn};
+use jiter::{JsonValue, JsonValueScratch, Machine, PartialMode, Turn};
 use std::alloc::{AllocError, Global};
-use test_rows::{Partial, Row};
+use test_rows::{Partial, Row, bytes_of};
 use test_support::told::{answer_text, outcome_text, text_of};
 
 /// The mode that a row asks for.
@@ -24,6 +24,8 @@ pub fn answer(alloc: Global, row: &Row<'_>, bytes: &[u8]) -> Result<Option<Strin
         "parse_unique" => unique_text(alloc, bytes, names, mode),
         "machine" => Ok(by_turns(alloc, bytes, names, mode)?.0),
         "turns" => told(alloc, by_turns(alloc, bytes, names, mode)?),
+        "scratch" => served(alloc, row, mode),
+        "scratch_owned" => served_owned(alloc, row, mode),
         _ => return Ok(None),
     };
     Ok(Some(text?))
@@ -61,4 +63,43 @@ fn by_turns(
         }
     }
     Ok((String::from_str(alloc, "too many turns")?, 0))
+}
+
+// The documents of a row. ` | ` stands between two.
+fn documents(alloc: Global, row: &Row<'_>) -> Result<Vec<Vec<u8>>, AllocError> {
+    let mut documents = Vec::new(alloc);
+    for document in row.input.split(" | ") {
+        documents.push(bytes_of(alloc, document)?)?;
+    }
+    Ok(documents)
+}
+
+fn append_answer(line: &mut String, answer: &str) -> Result<(), AllocError> {
+    if !line.is_empty() {
+        line.push_str(" | ")?;
+    }
+    line.push_str(answer)
+}
+
+// What one scratch answers to each document of the row.
+fn served(alloc: Global, row: &Row<'_>, mode: PartialMode) -> Result<String, AllocError> {
+    let documents = documents(alloc, row)?;
+    let mut scratch = JsonValueScratch::new(alloc);
+    let mut line = String::new(alloc);
+    for document in &documents {
+        let outcome = scratch.parse(document.as_slice(), row.allow_inf_nan, mode);
+        append_answer(&mut line, outcome_text(alloc, &outcome)?.as_str())?;
+    }
+    Ok(line)
+}
+
+fn served_owned(alloc: Global, row: &Row<'_>, mode: PartialMode) -> Result<String, AllocError> {
+    let mut scratch = JsonValueScratch::new(alloc);
+    let mut line = String::new(alloc);
+    for document in row.input.split(" | ") {
+        let bytes = bytes_of(alloc, document)?;
+        let outcome = scratch.parse_owned(bytes.as_slice(), row.allow_inf_nan, mode);
+        append_answer(&mut line, outcome_text(alloc, &outcome)?.as_str())?;
+    }
+    Ok(line)
 }

@@ -3,3 +3,4 @@ mod access;
 mod alike;
 mod copies;
 mod damage;
+mod unique_errors;
