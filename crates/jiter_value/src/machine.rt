@@ -156,7 +156,7 @@ impl<'j> Machine<'j> {
         if !begun && !begin(&mut reading, bytes) {
             return Turn::Done(answer(&mut reading, bytes));
         }
-        match reading.go(Borrowing { bytes }, &mut AnyKey, bytes, true) {
+        match reading.go::<Borrowing<'j>, AnyKey, true>(Borrowing { bytes }, &mut AnyKey, bytes) {
             State::Done => Turn::Done(answer(&mut reading, bytes)),
             State::GivenUp => Turn::Done(answer(&mut reading, bytes)),
             _ => {
@@ -185,7 +185,7 @@ impl<'j> Machine<'j> {
         if !begun && !begin(&mut reading, bytes) {
             return answer(&mut reading, bytes);
         }
-        let _ = reading.go(Borrowing { bytes }, &mut AnyKey, bytes, false);
+        let _ = reading.go::<Borrowing<'j>, AnyKey, false>(Borrowing { bytes }, &mut AnyKey, bytes);
         answer(&mut reading, bytes)
     }
 }

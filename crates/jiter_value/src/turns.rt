@@ -44,9 +44,10 @@ fn has_room(stacks: &Stacks<'_>, slot: Slot) -> bool
     }
 }
 
-// One turn at a value. A scalar takes the fast path if that applies and its stack has room, and otherwise the slow path.
+// One turn at a value for this slot. A scalar takes the fast path if that applies and its stack has room, and otherwise
+// the slow path. `SLOT` is another number for each slot, so that each has its own copy of this code.
 #[inline(always)]
-fn value_turn<'s, T: StringStorage<'s>>(
+fn turn_into<'s, T: StringStorage<'s>, const ONCE: bool, const SLOT: u8>(
     reading: &mut Reading<'s>,
     texts: T,
     bytes: &[u8],
@@ -73,11 +74,60 @@ fn value_turn<'s, T: StringStorage<'s>>(
     if !has_room(&reading.stacks, slot) {
         return slow_scalar(reading, texts, bytes, at, slot);
     }
-    match fast_put_scalar(reading, texts, bytes, at, slot) {
+    match fast_put_scalar::<T, ONCE, SLOT>(reading, texts, bytes, at, slot) {
         (end, Plain::Put) => after_value::<T>(reading, bytes, end, slot),
         (end, Plain::AllocFailed) => (end, State::GivenUp),
         (_, Plain::Other) => { slow_scalar(reading, texts, bytes, at, slot) }
     }
+}
+
+// One turn at a value.
+#[inline(always)]
+fn value_turn<'s, T: StringStorage<'s>, const ONCE: bool>(
+    reading: &mut Reading<'s>,
+    texts: T,
+    bytes: &[u8],
+    at: usize,
+    slot: Slot,
+) -> (usize, State)
+    requires texts { T.of texts bytes.now }
+    requires at_value { IsAtValue bytes.now reading.old.stacks slot at }
+    ensures leads { Proceeds T.made reading.old.settings bytes.now at (left bytes.now reading.old.stacks at)
+        (value_size reading.old.stacks slot + 1) (from_value T.made reading.old.settings bytes.now reading.old.stacks slot at)
+        reading.new.stacks result }
+    ensures memory { slot ≡ Slot.Root
+        → MayGrowFor (outcome reading.new.stacks result.1) (MayGrowBy T.wants bytes.now at) }
+    ensures keys { OnOk (outcome reading.new.stacks result.1)
+        (LeavesKeys reading.old.stacks.members.items reading.new.stacks.members.items) }
+    ensures settings { reading.new.settings ≡ reading.old.settings }
+{
+    match slot {
+        Slot::Item => turn_into::<T, ONCE, 0>(reading, texts, bytes, at, Slot::Item),
+        Slot::Member => turn_into::<T, ONCE, 1>(reading, texts, bytes, at, Slot::Member),
+        Slot::Root => turn_into::<T, ONCE, 2>(reading, texts, bytes, at, Slot::Root),
+    }
+}
+
+// Whether a member's value may begin here, where the list of open containers is on the heap.
+#[cold]
+#[inline(never)]
+fn long_nest_is_within_limit(stacks: &Stacks<'_>) -> bool
+    ensures { result ≡ true → length stacks.now.nest.items ≤ nesting_limit }
+{
+    stacks.nest.len() <= NESTING_LIMIT
+}
+
+// Whether a member's value may begin here. A list in place has eight open containers at most.
+#[inline(always)]
+fn is_within_limit(stacks: &Stacks<'_>) -> bool
+    ensures { result ≡ true → length stacks.now.nest.items ≤ nesting_limit }
+{
+    // The length is at most the capacity, which is eight in place.
+    let _count = stacks.nest.len();
+    if stacks.nest.spilled() {
+        return long_nest_is_within_limit(stacks);
+    }
+    true
 }
 
 // One turn at a key: the fast path if the key is plain, otherwise the slow path.
@@ -100,7 +150,7 @@ fn key_turn<'s, T: StringStorage<'s>>(
         (KeepsKeys T.made bytes.now reading.old.stacks.members.items State.Key at reading.new.stacks.members.items) }
     ensures settings { reading.new.settings ≡ reading.old.settings }
 {
-    if reading.stacks.nest.len() <= NESTING_LIMIT {
+    if is_within_limit(&reading.stacks) {
         match fast_put_key(texts, &mut reading.stacks, bytes, at) {
             (next, Plain::Put) => return (next, State::Member),
             (next, Plain::AllocFailed) => return (next, State::GivenUp),
@@ -221,14 +271,13 @@ impl<'s> Reading<'s> {
         }
     }
 
-    /// Takes one turn if `once`, otherwise all turns. Stops before a key that `keys` doesn't allow.
+    /// Takes one turn if `ONCE`, otherwise all turns. Stops before a key that `keys` doesn't allow.
     #[inline(never)]
-    pub fn go<T: StringStorage<'s>, K: Keys<'s>>(
+    pub fn go<T: StringStorage<'s>, K: Keys<'s>, const ONCE: bool>(
         &mut self,
         texts: T,
         keys: &mut K,
         bytes: &[u8],
-        once: bool,
     ) -> State
         requires texts { T.of texts bytes.now }
         requires serves { K.serves keys.old T.made bytes.now }
@@ -237,9 +286,9 @@ impl<'s> Reading<'s> {
         requires known { (ks : List (List ℕ)) × K.knows keys.old ks × HaveKeys ks self.old.stacks.members.items }
         ensures gone { (i : ℕ) → HasGone T.made T.wants bytes.now i self.old
             → HasGone T.made T.wants bytes.now i self.new }
-        ensures turned { once ≡ true
+        ensures turned { ONCE ≡ true
             → K.refuses keys.new bytes.now self.new.stacks self.new.at ⊎ HasTurned bytes.now self.old self.new }
-        ensures ended { once ≡ false → GoesOn self.new.state
+        ensures ended { ONCE ≡ false → GoesOn self.new.state
             → (self.new.state ≡ State.Key) × K.refuses keys.new bytes.now self.new.stacks self.new.at }
         ensures state { result ≡ self.new.state }
         ensures settings { self.new.settings ≡ self.old.settings }
@@ -256,11 +305,11 @@ impl<'s> Reading<'s> {
                     }
                     key_turn(self, texts, bytes, at)
                 }
-                _ => value_turn(self, texts, bytes, at, slot_of(state)),
+                _ => value_turn::<T, ONCE>(self, texts, bytes, at, slot_of(state)),
             };
             at = next;
             state = what;
-            if once {
+            if ONCE {
                 break 'turning;
             }
         }
@@ -291,7 +340,7 @@ impl<'s> Reading<'s> {
         self.state = State::Root;
         self.at = parser.index;
         let bytes = parser.bytes;
-        let state = self.go(texts, &mut AnyKey, bytes, false);
+        let state = self.go::<T, AnyKey, false>(texts, &mut AnyKey, bytes);
         parser.index = self.at;
         match state {
             State::Done => Ok(take_root(&mut self.stacks)),

@@ -130,9 +130,9 @@ fn ends<'j>(
     }
 }
 
-/// Goes on after a value, up to the next value or key, and closes each container that ends.
+// Goes on after a value, up to the next value or key, and closes each container that ends.
 #[inline(always)]
-pub fn after_value<'s, T: StringStorage<'s>>(
+fn after_last<'s, T: StringStorage<'s>>(
     reading: &mut Reading<'s>,
     bytes: &[u8],
     from: usize,
@@ -184,6 +184,66 @@ pub fn after_value<'s, T: StringStorage<'s>>(
     }
 }
 
+// The slow path: an error follows the value, or the input ends.
+#[cold]
+#[inline(never)]
+fn slow_after<'s, T: StringStorage<'s>>(
+    reading: &mut Reading<'s>,
+    bytes: &[u8],
+    from: usize,
+    slot: Slot,
+) -> (usize, State)
+    requires stands { Stands reading.old.stacks slot }
+    requires levels { length reading.old.stacks.nest.items ≤ nesting_limit }
+    requires within { from ≤ length bytes.now }
+    ensures leads { Proceeds T.made reading.old.settings bytes.now from (left bytes.now reading.old.stacks from + 1)
+        (after_size reading.old.stacks slot) (after T.made reading.old.settings bytes.now reading.old.stacks slot from)
+        reading.new.stacks result }
+    ensures memory { WhereRefused (outcome reading.new.stacks result.1) (slot ≢ Slot.Root) }
+    ensures root { slot ≡ Slot.Root
+        → IfOk (outcome reading.new.stacks result.1) (λ a. a ≡ State.Done) }
+    ensures keys { OnOk (outcome reading.new.stacks result.1)
+        (LeavesKeys reading.old.stacks.members.items reading.new.stacks.members.items) }
+    ensures settings { reading.new.settings ≡ reading.old.settings }
+{
+    after_last::<T>(reading, bytes, from, slot)
+}
+
+/// Goes on after a value, up to the next value or key. The containers that end are closed out of line, so that their
+/// loop costs nothing where a part follows.
+#[inline(always)]
+pub fn after_value<'s, T: StringStorage<'s>>(
+    reading: &mut Reading<'s>,
+    bytes: &[u8],
+    from: usize,
+    slot: Slot,
+) -> (usize, State)
+    requires stands { Stands reading.old.stacks slot }
+    requires levels { length reading.old.stacks.nest.items ≤ nesting_limit }
+    requires within { from ≤ length bytes.now }
+    ensures leads { Proceeds T.made reading.old.settings bytes.now from (left bytes.now reading.old.stacks from + 1)
+        (after_size reading.old.stacks slot) (after T.made reading.old.settings bytes.now reading.old.stacks slot from)
+        reading.new.stacks result }
+    ensures memory { WhereRefused (outcome reading.new.stacks result.1) (slot ≢ Slot.Root) }
+    ensures root { slot ≡ Slot.Root
+        → IfOk (outcome reading.new.stacks result.1) (λ a. a ≡ State.Done) }
+    ensures keys { OnOk (outcome reading.new.stacks result.1)
+        (LeavesKeys reading.old.stacks.members.items reading.new.stacks.members.items) }
+    ensures settings { reading.new.settings ≡ reading.old.settings }
+{
+    match kind_of_container(slot) {
+        None => (from, State::Done),
+        Some(shape) => {
+            let (next, what) = fast_step(bytes, from, shape);
+            match what {
+                Next::Part => (next, part_of(shape)),
+                Next::End => close_and_go_on::<T>(reading, bytes, next, shape),
+                Next::Stuck => slow_after::<T>(reading, bytes, from, slot),
+            }
+        }
+    }
+}
+
 /// Closes the innermost container, which ends at `at`, and goes on after it.
 #[inline(never)]
 pub fn close_and_go_on<'s, T: StringStorage<'s>>(
@@ -203,7 +263,7 @@ pub fn close_and_go_on<'s, T: StringStorage<'s>>(
     ensures settings { reading.new.settings ≡ reading.old.settings }
 {
     match close(reading.alloc, &mut reading.stacks, shape) {
-        Ok(outer) => after_value::<T>(reading, bytes, at, outer),
+        Ok(outer) => after_last::<T>(reading, bytes, at, outer),
         Err(refused) => no_memory(&mut reading.stacks, refused, at),
     }
 }

@@ -243,8 +243,10 @@ fn fast_put_literal<'s, T: StringStorage<'s>>(
 }
 
 /// Puts a plain scalar or any complete string into its slot. Returns the index after it.
+///
+/// `ONCE` and `SLOT` are the caller's: each of its copies has its own copy of this code, which is inlined there.
 #[inline(always)]
-pub fn fast_put_scalar<'s, T: StringStorage<'s>>(
+pub fn fast_put_scalar<'s, T: StringStorage<'s>, const ONCE: bool, const SLOT: u8>(
     reading: &mut Reading<'s>,
     texts: T,
     bytes: &[u8],

@@ -363,7 +363,7 @@ pub fn run_unique<'s>(
     reading.state = State::Root;
     reading.at = parser.index;
     let bytes = parser.bytes;
-    let state = reading.go(texts, &mut keys, bytes, false);
+    let state = reading.go::<BorrowingUnique<'s>, NewKeys<'s>, false>(texts, &mut keys, bytes);
     parser.index = reading.at;
     match state {
         State::Done => Ok(take_root(&mut reading.stacks)),

@@ -2,7 +2,7 @@ use Rattle.std.proofs.Common.{◌∙◌}
 use Rattle.jiter_value.specs.Stacks.{keys_then}
 use Rattle.jiter_value.specs.declared.stacks.State.TheVariants as state
 use Rattle.jiter_value.proofs.Turning.{come-on, goes-on, keys-left, on-if, value-on}
-use Rattle.jiter_value.proofs.turns.Reading.go.Goals.{in-Done, in-GivenUp, in-Key+then-not-may_stand, then-once}
+use Rattle.jiter_value.proofs.turns.Reading.go.Goals.{in-Done, in-GivenUp, in-Key+then-not-may_stand, then-this-ne0}
 use Rattle.jiter_value.proofs.turns.Reading.go.Goals.{in-Key+else-not-may_stand, in_default}
 use Rattle.jiter_value.proofs.turns.Reading.go.Goals as goal
 
@@ -27,7 +27,7 @@ turning-preserved g c =
               m.known made v.2 w.if-not-may_stand.false,
               (on-if w.key_turn.new.reading.stacks w.key_turn.result.1 on e.keys).keys,
             ),
-            λ once. absurd (cc),
+            λ once. absurd (cc (once, c.if-this-ne0.false)),
           )
       | in_default w ↦
           let e = w.value_turn.ensures in
@@ -44,7 +44,7 @@ turning-preserved g c =
               keys-left known.0 s.members.items _ known.2
                   (on-if w.value_turn.new.reading.stacks w.value_turn.result.1 on e.keys),
             ),
-            λ once. absurd (cc),
+            λ once. absurd (cc (once, c.if-this-ne0.false)),
           )
     ]
 
@@ -59,7 +59,7 @@ returns-clause-gone g c = λ i h.
       | in-Done w ↦ rw (w.self-is, w.at-is, w.state-is) (v.0 i h)
       | in-GivenUp w ↦ rw (w.self-is, w.at-is, w.state-is) (v.0 i h)
       | in-Key+then-not-may_stand w ↦ rw (w.self-is, w.at-is, w.state-is) (v.0 i h)
-      | then-once w ↦
+      | then-this-ne0 w ↦
           rw (w.self-is, w.at-is, w.state-is) (elim w.match-state.branch [
             | in-Key+else-not-may_stand k ↦
                 let e = k.key_turn.ensures in

@@ -1,4 +1,4 @@
-use Rattle.std.proofs.Common.{◌≡◌, ℕ, List, true}
+use Rattle.std.proofs.Common.{◌≡◌, ℕ, List, eqb, not, true}
 use Rattle.jiter_value.specs.Stacks.{HaveKeys}
 use Rattle.jiter_value.specs.Turns.{GoesOn, HasCome, HasGone, left}
 use Rattle.jiter_value.proofs.Turning.{turns_left}
@@ -11,7 +11,7 @@ invariant-turning g l =
     × (l.self.settings ≡ l.initial.self.settings)
     × g.K.Keys.serves l.keys g.T.StringStorage.made l.bytes
     × (GoesOn l.state → (ks : List (List ℕ)) × g.K.Keys.knows l.keys ks × HaveKeys ks l.self.stacks.members.items)
-    × (l.once ≡ true → (l.at ≡ l.initial.self.at) × (l.state ≡ l.initial.self.state)
+    × (not (eqb g.row.ONCE 0) ≡ true → (l.at ≡ l.initial.self.at) × (l.state ≡ l.initial.self.state)
     × (l.self.stacks ≡ l.initial.self.stacks))
 
 abbrev pub decreases-turning : goal.decreases-turning

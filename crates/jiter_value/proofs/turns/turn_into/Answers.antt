@@ -1,5 +1,5 @@
 use Rattle.jiter_value.proofs.KeptKeys.{leaves-on}
-use Rattle.jiter_value.proofs.turns.value_turn.Goals as goal
+use Rattle.jiter_value.proofs.turns.turn_into.Goals as goal
 
 pub returns-in_default-Put-clause-keys : goal.returns-in_default-Put-clause-keys
 returns-in_default-Put-clause-keys g c =

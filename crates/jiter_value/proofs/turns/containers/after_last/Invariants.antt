@@ -3,7 +3,7 @@ use Rattle.jiter_value.specs.Size.{after_size}
 use Rattle.jiter_value.specs.Stacks.{after, Stands, LeavesKeys}
 use Rattle.jiter_value.specs.Turns.{left}
 use Rattle.jiter_value.specs.declared.stacks.Slot.TheVariants as slot
-use Rattle.jiter_value.proofs.turns.containers.after_value.Given as goal
+use Rattle.jiter_value.proofs.turns.containers.after_last.Given as goal
 
 abbrev pub invariant-closing : goal.invariant-closing
 invariant-closing g l =

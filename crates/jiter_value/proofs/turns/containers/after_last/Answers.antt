@@ -1,0 +1,80 @@
+use Rattle.std.proofs.Common.{◌∙◌, refl, sym, arith, reverse, rules as library_rules}
+use Rattle.jiter_value.proofs.KeptKeys.{leaves-then, kept-on}
+use Rattle.jiter_value.proofs.Shapes.{reaches-part, inside-stands, not-root}
+use Rattle.jiter_value.proofs.Sizes.{after-part-size}
+use Rattle.jiter_value.proofs.StackTurns.{after-more, after-closed, after-fails}
+use Rattle.jiter_value.proofs.turns.containers.after_last.Goals as goal
+
+pub returns-in-Part-clause-leads : goal.returns-in-Part-clause-leads
+returns-in-Part-clause-leads g c =
+    let p = c.args.reading.now.settings in
+    let t = c.args.bytes.now in
+    let l = c.closing in
+    let s = l.reading.stacks in
+    let h = c.in-Some.shape in
+    let j = c.fast_step-next.result.0 in
+    let so_far = rw c.in-Some.ensures.some at l.invariant in
+    let next = rw c.in-Part.is at c.fast_step-next.ensures.next in
+    let lt = c.fast_step-next.ensures.part c.in-Part.is in
+    let forward = c.fast_step-next.ensures.within.0 in
+    record {
+      within = (omega (arith, so_far.0, forward), omega (arith, lt));
+      reaches = rw c.part_of.ensures
+          (reaches-part g.T.StringStorage.made p t s h j _
+          (so_far.2
+          ∙ after-more g.T.StringStorage.made p t h s.items.items s.members.items s.root l.at (reverse s.nest.items) j
+          so_far.3 next lt)
+          (inside-stands s h so_far.3) (λ array. so_far.4) (omega (arith, so_far.4)) lt);
+      left = search library_rules;
+      held = search library_rules;
+    }
+
+pub returns-then-not-ends-clause-leads : goal.returns-then-not-ends-clause-leads
+returns-then-not-ends-clause-leads g c =
+    let l = c.closing in
+    let s = l.reading.stacks in
+    let j = c.fast_step-next.result.0 in
+    let so_far = rw c.in-Some.ensures.some at l.invariant in
+    record {
+      within = (omega (arith, so_far.0, c.fast_step-next.ensures.within.0), c.fast_step-next.ensures.within.1);
+      reaches = rw so_far.2
+          (after-fails g.T.StringStorage.made c.args.reading.now.settings c.args.bytes.now c.in-Some.shape s.items.items s.members.items
+          s.root l.at
+          (reverse s.nest.items) j c.ends.new.stacks.error so_far.3 (rw so_far.9 at c.if-not-ends.ensures.resolved));
+      left = tt;
+      held = tt;
+    }
+
+pub closing-preserved : goal.closing-preserved
+closing-preserved g c =
+    let p = c.args.reading.now.settings in
+    let t = c.args.bytes.now in
+    let l = c.closing in
+    let s = l.reading.stacks in
+    let h = c.in-Some.shape in
+    let j = c.fast_step-next.result.0 in
+    let so_far = rw c.in-Some.ensures.some at l.invariant in
+    let same = c.if-not-ends.ensures.same refl in
+    let forward = c.fast_step-next.ensures.within.0 in
+    let fewer = rw same at c.in-Ok.ensures.nest in (
+      omega (arith, so_far.0, forward),
+      c.fast_step-next.ensures.within.1,
+      so_far.2
+          ∙ after-closed g.T.StringStorage.made p t h s.items.items s.members.items s.root l.at (reverse s.nest.items) j
+          so_far.3
+          (rw so_far.9 at c.if-not-ends.ensures.resolved)
+          ∙ (rw same at c.in-Ok.ensures.value g.T.StringStorage.made p t j),
+      c.in-Ok.ensures.stands,
+      omega (arith, so_far.4, fewer),
+      omega (arith, so_far.5, forward, fewer),
+      (rw same at c.in-Ok.ensures.held)
+          ∙ sym (after-part-size h (reverse s.nest.items) s.items.items s.members.items s.root so_far.3)
+          ∙ so_far.6,
+      λ r. absurd (not-root h (so_far.7 r)),
+      leaves-then c.args.reading.now.stacks.members.items s.members.items _ so_far.8
+          (rw same at c.in-Ok.ensures.keys),
+      so_far.9,
+    )
+
+pub returns-in-Part-clause-keys : goal.returns-in-Part-clause-keys
+returns-in-Part-clause-keys g c = kept-on c.closing.reading.stacks c.part_of.result c.closing.invariant.8
