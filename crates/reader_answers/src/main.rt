@@ -30,10 +30,10 @@ fn main(rt: HostRuntime) -> io::Result<()> {
 
 // What the row's calls answer, on one line.
 fn answer_of(alloc: Global, row: Row<'_>) -> Result<String, AllocError> {
-    let answer = if row.call == "two_prefixes" {
-        prefixes::answer(alloc, row)?
-    } else {
-        reading::answer(alloc, row)?
+    let answer = match row.call {
+        "two_prefixes" => prefixes::answer(alloc, row)?,
+        "types" => told::types(alloc)?,
+        _ => reading::answer(alloc, row)?,
     };
     answer.replace(alloc, "\n", "%0A")
 }

@@ -1,5 +1,5 @@
 //! What the reader's calls return, in words.
-use jiter::{JiterResult, JsonValue, NumberAny, NumberInt, Peek};
+use jiter::{JiterResult, JsonType, JsonValue, NumberAny, NumberInt, Peek};
 use std::alloc::{AllocError, Global};
 use test_support::told::text_of;
 
@@ -97,4 +97,17 @@ pub fn value(alloc: Global, reply: JiterResult<JsonValue<'_>>) -> Told {
         Ok(value) => Ok(Ok(text_of(alloc, &value)?)),
         Err(error) => Ok(Err(error)),
     }
+}
+
+/// Tells the types of values, with a width.
+pub fn types(alloc: Global) -> Result<String, AllocError> {
+    let scalars = [
+        JsonType::Null,
+        JsonType::Bool,
+        JsonType::Int,
+        JsonType::Float,
+    ];
+    let [null, truth, int, float] = &scalars;
+    let [string, array, object] = &[JsonType::String, JsonType::Array, JsonType::Object];
+    format!(in alloc; "{null:>9} {truth:>9} {int:>9} {float:>9} {string:>9} {array:>9} {object:>9}")
 }

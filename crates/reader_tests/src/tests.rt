@@ -1,3 +1,4 @@
-//! The pull reader: damage and skips.
+//! The pull reader: damage and skips, and its errors beside one another.
+mod alike;
 mod damage;
 mod skips;

@@ -1,5 +1,6 @@
 //! What calls answer, as text on one line.
-use jiter::{JsonError, JsonErrorType as Kind, JsonValue, PartialMode};
+use jiter_scan::{JsonError, JsonErrorType as Kind, PartialMode};
+use jiter_value::JsonValue;
 use std::alloc::{AllocError, Global};
 use std::borrow::CowStr;
 

@@ -1,6 +1,7 @@
 //! What is told of the error of a document.
 use crate::readings::mode_of;
-use jiter::{JsonType, JsonValue, LinePosition};
+use jiter_scan::LinePosition;
+use jiter_value::JsonValue;
 use std::alloc::{AllocError, Global};
 use test_rows::Row;
 
@@ -10,7 +11,6 @@ pub fn answer(alloc: Global, row: &Row<'_>, bytes: &[u8]) -> Result<Option<Strin
         "description" => description(alloc, bytes),
         "unique_description" => unique_description(alloc, row, bytes),
         "unique_error" => unique_error(alloc, row, bytes),
-        "types" => types(alloc),
         _ => return Ok(None),
     };
     Ok(Some(text?))
@@ -50,19 +50,6 @@ fn unique_error(alloc: Global, row: &Row<'_>, bytes: &[u8]) -> Result<String, Al
             format!(in alloc; "{cause:>40} / {error:>400} / {error:?} / {copy:>400}")
         }
     }
-}
-
-// The types of values, with a width.
-fn types(alloc: Global) -> Result<String, AllocError> {
-    let scalars = [
-        JsonType::Null,
-        JsonType::Bool,
-        JsonType::Int,
-        JsonType::Float,
-    ];
-    let [null, truth, int, float] = &scalars;
-    let [string, array, object] = &[JsonType::String, JsonType::Array, JsonType::Object];
-    format!(in alloc; "{null:>9} {truth:>9} {int:>9} {float:>9} {string:>9} {array:>9} {object:>9}")
 }
 
 fn told(alloc: Global, text: &str, position: LinePosition) -> Result<String, AllocError> {

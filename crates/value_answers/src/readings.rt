@@ -1,5 +1,6 @@
 //! What the readings of a whole document answer.
-use jiter::{JsonValue, JsonValueScratch, Machine, PartialMode, Turn};
+use jiter_scan::PartialMode;
+use jiter_value::{JsonValue, JsonValueScratch, Machine, Turn};
 use std::alloc::{AllocError, Global};
 use test_rows::{Partial, Row, bytes_of};
 use test_support::told::{answer_text, outcome_text, text_of};

@@ -1,5 +1,5 @@
 //! What is found in a value, and what is made of it.
-use jiter::JsonValue;
+use jiter_value::JsonValue;
 use std::alloc::{AllocError, Global};
 use test_rows::Row;
 use test_support::told::text_of;

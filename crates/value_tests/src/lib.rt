@@ -1,4 +1,4 @@
-//! Tests of values, of looking into them, of copies and of equality, by the names that users import: tests alone.
+//! Tests of values, of looking into them, of copies and of equality: tests alone.
 #![tactic(auto)]
 
 #[cfg(test)]

@@ -1,5 +1,5 @@
 //! Looking into a value: the example of docs/CALLING.md, and a text that is taken out.
-use jiter::JsonValue;
+use jiter_value::JsonValue;
 use std::borrow::CowStr;
 use std::mem;
 use std::test::*;

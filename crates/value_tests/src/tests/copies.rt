@@ -1,5 +1,5 @@
 //! Deep values, and what a copy takes. `rt try` builds with larger frames, and runs out of stack here.
-use jiter::JsonValue;
+use jiter_value::JsonValue;
 use std::alloc::{AllocError, Global};
 use std::borrow::CowStr;
 use std::test::*;

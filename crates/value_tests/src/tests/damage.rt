@@ -1,5 +1,5 @@
 //! Damage at each place of a string, and the fault that a parse answers.
-use jiter::JsonErrorType as Kind;
+use jiter_scan::JsonErrorType as Kind;
 use std::alloc::{AllocError, Global};
 use std::test::*;
 use test_support::told::fault_of;

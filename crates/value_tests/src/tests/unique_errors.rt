@@ -1,5 +1,6 @@
 //! Clones and equality of errors, where duplicate keys are refused.
-use jiter::{JsonErrorType as Kind, JsonValue, PartialMode, UniqueError, UniqueErrorType};
+use jiter_scan::{JsonErrorType as Kind, PartialMode};
+use jiter_value::{JsonValue, UniqueError, UniqueErrorType};
 use std::alloc::Global;
 use std::test::*;
 
