@@ -2,7 +2,7 @@
 use jiter::PartialMode;
 
 /// A call that reads a whole text.
-#[derive(Debug, Clone, Copy)]
+#[derive(Clone, Copy)]
 pub enum Whole {
     /// `JsonValue::parse`
     Parse,
@@ -25,7 +25,7 @@ pub enum Whole {
 }
 
 /// A call that reads a whole value where a reader stands.
-#[derive(Debug, Clone, Copy)]
+#[derive(Clone, Copy)]
 pub enum Reading {
     /// `Jiter::next_value`
     Next,
@@ -42,7 +42,7 @@ pub enum Reading {
 }
 
 /// A reader's walk through a document of one form.
-#[derive(Debug, Clone, Copy)]
+#[derive(Clone, Copy)]
 pub enum Steps {
     /// Calls that do not allocate.
     Plain,
@@ -53,7 +53,7 @@ pub enum Steps {
 }
 
 /// Calls in a row, over the lines or the chunks of the text.
-#[derive(Debug, Clone, Copy)]
+#[derive(Clone, Copy)]
 pub enum Repeated {
     /// `JsonValueScratch::parse` of each line.
     Lines,
@@ -68,7 +68,7 @@ pub enum Repeated {
 }
 
 /// A call that copies a value, or tells of a fault or a place.
-#[derive(Debug, Clone, Copy)]
+#[derive(Clone, Copy)]
 pub enum Copying {
     /// `JsonValue::clone`
     Clone,
@@ -89,7 +89,7 @@ pub enum Copying {
 }
 
 /// A call.
-#[derive(Debug, Clone, Copy)]
+#[derive(Clone, Copy)]
 pub enum Call {
     /// One that reads a whole text.
     Whole(Whole),
@@ -108,7 +108,7 @@ pub enum Call {
 }
 
 /// A call and the mode of its reading.
-#[derive(Debug, Clone, Copy)]
+#[derive(Clone, Copy)]
 pub struct Asked {
     /// The call.
     pub call: Call,

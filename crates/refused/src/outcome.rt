@@ -3,7 +3,7 @@ ghost use Rattle.std.specs.Prelude.{◌≡◌};
 ghost use Rattle.refused.specs.Outcome.{status_of};
 
 /// What a call came to, and the line that tells it.
-#[derive(Debug, Drop)]
+#[derive(Drop)]
 pub enum Outcome {
     /// It answered: a value, or a fault of the bytes.
     Answered(String),

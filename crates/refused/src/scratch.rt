@@ -111,16 +111,35 @@ fn read(alloc: Global, bytes: &[u8], mode: PartialMode) -> Result<Readings, Stop
     let _ = mark(alloc);
     for turn in 0..3 {
         if turn == 2 {
-            for (other, names, mode) in OTHERS {
-                readings.add_other(alloc, &scratch.parse(other, names, mode))?;
-            }
+            read_others(&mut readings, alloc, &mut scratch)?;
         }
-        let _ = mark(alloc);
-        let answer = scratch.parse(bytes, true, mode);
-        let _ = mark(alloc);
-        readings.add(Outcome::of_text(alloc, bytes, &answer)?)?;
+        read_again(&mut readings, alloc, &mut scratch, bytes, mode)?;
     }
     Ok(readings)
+}
+
+fn read_others(
+    readings: &mut Readings,
+    alloc: Global,
+    scratch: &mut JsonValueScratch<'_>,
+) -> Result<(), Stop> {
+    for &(other, names, mode) in &OTHERS {
+        readings.add_other(alloc, &scratch.parse(other, names, mode))?;
+    }
+    Ok(())
+}
+
+fn read_again<'j>(
+    readings: &mut Readings,
+    alloc: Global,
+    scratch: &mut JsonValueScratch<'j>,
+    bytes: &'j [u8],
+    mode: PartialMode,
+) -> Result<(), Stop> {
+    let _ = mark(alloc);
+    let answer = scratch.parse(bytes, true, mode);
+    let _ = mark(alloc);
+    readings.add(Outcome::of_text(alloc, bytes, &answer)?)
 }
 
 fn read_owned(alloc: Global, bytes: &[u8], mode: PartialMode) -> Result<Readings, Stop> {
@@ -132,14 +151,33 @@ fn read_owned(alloc: Global, bytes: &[u8], mode: PartialMode) -> Result<Readings
     let _ = mark(alloc);
     for turn in 0..3 {
         if turn == 2 {
-            for (other, names, mode) in OTHERS {
-                readings.add_other(alloc, &scratch.parse_owned(other, names, mode))?;
-            }
+            read_others_owned(&mut readings, alloc, &mut scratch)?;
         }
-        let _ = mark(alloc);
-        let answer = scratch.parse_owned(bytes, true, mode);
-        let _ = mark(alloc);
-        readings.add(Outcome::of_text(alloc, bytes, &answer)?)?;
+        read_again_owned(&mut readings, alloc, &mut scratch, bytes, mode)?;
     }
     Ok(readings)
+}
+
+fn read_others_owned(
+    readings: &mut Readings,
+    alloc: Global,
+    scratch: &mut JsonValueScratch<'static>,
+) -> Result<(), Stop> {
+    for &(other, names, mode) in &OTHERS {
+        readings.add_other(alloc, &scratch.parse_owned(other, names, mode))?;
+    }
+    Ok(())
+}
+
+fn read_again_owned(
+    readings: &mut Readings,
+    alloc: Global,
+    scratch: &mut JsonValueScratch<'static>,
+    bytes: &[u8],
+    mode: PartialMode,
+) -> Result<(), Stop> {
+    let _ = mark(alloc);
+    let answer = scratch.parse_owned(bytes, true, mode);
+    let _ = mark(alloc);
+    readings.add(Outcome::of_text(alloc, bytes, &answer)?)
 }

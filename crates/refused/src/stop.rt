@@ -4,7 +4,7 @@ use jiter::{JiterError, JiterErrorType, JsonErrorType as Kind};
 use std::alloc::{AllocError, Global};
 
 /// Why a run of calls ends early.
-#[derive(Debug, Drop)]
+#[derive(Drop)]
 pub enum Stop {
     /// A call of the reader failed.
     Reader(JiterError),

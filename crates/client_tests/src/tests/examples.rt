@@ -1,10 +1,8 @@
-//! The examples of README.md and docs/CALLING.md that are no part of a caller, with what each prints, and each name
-//! that `jiter` exports.
+//! The examples of README.md and docs/CALLING.md that are no part of a caller, with what each prints.
 use jiter::*;
 use std::alloc::{AllocError, Global};
-use std::borrow::CowStr;
+use std::process::Abort;
 use std::test::*;
-use test_support::told::text_of;
 
 // A whole document, word for word.
 fn told(alloc: Global, bytes: &[u8]) -> Result<String, AllocError> {
@@ -101,21 +99,30 @@ fn a_document_arrives_in_pieces(rt: HostRuntime) {
 
 #[test]
 fn a_document_is_read_by_steps(rt: HostRuntime) -> Result<(), Fail> {
-    let alloc = rt.alloc();
     let document = br#"{"name": "John Doe", "age": 43, "phones": ["+44 1234567", "+44 2345678"]}"#;
     let mut jiter = Jiter::new(document);
+    name_and_age(&rt, rt.alloc(), &mut jiter)?;
+    phones(&rt, rt.alloc(), &mut jiter)?;
+    jiter.finish()?;
+    Ok(())
+}
+
+fn name_and_age(rt: &impl Abort, alloc: Global, jiter: &mut Jiter<'_>) -> Result<(), Fail> {
     assert_eq!(rt; jiter.next_object(alloc)?, Some("name"));
     assert_eq!(rt; jiter.next_str(alloc)?, "John Doe");
     assert_eq!(rt; jiter.next_key(alloc)?, Some("age"));
     assert_eq!(rt; jiter.next_int()?, NumberInt::Int(43));
     assert_eq!(rt; jiter.next_key(alloc)?, Some("phones"));
+    Ok(())
+}
+
+fn phones(rt: &impl Abort, alloc: Global, jiter: &mut Jiter<'_>) -> Result<(), Fail> {
     assert_eq!(rt; jiter.next_array()?, Some(Peek::String));
     assert_eq!(rt; jiter.next_str(alloc)?, "+44 1234567");
     assert_eq!(rt; jiter.array_step()?, Some(Peek::String));
     assert_eq!(rt; jiter.next_str(alloc)?, "+44 2345678");
     assert_eq!(rt; jiter.array_step()?, None);
     assert_eq!(rt; jiter.next_key(alloc)?, None);
-    jiter.finish()?;
     Ok(())
 }
 
@@ -176,30 +183,5 @@ fn texts_and_values_are_kept(rt: HostRuntime) -> Result<(), Fail> {
     assert_eq!(rt; values.len(), 2);
     let last = JsonValue::parse(alloc, b"{\"level\": \"warn\"}", false)?;
     assert!(rt; values[1] == last);
-    Ok(())
-}
-
-#[test]
-fn each_name_stands_for_its_own_type(rt: HostRuntime) -> Result<(), Fail> {
-    let alloc = rt.alloc();
-    let integer: JsonResult<NumberInt<'_>> = NumberInt::from_bytes(b"12");
-    assert_eq!(rt; integer?, NumberInt::Int(12));
-    let number: JsonResult<NumberAny<'_>> = NumberAny::from_bytes(b"1e", false);
-    let error: JsonError = number.err().ok_or("a number")?;
-    assert_eq!(rt; error.error_type, JsonErrorType::EofWhileParsingValue);
-    assert_eq!(rt; error.index, 2);
-    let position: LinePosition = error.get_position(b"1e");
-    assert_eq!(rt; (position.line, position.column), (1, 2));
-    assert_eq!(rt; PartialMode::default(), PartialMode::Off);
-    let machine: Machine<'_> = Machine::new(alloc, b"12", false, PartialMode::Off);
-    assert!(rt; matches!(&machine.turn(), Turn::Done(Ok(JsonValue::Int(12)))));
-    let items: JsonArray<'_> = vec![in alloc; JsonValue::Null]?;
-    let members: JsonObject<'_> = vec![in alloc; (CowStr::Borrowed("a"), JsonValue::Array(items))]?;
-    let value: JsonValue<'_> = JsonValue::Object(members);
-    assert_eq!(rt; text_of(alloc, &value)?.as_str(), "{'a':[null]}");
-    let mut reader: Jiter<'_> = Jiter::new(b"[7]");
-    let first: Option<Peek> = reader.next_array()?;
-    let peek = first.ok_or("an item")?;
-    assert_eq!(rt; reader.known_int(peek)?, NumberInt::Int(7));
     Ok(())
 }
