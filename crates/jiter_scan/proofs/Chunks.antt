@@ -5,7 +5,6 @@ use Rattle.std.proofs.lemmas.Nat.{shr-shr, shr_le}
 use Rattle.std.proofs.lemmas.List.{drop-take}
 use Rattle.std.proofs.lemmas.Simd.{chunk-drop, length-chunk, trailing_mask_l}
 use Rattle.std.proofs.lemmas.List.Folds.{prefix_len-append, list_all-append}
-use Rattle.std.proofs.lemmas.List.Sums.{prefix_len-le-length}
 use Rattle.std.proofs.lemmas.Bool.{and_parts, eq-eqb, ne_eqb, false≢true}
 use Rattle.std.proofs.lemmas.Bool.Decides.{nat_tests}
 use Rattle.std.specs.List.{prefix_len, list_all}
@@ -131,10 +130,10 @@ module _ (test : ℕ → Bool) where
       run_end-stopped short some =
           run_end-inside reach short (omega arith) ∙ ap (λ m. i + count_trailing_zeros 64 m) (sym is)
 
-      pub run_end-near : 0 < mask → run_end test t i ≤ i + n
+      pub run_end-near : 0 < mask → run_end test t i < i + n
       run_end-near some =
-          let inside = prefix_len-inside (one_fails (omega arith)) in
-          omega (arith, inside, prefix_len-le-length test (chunk i n t), length-chunk i n t reach)
+          let one = one_fails (omega arith) in
+          omega (arith, prefix_len-inside one, prefix_len-some (chunk i n t) one, length-chunk i n t reach)
 
   -- a chunk of 64 by its four parts
   pub list_all-four : (t : List ℕ) (i : ℕ) → list_all test (chunk i 64 t)

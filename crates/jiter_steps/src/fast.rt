@@ -1,7 +1,7 @@
 //! The fast path between the parts of a document. It works on the bytes and an index, and its results are returned in
 //! registers. Only the slow path says which error there is.
 ghost use Rattle.std.specs.Prelude.{◌≡◌, ◌≢◌, ◌+◌, ◌≤◌, ◌<◌, Bool, IfSome, IsTrue, length, slice_get, slice_range};
-ghost use Rattle.std.specs.Prelude.{Some};
+ghost use Rattle.std.specs.Prelude.{Some, true};
 ghost use Rattle.std.specs.Str.{IsAscii};
 ghost use Rattle.jiter_scan.specs.Ascii as ascii;
 ghost use Rattle.jiter_scan.specs.Scan.{scan_stop, IsAsciiTo};
@@ -107,6 +107,18 @@ fn fast_comma(bytes: &[u8], from: usize, shape: ContainerKind) -> (usize, Next)
     }
 }
 
+// Returns whether `byte`, which is not whitespace, is at `from` and another byte follows.
+#[inline(always)]
+fn is_before_another(bytes: &[u8], from: usize, byte: u8) -> bool
+    requires within { from ≤ length bytes.now }
+    requires byte { 32 < byte }
+    ensures place { result ≡ true → from ≡ past_blanks bytes.now from }
+    ensures byte { result ≡ true → slice_get bytes.now from ≡ Some byte }
+    ensures another { result ≡ true → from + 1 < length bytes.now }
+{
+    from + 1 < bytes.len() && bytes[from] == byte
+}
+
 /// Returns what [`fast_step`] does. Call it if `shape` is a constant at the call.
 #[inline(always)]
 pub fn known_fast_step(bytes: &[u8], from: usize, shape: ContainerKind) -> (usize, Next)
@@ -115,7 +127,10 @@ pub fn known_fast_step(bytes: &[u8], from: usize, shape: ContainerKind) -> (usiz
     ensures within { (from ≤ result.0) × (result.0 ≤ length bytes.now) }
     ensures part { result.1 ≡ Next.Part → result.0 < length bytes.now }
 {
-    let (at, byte) = peek_for(bytes, from, b',');
+    if is_before_another(bytes, from, b',') {
+        return fast_comma(bytes, from + 1, shape);
+    }
+    let (at, byte) = peek(bytes, from);
     match byte {
         None => (at, Next::Stuck),
         Some(byte) => {

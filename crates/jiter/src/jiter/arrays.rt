@@ -45,8 +45,9 @@ impl<'j> Jiter<'j> {
     {
         match next {
             Next::Part => {
+                let peek = Peek::new(self.parser.bytes[at]);
                 self.parser.index = at;
-                Some(Some(Peek::new(self.parser.bytes[at])))
+                Some(Some(peek))
             }
             Next::End => {
                 self.parser.index = at;

@@ -15,9 +15,9 @@ ghost use Rattle.jiter.specs.Lending.{LeavesReader};
 
 use crate::errors::{JiterResult, JsonType};
 use crate::jiter::{Jiter, refusal, refusal_at};
-use jiter_scan::simd::scan_string;
-use jiter_scan::text::utf8_text;
-use jiter_steps::fast::{ascii_between, peek_for, text_between};
+use jiter_scan::simd::string_stop;
+use jiter_scan::text::{ascii_text, utf8_text};
+use jiter_steps::fast::{fast_string_end, peek_for, text_between};
 use jiter_steps::parse::Start;
 use jiter_steps::string_decoder::decode_to;
 use std::alloc::Global;
@@ -33,15 +33,15 @@ pub(super) fn fast_text<'j>(bytes: &'j [u8], at: usize) -> Result<&'j str, bool>
     ensures within { IfOk result (λ text. at + length text.now + 2 ≤ length bytes.now) }
     ensures escaped { IfErr result (λ e. e ≡ true → WantsMemory bytes.now at) }
 {
-    let (to, low) = scan_string(bytes, at + 1);
+    if let Some(to) = fast_string_end(bytes, at) {
+        return Ok(ascii_text(&bytes[at + 1..to]));
+    }
+    let to = string_stop(bytes, at + 1);
     if to >= bytes.len() {
         return Err(false);
     }
     if bytes[to] != b'"' {
         return Err(bytes[to] == b'\\');
-    }
-    if low {
-        return Ok(ascii_between(bytes, at, to));
     }
     match text_between(bytes, at, to) {
         Some(text) => Ok(text),
