@@ -2,7 +2,6 @@
 -- and what the members that are left lead to from there; and that its reading of one value keeps to that.
 use Rattle.std.proofs.Common.{◌≡◌, ◌∙◌, ℕ, ◌-◌, ◌<◌, ◌≤◌, false, List, length, refl, sym, ap, subst, arith}
 use Rattle.std.specs.Prelude.{Option, Some, None, option_map}
-use Rattle.std.proofs.lemmas.Option.{none-some}
 use Rattle.jiter.specs.Caller.{Cause, Form, IsBlank, IsDocument, Key, MovesOn, Node, NodeMembers, ReaderState, Reply}
 use Rattle.jiter.specs.Caller.{Tells, Text, ValueType, begin, end, finish, gave, key_bytes, key_step, next, object_read}
 use Rattle.jiter.specs.Caller.{other_type, refused, reply_seen, value_of, with_position}

@@ -1,5 +1,5 @@
 -- Runs of bytes that pass two tests, and where the weaker one ends with the stronger.
-use Rattle.std.proofs.Common.{◌≡◌, ℕ, ◌+◌, ◌<◌, Bool, true, false, ◌&&◌, cond, List, [], ◌∷◌, length, take, get_or}
+use Rattle.std.proofs.Common.{◌≡◌, ℕ, ◌+◌, ◌-◌, ◌<◌, Bool, true, false, ◌&&◌, cond, List, [], ◌∷◌, length, take, get_or}
 use Rattle.std.proofs.Common.{refl, ap, sym, subst, ◌∙◌, ◌≤◌, arith, suc, drop, eqb}
 use Rattle.std.specs.Prelude.{slice_get, Some}
 use Rattle.std.specs.List.{prefix_len, list_all}
@@ -9,8 +9,9 @@ use Rattle.std.proofs.lemmas.Option.{slice_get_within, get_or_from_slice_get}
 use lib.Lanes.{chunk}
 use Rattle.jiter_scan.specs.Scan.{is_plain, is_ascii, is_plain_ascii, run_end, scan_stop, IsAsciiTo}
 use Rattle.jiter_scan.specs.Simd.{failing, ascii_from}
-use Rattle.jiter_scan.proofs.Chunks.{list_all-failing, none_fails, run_end-through}
+use Rattle.jiter_scan.proofs.Chunks.{list_all-failing, none_fails, run_end-on, run_end-through}
 use Rattle.jiter_scan.proofs.PlainRuns.{ascii_from-clear, IsAsciiTo-iff}
+use Rattle.jiter_scan.proofs.Runs.{run_end-ahead, run_end-within}
 
 and-left : (a b : Bool) → (a && b) ≡ true → a ≡ true
 and-left true b h = refl
@@ -49,6 +50,16 @@ module _ (p q : ℕ → Bool) (weaker : (c : ℕ) → p c ≡ true → q c ≡ t
         ∙ ap (λ x. x && list_all q (take (prefix_len p w) w)) (weaker c e) ∙ rest
     by false e rest = refl
 
+  -- that one is at or before the first that fails the weaker
+  pub shorter : (w : List ℕ) → prefix_len p w ≤ prefix_len q w
+  shorter [] = omega arith
+  shorter (c ∷ w) = by (p c) refl (shorter w) where
+    by : (b : Bool) → p c ≡ b → prefix_len p w ≤ prefix_len q w
+        → cond b (1 + prefix_len p w) 0 ≤ cond (q c) (1 + prefix_len q w) 0
+    by true e rest =
+        subst (λ x. 1 + prefix_len p w ≤ cond x (1 + prefix_len q w) 0) (sym (weaker c e)) (omega arith)
+    by false e rest = omega arith
+
   -- if that one fails the weaker too, both runs end there
   pub same-end : (w : List ℕ) → prefix_len p w < length w → q (get_or w (prefix_len p w) 0) ≡ false
       → prefix_len q w ≡ prefix_len p w
@@ -65,6 +76,22 @@ module _ (p q : ℕ → Bool) (weaker : (c : ℕ) → p c ≡ true → q c ≡ t
     by false e go h d = ap (λ x. cond x (1 + prefix_len q w) 0) d
 
 module _ (t : List ℕ) (i : ℕ) where
+  -- a scan that goes on from a place within its plain bytes ends where it would have
+  scan-on : (to : ℕ) → i ≤ to → to ≤ scan_stop t i → i ≤ length t → scan_stop t i ≡ scan_stop t to
+  scan-on to ahead before inside =
+      let place : i + (to - i) ≡ to = omega arith in
+      let within = run_end-within is_plain t i inside in
+      sym (run_end-on is_plain t i (to - i) (omega (arith, place)) (omega (arith, place, within)))
+      ∙ ap (scan_stop t) place
+
+  pub stop-again : (to : ℕ) → i ≤ length t → to ≡ scan_stop t i → scan_stop t i ≡ scan_stop t to
+  stop-again to inside stop = scan-on to (omega (arith, run_end-ahead is_plain t i)) (omega arith) inside
+
+  pub ascii-again : (to : ℕ) → i ≤ length t → run_end is_plain_ascii t i ≡ to → scan_stop t i ≡ scan_stop t to
+  ascii-again to inside h =
+      let before = shorter is_plain_ascii is_plain plain-of (drop i t) in
+      scan-on to (omega arith) (omega (arith, before)) inside
+
   -- a quote that ends a run of plain bytes of ASCII ends the run of plain bytes
   quote-same : (to : ℕ) → run_end is_plain_ascii t i ≡ to → slice_get t to ≡ Some 34
       → prefix_len is_plain (drop i t) ≡ prefix_len is_plain_ascii (drop i t)

@@ -22,7 +22,7 @@ use Rattle.jiter_scan.proofs.Magnitudes.{slice_range-count}
 use Rattle.jiter_scan.proofs.NumberComplete.{int_part_at-complete}
 use Rattle.jiter_scan.proofs.NumberExtents.{decimal_at-tail, tail-parts}
 use Rattle.jiter_scan.proofs.NumberSound.{digits-sound, power-sound, exponent_at-sound}
-use Rattle.jiter_scan.proofs.Runs.{run_end-passes, run_end-stops, run_end-within, NoDigit}
+use Rattle.jiter_scan.proofs.Runs.{run_end-ahead, run_end-passes, run_end-passing, run_end-stops, run_end-within, NoDigit}
 use Rattle.jiter_scan.proofs.Standing.{stands-slice, stands-length, stands-within, stands-append}
 
 module _ (t : List ℕ) where
@@ -85,6 +85,12 @@ module _ (t : List ℕ) where
     digits-counted =
         run_end-counted chunk i n counted (prefix n (omega arith) (omega arith))
         (prefix (n + 1) (omega arith) (omega arith))
+
+    -- one at least, if the first byte is a digit
+    pub some-counted : is_digit (get_or t i 0) ≡ true → 0 < n
+    some-counted digit =
+        let more = run_end-passing is_digit t i (omega arith) digit in
+        omega (arith, digits-counted, more, run_end-ahead is_digit t (i + 1))
 
     pub int_part_at-counted : 0 < n → ((get_or t i 0 ≡ 48) × (n ≡ 1)) ⊎ (get_or t i 0 ≢ 48)
         → int_part_at t i ≡ taken tt (i + n)

@@ -1,9 +1,9 @@
 //! The fast path for numbers: short ones are read sixteen bytes at a time, and the results are returned in registers.
-ghost use Rattle.std.specs.Prelude.{◌≡◌, ◌==◌, ◌||◌, ◌<◌, ◌≤◌, ◌+◌, ◌^◌, IfSome, length, pos, slice_get, slice_range};
-ghost use Rattle.std.specs.Prelude.{slice_index, true};
+ghost use Rattle.std.specs.Prelude.{◌≡◌, ◌≢◌, ◌⊎◌, ◌==◌, ◌||◌, ◌<◌, ◌≤◌, ◌+◌, ◌^◌, IfSome, length, pos, slice_get, slice_range};
+ghost use Rattle.std.specs.Prelude.{slice_index, true, false};
 ghost use Rattle.std.specs.Prelude.{if◌then◌else◌};
 ghost use Rattle.jiter_scan.specs.Ascii as ascii;
-ghost use Rattle.jiter_scan.specs.Digits.{decimal_of, digit_run_end};
+ghost use Rattle.jiter_scan.specs.Digits.{decimal_of, digit_run_end, is_digit};
 ghost use Rattle.jiter_scan.specs.Number.{minus_of};
 ghost use Rattle.jiter_scan.specs.NumberDecoder.{magnitude_of};
 ghost use Rattle.jiter_scan.specs.NumberReading.{extent_then, digits_from, fraction_at, power_from, exponent_at};
@@ -163,6 +163,20 @@ fn two_chunks_at(bytes: &[u8], at: usize) -> FastNumber
     FastNumber::Int(magnitude, end)
 }
 
+// Returns whether an integer part of `count` digits may begin with this byte: no digit may follow a leading zero.
+#[inline(always)]
+fn may_lead(first: u8, count: usize) -> bool
+    ensures digit { result ≡ true → is_digit first ≡ true }
+    ensures zero { result ≡ true
+        → ((first ≡ ascii.digit_zero) × (count ≡ 1)) ⊎ (first ≢ ascii.digit_zero) }
+    ensures other { result ≡ false → (is_digit first ≡ false) ⊎ (first ≡ ascii.digit_zero) }
+{
+    if b'1' <= first && first <= b'9' {
+        return true;
+    }
+    first == b'0' && count == 1
+}
+
 // The minus, if there is one, is before `at`.
 #[inline(always)]
 pub(crate) fn padded_number_at(bytes: &[u8], at: usize) -> FastNumber
@@ -175,7 +189,7 @@ pub(crate) fn padded_number_at(bytes: &[u8], at: usize) -> FastNumber
     if count > 15 {
         return two_chunks_at(bytes, at);
     }
-    if count == 0 || bytes[at] == b'0' && count != 1 {
+    if !may_lead(bytes[at], count) {
         return FastNumber::Other;
     }
     let end = at + count;

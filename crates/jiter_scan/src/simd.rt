@@ -73,6 +73,9 @@ fn first_stop(i: usize, found: u64, high: u64, clean: bool) -> (usize, bool)
         ≡ (clean && nat_le (trailing_zeros w64 found) (trailing_zeros w64 high)) }
 {
     let count = found.trailing_zeros();
+    if high == 0 {
+        return (i + count as usize, clean);
+    }
     (i + count as usize, both(clean, is_clear_below(high, count)))
 }
 
@@ -301,6 +304,23 @@ pub fn string_stop(bytes: &[u8], from: usize) -> usize
         return from + found.trailing_zeros() as usize;
     }
     stop_far(bytes, from + 16)
+}
+
+/// Returns what [`string_stop`] does. Fastest if that is `from`.
+///
+/// # Requires
+///
+/// - `from` is at most the length.
+#[inline(always)]
+pub fn near_stop(bytes: &[u8], from: usize) -> usize
+    requires { from ≤ length bytes.now }
+    ensures stop { result ≡ scan_stop bytes.now from }
+    ensures within { (from ≤ result) × (result ≤ length bytes.now) }
+{
+    if from < bytes.len() && is_stop(bytes[from]) {
+        return from;
+    }
+    string_stop(bytes, from)
 }
 
 /// Copies the plain bytes from `from` on to the buffer, after its first `count` bytes (RFC 8259, 7). The bytes are

@@ -1,5 +1,5 @@
 -- What the plain way tells of a step.
-use Rattle.std.specs.Prelude.{◌≡◌, ℕ}
+use Rattle.std.specs.Prelude.{◌≡◌, ◌<◌, ◌≤◌, ℕ, List, length}
 use Rattle.jiter_steps.specs.Step.{Step, more, closed, stuck}
 use Rattle.jiter_steps.specs.declared.fast.Next.{Next}
 use Rattle.jiter_steps.specs.declared.fast.Next.TheVariants as next
@@ -15,3 +15,9 @@ abbrev pub IsNext : ℕ → Next → Step → Type 0
 IsNext j next.Part s = s ≡ more j
 IsNext j next.End s = s ≡ closed j
 IsNext j next.Stuck s = IsStuckAt j s
+
+-- It was told so from i on, and a part is within the bytes.
+pub record LeadsOn (t : List ℕ) (i : ℕ) (told : ℕ × Next) (s : Step) : Type 0 where
+  pub within : (i ≤ told.0) × (told.0 ≤ length t)
+  pub part : told.1 ≡ next.Part → told.0 < length t
+  pub next : IsNext told.0 told.1 s

@@ -1,5 +1,6 @@
 -- What the functions that read strings return.
-use Rattle.std.specs.Prelude.{◌≡◌, ℕ, ◌+◌, Bool, true, false, List, slice_get, Some}
+use Rattle.std.specs.Prelude.{◌≡◌, ℕ, ◌+◌, ◌≤◌, Bool, true, false, List, slice_get, take, Some, Result, IfOk}
+use Rattle.std.specs.Str.{IsUtf8}
 use Rattle.std.specs.Char.{encode_utf8}
 use Rattle.std.specs.Cow.{cow_str_bytes}
 use Rattle.std.specs.declared.alloc.Global.{Global}
@@ -8,16 +9,18 @@ use Rattle.std.specs.declared.borrow.CowStr.TheVariants as text
 use Rattle.jiter_scan.specs.Ascii as ascii
 use Rattle.jiter_scan.specs.Kind.{fault_kind}
 use Rattle.jiter_scan.specs.Scan.{scan_stop}
+use Rattle.jiter_scan.specs.Scanned.{Scans, with_end}
+use Rattle.jiter_steps.specs.ReadError.{UnlessRefused}
 use Rattle.jiter_steps.specs.Tree.{Text}
 use Rattle.jiter_steps.specs.StringReading.{HexDigits, number, bad, few, Event, part, over, Stop, closed, unclosed}
-use Rattle.jiter_steps.specs.StringReading.{cut}
-use Rattle.jiter_steps.specs.StringReading.{wrong}
+use Rattle.jiter_steps.specs.StringReading.{cut, string_at, text_form, wrong}
 use Rattle.jiter_steps.specs.declared.escape.Hex.{Hex}
 use Rattle.jiter_steps.specs.declared.escape.Hex.TheVariants as hex
 use Rattle.jiter_steps.specs.declared.escape.StringEvent.{StringEvent}
 use Rattle.jiter_steps.specs.declared.escape.StringEvent.TheVariants as at_stop
 use Rattle.jiter_steps.specs.declared.escape.StringEnd.{StringEnd}
 use Rattle.jiter_steps.specs.declared.escape.StringEnd.TheVariants as ending
+use Rattle.jiter_steps.specs.declared.read_error.ReadError.{ReadError}
 
 -- the text lies in memory of its own
 abbrev pub is_owned : CowStr Global → Bool
@@ -55,3 +58,12 @@ event_view (at_stop.End s) = over (stop_view s)
 -- Only a string with a backslash wants memory: the plain bytes after its quote end at one.
 abbrev pub WantsMemory : List ℕ → ℕ → Type 0
 WantsMemory t at = slice_get t (scan_stop t (at + 1)) ≡ Some ascii.backslash
+
+-- The string at i is decoded to the beginning of a tape of so many bytes: its length there and the index after it, or
+-- its first error.
+pub record Decodes (t : List ℕ) (i : ℕ) (keep : Bool) (tape : List ℕ) (size : ℕ) (result : Result (ℕ × ℕ) ReadError)
+    : Type 0 where
+  pub value : UnlessRefused result (λ r.
+      Scans (with_end (λ n. record { owned = true; bytes = take n tape })) r (string_at (text_form keep) t i))
+  pub text : IfOk result (λ r. IsUtf8 (take r.0 tape))
+  pub prefix : IfOk result (λ r. r.0 ≤ size)

@@ -1,14 +1,14 @@
 //! The fast path between the parts of a document. It works on the bytes and an index, and its results are returned in
 //! registers. Only the slow path says which error there is.
-ghost use Rattle.std.specs.Prelude.{◌≡◌, ◌≢◌, ◌+◌, ◌≤◌, ◌<◌, Bool, IfSome, IsTrue, length, slice_get, slice_range};
+ghost use Rattle.std.specs.Prelude.{◌≡◌, ◌≢◌, ◌+◌, ◌≤◌, ◌<◌, Bool, IfErr, IfOk, IfSome, IsTrue, length, slice_get, slice_range};
 ghost use Rattle.std.specs.Prelude.{Some, true};
 ghost use Rattle.std.specs.Str.{IsAscii};
 ghost use Rattle.jiter_scan.specs.Ascii as ascii;
-ghost use Rattle.jiter_scan.specs.Scan.{scan_stop, IsAsciiTo};
+ghost use Rattle.jiter_scan.specs.Scan.{scan_stop, GoesOnAt, IsAsciiTo};
 ghost use Rattle.jiter_scan.specs.Scanned.{taken};
 ghost use Rattle.jiter_steps.specs.Blank.{past_blanks};
 ghost use Rattle.jiter_steps.specs.Literal.{literal_at};
-ghost use Rattle.jiter_steps.specs.Fast.{IsNext};
+ghost use Rattle.jiter_steps.specs.Fast.{LeadsOn};
 ghost use Rattle.jiter_steps.specs.Step.{step, container_first, container_comma, container_step, object_colon};
 ghost use Rattle.jiter_steps.specs.StringReading.{string_at, text_form, between};
 
@@ -68,9 +68,7 @@ pub fn peek_for(bytes: &[u8], from: usize, wanted: u8) -> (usize, Option<u8>)
 #[inline(always)]
 pub fn fast_first(bytes: &[u8], from: usize, shape: ContainerKind) -> (usize, Next)
     requires { from ≤ length bytes.now }
-    ensures next { IsNext result.0 result.1 (step bytes.now (container_first shape) from) }
-    ensures within { (from ≤ result.0) × (result.0 ≤ length bytes.now) }
-    ensures part { result.1 ≡ Next.Part → result.0 < length bytes.now }
+    ensures { LeadsOn bytes.now from result (step bytes.now (container_first shape) from) }
 {
     let (at, byte) = peek(bytes, from);
     match byte {
@@ -90,9 +88,7 @@ pub fn fast_first(bytes: &[u8], from: usize, shape: ContainerKind) -> (usize, Ne
 #[inline(always)]
 fn fast_comma(bytes: &[u8], from: usize, shape: ContainerKind) -> (usize, Next)
     requires { from ≤ length bytes.now }
-    ensures next { IsNext result.0 result.1 (step bytes.now (container_comma shape) from) }
-    ensures within { (from ≤ result.0) × (result.0 ≤ length bytes.now) }
-    ensures part { result.1 ≡ Next.Part → result.0 < length bytes.now }
+    ensures { LeadsOn bytes.now from result (step bytes.now (container_comma shape) from) }
 {
     let (at, byte) = peek(bytes, from);
     match byte {
@@ -123,9 +119,7 @@ fn is_before_another(bytes: &[u8], from: usize, byte: u8) -> bool
 #[inline(always)]
 pub fn known_fast_step(bytes: &[u8], from: usize, shape: ContainerKind) -> (usize, Next)
     requires { from ≤ length bytes.now }
-    ensures next { IsNext result.0 result.1 (step bytes.now (container_step shape bytes.now) from) }
-    ensures within { (from ≤ result.0) × (result.0 ≤ length bytes.now) }
-    ensures part { result.1 ≡ Next.Part → result.0 < length bytes.now }
+    ensures { LeadsOn bytes.now from result (step bytes.now (container_step shape bytes.now) from) }
 {
     if is_before_another(bytes, from, b',') {
         return fast_comma(bytes, from + 1, shape);
@@ -149,9 +143,7 @@ pub fn known_fast_step(bytes: &[u8], from: usize, shape: ContainerKind) -> (usiz
 #[inline(always)]
 pub fn fast_step(bytes: &[u8], from: usize, shape: ContainerKind) -> (usize, Next)
     requires { from ≤ length bytes.now }
-    ensures next { IsNext result.0 result.1 (step bytes.now (container_step shape bytes.now) from) }
-    ensures within { (from ≤ result.0) × (result.0 ≤ length bytes.now) }
-    ensures part { result.1 ≡ Next.Part → result.0 < length bytes.now }
+    ensures { LeadsOn bytes.now from result (step bytes.now (container_step shape bytes.now) from) }
 {
     match shape {
         ContainerKind::Array => known_fast_step(bytes, from, ContainerKind::Array),
@@ -182,22 +174,24 @@ pub fn fast_colon(bytes: &[u8], from: usize) -> Option<usize>
     }
 }
 
-/// Returns the index of the closing quote of the string at `at` (RFC 8259, 7). All bytes between the quotes must be
-/// plain and below 80 hex; otherwise returns `None`.
+/// Returns the index of the closing quote of the string at `at` (RFC 8259, 7), if all bytes between the quotes are
+/// plain and below 80 hex. Otherwise returns the index from which to look for the first byte that is not plain: all
+/// bytes of the string before it are plain.
 #[inline(always)]
-pub fn fast_string_end(bytes: &[u8], at: usize) -> Option<usize>
+pub fn fast_string_end(bytes: &[u8], at: usize) -> Result<usize, usize>
     requires { at < length bytes.now }
-    ensures value { IfSome result (λ to. (keep : Bool)
+    ensures value { IfOk result (λ to. (keep : Bool)
         → string_at (text_form keep) bytes.now at ≡ taken (between bytes.now (at + 1) to) (to + 1)) }
-    ensures ascii { IfSome result (λ to. IsAscii (slice_range bytes.now (at + 1) to)) }
-    ensures within { IfSome result (λ to. (at < to) × (to < length bytes.now)) }
+    ensures ascii { IfOk result (λ to. IsAscii (slice_range bytes.now (at + 1) to)) }
+    ensures within { IfOk result (λ to. (at < to) × (to < length bytes.now)) }
+    ensures rest { IfErr result (λ i. GoesOnAt bytes.now (at + 1) i) }
 {
     ascii_quote(bytes, at + 1)
 }
 
 /// Returns the string between the quotes at `at` and `to`. Its bytes are below 80 hex, and are not tested.
 #[inline(always)]
-pub fn ascii_between(bytes: &[u8], at: usize, to: usize) -> &str
+pub(crate) fn ascii_between(bytes: &[u8], at: usize, to: usize) -> &str
     requires within { (at < to) × (to < length bytes.now) }
     requires stop { to ≡ scan_stop bytes.now (at + 1) }
     requires quote { slice_get bytes.now to ≡ Some ascii.quote }

@@ -12,7 +12,7 @@ ghost use Rattle.jiter_scan.specs.Scanned.{Scans, with_end, taken, failed};
 ghost use Rattle.jiter_steps.specs.ReadError.{UnlessRefused, WhereRefused};
 ghost use Rattle.jiter_steps.specs.StringReading.{body_at, text_form, text_in_form, checked, string_at, whole};
 ghost use Rattle.jiter_steps.specs.StringDecoder.{text_view, stop_view};
-ghost use Rattle.jiter_steps.specs.StringDecoder.{WantsMemory};
+ghost use Rattle.jiter_steps.specs.StringDecoder.{Decodes, WantsMemory};
 
 use crate::escape::{StringEnd, StringEvent, next_event, simple_escape_at};
 use crate::read_error::ReadError;
@@ -141,6 +141,29 @@ fn text_end(bytes: &[u8], ending: StringEnd, keep: bool) -> Result<usize, Fault>
     }
 }
 
+/// Does what [`decode_to`] does, inlined: for the place that decodes most strings.
+#[inline(always)]
+pub fn decode_here(
+    tape: &mut Vec<u8>,
+    bytes: &[u8],
+    at: usize,
+    keep: bool,
+) -> Result<(usize, usize), ReadError>
+    requires within { at < length bytes.now }
+    requires backslash { WantsMemory bytes.now at }
+    ensures { Decodes bytes.now at keep tape.new.items (vec_len tape.new) result }
+{
+    let (count, known, ending) = decode(tape, bytes, at + 1)?;
+    let end = text_end(bytes, ending, keep)?;
+    match checked_count(&tape.as_slice()[..count], known, keep) {
+        Ok(fit) => Ok((fit, end)),
+        Err(right) => {
+            let fault = fault_at(FaultKind::InvalidUnicodeCodePoint, at + 1 + right);
+            Err(ReadError::Fault(fault))
+        }
+    }
+}
+
 /// Decodes the string at `at`, which has a backslash, to the beginning of the tape. Returns how many bytes it has
 /// there, and the index after its closing quote. Fails as [`string_at`] does, and `keep` means the same.
 #[inline(never)]
@@ -152,21 +175,9 @@ pub fn decode_to(
 ) -> Result<(usize, usize), ReadError>
     requires within { at < length bytes.now }
     requires backslash { WantsMemory bytes.now at }
-    ensures value { UnlessRefused result (λ r. Scans
-        (with_end (λ n. record { owned = true; bytes = take n tape.new.items })) r
-        (string_at (text_form keep) bytes.now at)) }
-    ensures text { IfOk result (λ r. IsUtf8 (take r.0 tape.new.items)) }
-    ensures prefix { IfOk result (λ r. r.0 ≤ vec_len tape.new) }
+    ensures { Decodes bytes.now at keep tape.new.items (vec_len tape.new) result }
 {
-    let (count, known, ending) = decode(tape, bytes, at + 1)?;
-    let end = text_end(bytes, ending, keep)?;
-    match checked_count(&tape.as_slice()[..count], known, keep) {
-        Ok(fit) => Ok((fit, end)),
-        Err(right) => {
-            let fault = fault_at(FaultKind::InvalidUnicodeCodePoint, at + 1 + right);
-            Err(ReadError::Fault(fault))
-        }
-    }
+    decode_here(tape, bytes, at, keep)
 }
 
 // For a string with a backslash.

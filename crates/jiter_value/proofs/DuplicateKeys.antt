@@ -1,7 +1,7 @@
 -- Sets of keys: what they have once keys are put in or members are gone, and which key is new.
 use Rattle.std.proofs.Common.{◌≡◌, ◌⊎◌, ⊎_elim, inl, inr, ℕ, suc, ◌+◌, ◌<◌, ◌≤◌, Bool, true, false, List, [], ◌∷◌, ◌++◌}
-use Rattle.std.proofs.Common.{length, take, drop, get_or, refl, sym, ap, ◌∙◌, arith, subst, length-append}
-use Rattle.std.specs.Prelude.{◌||◌, ◌≢◌, ◌*◌, ◌%◌, ◌^◌, not, min, All, set}
+use Rattle.std.proofs.Common.{length, drop, get_or, refl, sym, ap, ◌∙◌, arith, subst, length-append}
+use Rattle.std.specs.Prelude.{◌||◌, ◌≢◌, ◌*◌, ◌%◌, ◌^◌, All, set}
 use Rattle.std.specs.Str.{bytes_eq}
 use Rattle.std.specs.List.{list_any}
 use Rattle.std.specs.BTreeSet.{BTreeSet, insert_key}
@@ -15,9 +15,9 @@ use Rattle.std.specs.declared.cmp.Ordering.TheVariants.{Less, Equal, Greater}
 use Rattle.std.specs.Cow.{cow_str_bytes}
 use Rattle.std.proofs.Math.ListN.{get_or-append}
 use Rattle.std.proofs.lemmas.Bool.{or_right, false_from_ne_true, cases_eq}
-use Rattle.std.proofs.lemmas.List.{get_or-take, get_or-drop, length-take, drop-map, length-map, length-drop, get_or-map}
+use Rattle.std.proofs.lemmas.List.{get_or-drop, drop-map, length-map, length-drop, get_or-map}
 use Rattle.std.proofs.lemmas.List.{at_drop_more, at_drop_all, get_or-set_other, get_or-set_same, length-set}
-use Rattle.std.proofs.lemmas.List.Elements.{All-weaker, All-get_or, All-more}
+use Rattle.std.proofs.lemmas.List.Elements.{All-weaker}
 use Rattle.std.proofs.lemmas.Slice.Eq.{bytes_eq-Decides}
 use Rattle.jiter_steps.specs.StringDecoder.{text_view}
 use Rattle.jiter_value.specs.DuplicateKeys.{Adds, AreTaken, HasKeys, Holds, IsNowhere, IsPlaceOf, IsUpToDate, bucket_of}

@@ -1,19 +1,14 @@
 -- What a whole text answers whose texts are lent, repeated keys and all.
 use Rattle.std.proofs.Common.{◌≡◌, ◌∙◌, refl, sym, subst, ℕ, List}
 use Rattle.std.specs.Prelude.{Result}
-use Rattle.jiter_scan.specs.Kind.{Kind}
-use Rattle.jiter_scan.specs.Scanned.{failed}
-use Rattle.jiter_steps.specs.Read.{fault}
-use Rattle.jiter_steps.specs.Step.{step, value_first}
 use Rattle.jiter_steps.specs.declared.read_error.ReadError.{ReadError}
 use Rattle.jiter_value.specs.Parses.{as_read, reading_as}
 use Rattle.jiter_value.specs.Reading.{GivesWhole}
-use Rattle.jiter_value.specs.Settings.{lent, rules_as, answer_as, answer_by}
+use Rattle.jiter_value.specs.Settings.{lent, answer_as, answer_by}
 use Rattle.jiter_value.specs.declared.settings.Settings.{Settings}
 use Rattle.jiter_value.specs.declared.value.JsonValue.{JsonValue}
 use Rattle.jiter_value.proofs.MadeTexts.{answer_as-is, reading_as-it_is}
 use Rattle.jiter_value.proofs.ParsedDocuments.{as_read-is}
-use Rattle.jiter_value.proofs.WholeTextAnswers.{answer-none}
 
 lent-same : (p : Settings) (t : List ℕ) → answer_as lent p t ≡ reading_as as_read (answer_by p t)
 lent-same p t = answer_as-is lent refl p t ∙ reading_as-it_is (answer_by p t) ∙ sym (as_read-is (answer_by p t))

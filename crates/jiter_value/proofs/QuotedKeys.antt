@@ -1,10 +1,10 @@
 -- A key's printed form, piece by piece.
 use Rattle.std.proofs.Common.{◌≡◌, ◌∙◌, sym, ap, ℕ, ◌+◌, ◌<◌, ◌≤◌, List, [], ◌∷◌, ◌++◌, length, arith}
 use Rattle.std.proofs.Common.{append_assoc}
-use Rattle.std.specs.Prelude.{codes, flat_map, slice_index, slice_range}
-use Rattle.std.proofs.lemmas.List.{append-nil, at_drop_more, drop_all}
+use Rattle.std.specs.Prelude.{flat_map, slice_index, slice_range}
+use Rattle.std.proofs.lemmas.List.{at_drop_more}
 use Rattle.std.proofs.lemmas.List.Edits.{between_more, between_none}
-use Rattle.jiter_scan.specs.Quoted.{quoted, quoted_byte}
+use Rattle.jiter_scan.specs.Quoted.{quoted_byte}
 use Rattle.jiter_value.specs.QuotedKeys.{quoted_from}
 
 -- what a byte prints, and what follows it

@@ -1,5 +1,5 @@
 -- A key that its object has already, and what its reading is.
-use Rattle.std.proofs.Common.{◌≡◌, ◌≢◌, ◌⊎◌, inl, inr, ℕ, zero, suc, ◌<◌, true, false, List, [], ◌∷◌, length}
+use Rattle.std.proofs.Common.{◌≡◌, ◌≢◌, ℕ, zero, suc, ◌<◌, true, false, List, [], ◌∷◌, length}
 use Rattle.std.proofs.Common.{take, drop, map, refl, sym, ap, ◌∙◌, arith, cond, subst}
 use Rattle.std.specs.Prelude.{◌||◌, reverse, string_bytes, Option, Some, None, Result, Err}
 use Rattle.std.specs.Str.{bytes_eq}
@@ -17,8 +17,7 @@ use Rattle.jiter_steps.specs.Unique.{own_bytes, is_among, after_its_colon}
 use Rattle.jiter_steps.proofs.Calls.Resumed.{if_forgiven-no, resume-fault}
 use Rattle.jiter_value.specs.Settings.{Keeping, lent_unique, forgives, rules_as, answer_as}
 use Rattle.jiter_value.specs.Stacks.{Member, member_view, frames, HaveKeyBase, refused_in, key_in, meaning}
-use Rattle.jiter_value.specs.Turns.{Proceeds, IsWithin, MayGrowFor, outcome}
-use Rattle.jiter_value.specs.Value.{MayGrowBy}
+use Rattle.jiter_value.specs.Turns.{Proceeds, IsWithin}
 use Rattle.jiter_value.specs.UniqueKeys.{has_key, innermost_base, StopsAtKey, GivesUnique, WhereUniqueRefused}
 use Rattle.jiter_value.specs.UniqueKeys.{GivesUniqueWhole}
 use Rattle.jiter_value.specs.Reading.{GivesWhole}

@@ -1,5 +1,5 @@
 -- Where turns lead.
-use Rattle.std.proofs.Common.{◌≡◌, ◌≢◌, ◌∙◌, inl, inr, ℕ, ◌+◌, ◌<◌, ◌≤◌, List, ap, arith, length, refl, subst, sym, take}
+use Rattle.std.proofs.Common.{◌≡◌, ◌≢◌, ◌∙◌, inl, inr, ℕ, ◌+◌, ◌≤◌, List, ap, arith, length, refl, subst, sym, take}
 use Rattle.std.proofs.Common.{take-take}
 use Rattle.std.proofs.lemmas.List.{length-take}
 use Rattle.jiter_value.proofs.KeptKeys.{key_count}

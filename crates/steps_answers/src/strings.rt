@@ -1,7 +1,7 @@
 //! Strings, decoded and raw, and those that are plain.
 ghost use Rattle.std.specs.Prelude.{◌<◌, length};
 
-use jiter_scan::simd::scan_string;
+use jiter_scan::simd::{near_stop, scan_string};
 use jiter_scan::word::byte_at;
 use jiter_steps::fast::{fast_string_end, text_between};
 use jiter_steps::raw_string::{raw_string_at, string_end};
@@ -94,11 +94,14 @@ pub fn answer_raw(rt: &HostRuntime, alloc: Global, bytes: &[u8], at: usize) -> i
     println!(rt; "{told}, kept {kept}")
 }
 
-/// The index of the closing quote, if all before it is plain ASCII.
+/// The index of the closing quote, if all before it is plain ASCII, otherwise of the first byte that is not plain.
 pub fn answer_plain_text_end(rt: &HostRuntime, bytes: &[u8], at: usize) -> io::Result<()>
     requires { at < length bytes.now }
 {
-    println!(rt; "{:?}", fast_string_end(bytes, at))
+    match fast_string_end(bytes, at) {
+        Ok(to) => println!(rt; "quote at {to}"),
+        Err(from) => println!(rt; "stop at {}", near_stop(bytes, from)),
+    }
 }
 
 /// The text between the quote at the mark and the next one, if nothing else stops it.

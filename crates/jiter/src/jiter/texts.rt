@@ -15,8 +15,9 @@ ghost use Rattle.jiter.specs.Lending.{LeavesReader};
 
 use crate::errors::{JiterResult, JsonType};
 use crate::jiter::{Jiter, refusal, refusal_at};
-use jiter_scan::simd::string_stop;
+use jiter_scan::simd::near_stop;
 use jiter_scan::text::{ascii_text, utf8_text};
+use jiter_scan::word::byte_at;
 use jiter_steps::fast::{fast_string_end, peek_for, text_between};
 use jiter_steps::parse::Start;
 use jiter_steps::string_decoder::decode_to;
@@ -33,19 +34,16 @@ pub(super) fn fast_text<'j>(bytes: &'j [u8], at: usize) -> Result<&'j str, bool>
     ensures within { IfOk result (λ text. at + length text.now + 2 ≤ length bytes.now) }
     ensures escaped { IfErr result (λ e. e ≡ true → WantsMemory bytes.now at) }
 {
-    if let Some(to) = fast_string_end(bytes, at) {
-        return Ok(ascii_text(&bytes[at + 1..to]));
-    }
-    let to = string_stop(bytes, at + 1);
-    if to >= bytes.len() {
-        return Err(false);
-    }
-    if bytes[to] != b'"' {
-        return Err(bytes[to] == b'\\');
-    }
-    match text_between(bytes, at, to) {
-        Some(text) => Ok(text),
-        None => Err(false),
+    match fast_string_end(bytes, at) {
+        Ok(to) => Ok(ascii_text(&bytes[at + 1..to])),
+        Err(from) => {
+            let to = near_stop(bytes, from);
+            match byte_at(bytes, to) {
+                Some(b'"') => text_between(bytes, at, to).ok_or(false),
+                Some(b'\\') => Err(true),
+                _ => Err(false),
+            }
+        }
     }
 }
 

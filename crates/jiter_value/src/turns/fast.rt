@@ -24,14 +24,13 @@ use crate::value::JsonValue;
 use jiter_scan::fast_number::{FastNumber, fast_number_at, signed};
 use jiter_scan::memory::{AllocFailed, copy_text};
 use jiter_scan::number_extent::minus_end;
-use jiter_scan::simd::scan_string;
+use jiter_scan::simd::near_stop;
 use jiter_scan::text::{ascii_text, utf8_text};
-use jiter_steps::fast::{
-    ascii_between, fast_colon, fast_literal_end, fast_string_end, text_between,
-};
+use jiter_scan::word::byte_at;
+use jiter_steps::fast::{fast_colon, fast_literal_end, fast_string_end, text_between};
 use jiter_steps::parse::Literal;
 use jiter_steps::read_error::ReadError;
-use jiter_steps::string_decoder::decode_to;
+use jiter_steps::string_decoder::decode_here;
 use std::alloc::Global;
 use std::borrow::CowStr;
 
@@ -116,7 +115,7 @@ fn put_decoded_text<'s, T: StringStorage<'s>>(
     ensures refused { result.1 ≡ Plain.AllocFailed → IsRefusedAt bytes.now at stacks.new result.0 }
     ensures keys { result.1 ≡ Plain.Put → LeavesKeys stacks.old.members.items stacks.new.members.items }
 {
-    match decode_to(tape, bytes, at, false) {
+    match decode_here(tape, bytes, at, false) {
         Ok((count, end)) => {
             let decoded = utf8_text(&tape.as_slice()[..count]);
             // An owned copy, made by one allocation of its exact length.
@@ -157,25 +156,22 @@ fn fast_put_text<'s, T: StringStorage<'s>>(
     ensures memory { result.1 ≡ Plain.AllocFailed → WantsMemory bytes.now at ⊎ T.wants }
     ensures keys { result.1 ≡ Plain.Put → LeavesKeys stacks.old.members.items stacks.new.members.items }
 {
-    let (to, low) = scan_string(bytes, at + 1);
-    if to >= bytes.len() {
-        return (at, Plain::Other);
-    }
-    if bytes[to] != b'"' {
-        if bytes[to] != b'\\' {
-            return (at, Plain::Other);
+    match fast_string_end(bytes, at) {
+        Ok(to) => match keep_lent(texts, bytes, at + 1, ascii_text(&bytes[at + 1..to])) {
+            Ok(text) => {
+                put_reserved(stacks, slot, JsonValue::Str(text));
+                (to + 1, Plain::Put)
+            }
+            Err(refused) => refused_at(stacks, refused, to + 1),
+        },
+        Err(from) => {
+            let to = near_stop(bytes, from);
+            match byte_at(bytes, to) {
+                Some(b'"') => fast_put_utf8(texts, stacks, bytes, at, to, slot),
+                Some(b'\\') => put_decoded_text(alloc, texts, tape, stacks, bytes, at, slot),
+                _ => (at, Plain::Other),
+            }
         }
-        return put_decoded_text(alloc, texts, tape, stacks, bytes, at, slot);
-    }
-    if !low {
-        return fast_put_utf8(texts, stacks, bytes, at, to, slot);
-    }
-    match keep_lent(texts, bytes, at + 1, ascii_between(bytes, at, to)) {
-        Ok(text) => {
-            put_reserved(stacks, slot, JsonValue::Str(text));
-            (to + 1, Plain::Put)
-        }
-        Err(refused) => refused_at(stacks, refused, to + 1),
     }
 }
 
@@ -303,7 +299,7 @@ pub fn fast_put_key<'s, T: StringStorage<'s>>(
     if stacks.members.len() == stacks.members.capacity() {
         return (at, Plain::Other);
     }
-    let Some(to) = fast_string_end(bytes, at) else {
+    let Ok(to) = fast_string_end(bytes, at) else {
         return (at, Plain::Other);
     };
     let Some(next) = fast_colon(bytes, to + 1) else {

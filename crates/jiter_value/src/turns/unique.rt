@@ -131,8 +131,8 @@ fn is_new_fast_key(stacks: &Stacks<'_>, bytes: &[u8], base: usize, at: usize) ->
     ensures free { result ≡ true → IsFree lent_unique bytes.now stacks.now at }
 {
     match fast_string_end(bytes, at) {
-        Some(to) => !has_key(&stacks.members, base, ascii_text(&bytes[at + 1..to])),
-        None => false,
+        Ok(to) => !has_key(&stacks.members, base, ascii_text(&bytes[at + 1..to])),
+        Err(_) => false,
     }
 }
 

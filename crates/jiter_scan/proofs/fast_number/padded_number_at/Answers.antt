@@ -1,17 +1,15 @@
-use Rattle.std.proofs.Common.{rules, ◌+◌, get_or, sym, ap, ◌∙◌, arith}
+use Rattle.std.proofs.Common.{◌+◌, inl, inr, get_or, sym, ap, ◌∙◌, arith}
 use Rattle.std.proofs.lemmas.Option.{slice_get-get_or}
 use Rattle.std.proofs.lemmas.Bool.{false≢true}
-use Rattle.jiter_scan.specs.Digits.{decimal_of}
+use Rattle.jiter_scan.specs.Digits.{decimal_of, is_digit}
 use Rattle.jiter_scan.specs.NumberReading.{is_float_sign}
+use Rattle.jiter_scan.proofs.Runs.{run_end-passes}
 use Rattle.jiter_scan.proofs.Magnitudes.{decimal_of-few, magnitude_of-short}
 use Rattle.jiter_scan.proofs.NumberExtents.{decimal_at-tail}
 use Rattle.jiter_scan.proofs.NumberValues.{number_value-tail}
-use Rattle.jiter_scan.proofs.FastNumbers.{digits-counted, digits-of_chunk, int_part_at-counted, decimal_at-int_part}
-use Rattle.jiter_scan.proofs.FastNumbers.{first-alone, tail-place}
+use Rattle.jiter_scan.proofs.FastNumbers.{digits-counted, digits-of_chunk, int_part_at-counted, some-counted}
+use Rattle.jiter_scan.proofs.FastNumbers.{decimal_at-int_part, first-alone, tail-place}
 use Rattle.jiter_scan.proofs.fast_number.padded_number_at.Goals as goal
-use Rattle.jiter_scan.proofs.fast_number.padded_number_at.Goals.{then-count-eq0-via-then-count-eq0}
-use Rattle.jiter_scan.proofs.fast_number.padded_number_at.Goals.{then-count-eq0-via-else-count-eq0+then-count-ne1}
-use Rattle.jiter_scan.proofs.fast_number.padded_number_at.Goals.{then-bytes-at-eq48, else-bytes-at-eq48}
 
 pub returns-then-not-goes_on-clause-number : goal.returns-then-not-goes_on-clause-number
 returns-then-not-goes_on-clause-number c =
@@ -20,9 +18,11 @@ returns-then-not-goes_on-clause-number c =
     let chunk = c.full_chunk_at-chunk in
     let n = c.digit_count-count.result in
     let run = digits-counted t chunk.result i n c.digit_count-count.ensures (omega arith) (omega arith) chunk.ensures in
+    let some = some-counted t chunk.result i n c.digit_count-count.ensures (omega arith) (omega arith) chunk.ensures
+    (c.may_lead.ensures.digit c.if-not-may_lead.false) in
     let int_part =
-    int_part_at-counted t chunk.result i n c.digit_count-count.ensures (omega arith) (omega arith) chunk.ensures
-    (omega arith) c.if-count-ne1.either in
+    int_part_at-counted t chunk.result i n c.digit_count-count.ensures (omega arith) (omega arith) chunk.ensures some
+    (c.may_lead.ensures.zero c.if-not-may_lead.false) in
     let value = c.digit_word.ensures ∙ ap decimal_of (chunk.ensures n (omega arith) (omega arith)) in
     record {
       int_part = int_part;
@@ -33,7 +33,7 @@ returns-then-not-goes_on-clause-number c =
           (omega arith) value;
       small = omega
           (arith, decimal_of-few t i (i + n) (omega arith) (omega arith) (omega arith) 15 (omega arith), value);
-      some = omega arith;
+      some = omega (arith, some);
       within = omega arith;
     }
 
@@ -45,7 +45,7 @@ returns-then-not-goes_on-clause-alone c =
     record {
       run = digits-counted t c.full_chunk_at-chunk.result i n c.digit_count-count.ensures (omega arith) (omega arith)
           c.full_chunk_at-chunk.ensures;
-      first = first-alone t i n c.if-count-ne1.either;
+      first = first-alone t i n (c.may_lead.ensures.zero c.if-not-may_lead.false);
       next = sym c.goes_on.ensures ∙ c.if-not-goes_on.true;
     }
 
@@ -55,9 +55,11 @@ returns-in-Some-clause-number c =
     let i = c.args.at in
     let chunk = c.full_chunk_at-chunk in
     let n = c.digit_count-count.result in
+    let some = some-counted t chunk.result i n c.digit_count-count.ensures (omega arith) (omega arith) chunk.ensures
+    (c.may_lead.ensures.digit c.if-not-may_lead.false) in
     let int_part =
-    int_part_at-counted t chunk.result i n c.digit_count-count.ensures (omega arith) (omega arith) chunk.ensures
-    (omega arith) c.if-count-ne1.either in
+    int_part_at-counted t chunk.result i n c.digit_count-count.ensures (omega arith) (omega arith) chunk.ensures some
+    (c.may_lead.ensures.zero c.if-not-may_lead.false) in
     let end = c.in-Some.after in
     let place = tail-place t (i + n) end (get_or t (i + n) 0) (slice_get-get_or t (i + n) 0 (omega arith))
     (sym c.goes_on.ensures ∙ c.if-not-goes_on.false) c.in-Some.ensures in
@@ -65,21 +67,18 @@ returns-in-Some-clause-number c =
       decimal = decimal_at-tail t i (i + n) end int_part c.in-Some.ensures;
       value = λ j le.
           number_value-tail t j (i + n) end (omega arith) (omega (arith, place.0)) (omega arith) c.in-Some.ensures;
-      some = omega (arith, place.0);
+      some = omega (arith, place.0, some);
       within = place.1;
     }
 
-pub returns-then-count-eq0-clause-number : goal.returns-then-count-eq0-clause-number
-returns-then-count-eq0-clause-number c h =
-    let chunk = c.full_chunk_at-chunk in
-    let run = digits-counted c.args.bytes.now chunk.result c.args.at c.digit_count-count.result
-    c.digit_count-count.ensures (omega arith) (omega (arith, h.reach)) chunk.ensures in
-    elim c.then-count-eq0.branch [
-      | then-count-eq0-via-then-count-eq0 w ↦ omega (arith, run, h.some, w.if-count-eq0.true)
-      | then-count-eq0-via-else-count-eq0+then-count-ne1 w ↦ elim w.if-bytes-at-eq48.branch [
-        | then-bytes-at-eq48 zero ↦ h.first zero.if-bytes-at-eq48.true
-        | else-bytes-at-eq48 other ↦ search rules
-      ]
+pub returns-then-not-may_lead-clause-number : goal.returns-then-not-may_lead-clause-number
+returns-then-not-may_lead-clause-number c h =
+    let t = c.args.bytes.now in
+    let i = c.args.at in
+    let digit = run_end-passes is_digit t i i (omega arith) h.some in
+    elim (c.may_lead.ensures.other c.if-not-may_lead.true) [
+      | inl none ↦ absurd (false≢true (sym none ∙ digit))
+      | inr zero ↦ h.first zero
     ]
 
 pub returns-in-None-clause-number : goal.returns-in-None-clause-number

@@ -1,30 +1,34 @@
-use Rattle.std.proofs.Common.{◌≡◌, ℕ, ◌+◌, ◌<◌, ◌≤◌, ◌∙◌, ap, sym, arith, get_or, length, List}
-use Rattle.std.specs.Prelude.{IfSome, None, Option, Some, slice_get}
+use Rattle.std.proofs.Common.{◌≡◌, ℕ, ◌+◌, ◌<◌, ◌≤◌, ◌∙◌, ap, sym, arith, get_or, length, List, Ok, Err}
+use Rattle.std.specs.Prelude.{Result, Some, slice_get}
 use Rattle.std.proofs.lemmas.Option.{slice_get-get_or}
 use lib.Count.{count_trailing_zeros}
 use lib.Lanes.{chunk}
-use Rattle.jiter_scan.specs.Scan.{is_plain_ascii, run_end}
+use Rattle.jiter_scan.specs.Scan.{is_plain_ascii, run_end, FindsQuote}
 use Rattle.jiter_scan.specs.Simd.{failing}
-use Rattle.jiter_scan.proofs.AsciiRuns.{quote-stops, quote-ascii, text-through, ascii-through}
+use Rattle.jiter_scan.proofs.AsciiRuns.{quote-stops, quote-ascii, text-through, ascii-again, ascii-through}
 use Rattle.jiter_scan.proofs.Chunks.{run_end-near, run_end-stopped}
 use Rattle.jiter_scan.proofs.short_scan.ascii_quote.Goals as goal
 
-both : {P Q R : ℕ → Type 0} (o : Option ℕ) → ((n : ℕ) → P n → Q n → R n) → IfSome o P → IfSome o Q → IfSome o R
-both None f p q = p
-both (Some n) f p q = f n p q
+-- what is found past a chunk without a stop is found from its begin on
+past-chunk : (t : List ℕ) (i : ℕ) → i + 16 ≤ length t → failing is_plain_ascii (chunk i 16 t) ≡ 0 → (r : Result ℕ ℕ)
+    → FindsQuote t (i + 16) r → FindsQuote t i r
+past-chunk t i long none (Ok e) found =
+    record {
+      stop = found.stop ∙ sym (text-through t i long none);
+      quote = found.quote;
+      ascii = ascii-through t i long none e found.stop found.ascii;
+    }
+past-chunk t i long none (Err j) found =
+    record {
+      stop = text-through t i long none ∙ found.stop;
+      within = (omega (arith, found.within.0), found.within.1);
+    }
 
-pub returns-then-found-eq0-clause-stop : goal.returns-then-found-eq0-clause-stop
-returns-then-found-eq0-clause-stop c =
+pub returns-then-found-eq0 : goal.returns-then-found-eq0
+returns-then-found-eq0 c =
     let far = c.far_quote-then-found-eq0 in
-    let none = sym c.ascii_stops-found.ensures ∙ c.if-found-eq0.true in
-    let through = text-through c.args.bytes.now c.args.from (omega arith) none in
-    both far.result (λ to stop _. stop ∙ sym through) far.ensures.stop far.ensures.stop
-
-pub returns-then-found-eq0-clause-ascii : goal.returns-then-found-eq0-clause-ascii
-returns-then-found-eq0-clause-ascii c =
-    let far = c.far_quote-then-found-eq0 in
-    let none = sym c.ascii_stops-found.ensures ∙ c.if-found-eq0.true in
-    both far.result (ascii-through c.args.bytes.now c.args.from (omega arith) none) far.ensures.stop far.ensures.ascii
+    past-chunk c.args.bytes.now c.args.from (omega arith) (sym c.ascii_stops-found.ensures ∙ c.if-found-eq0.true)
+    far.result far.ensures
 
 -- the first stop in a chunk
 module _ (t : List ℕ) (i found : ℕ) (reach : i + 16 ≤ length t)
@@ -46,24 +50,22 @@ bounds-bytes-to c =
     let found = c.ascii_stops-found in
     before c.args.bytes.now c.args.from found.result (omega arith) found.ensures (omega arith)
 
-pub returns-then-bytes-to-eq34-clause-stop : goal.returns-then-bytes-to-eq34-clause-stop
-returns-then-bytes-to-eq34-clause-stop c =
+pub returns-then-bytes-to-eq34 : goal.returns-then-bytes-to-eq34
+returns-then-bytes-to-eq34 c =
     let t = c.args.bytes.now in
     let i = c.args.from in
     let found = c.ascii_stops-found in
+    let end = run t i found.result (omega arith) found.ensures (omega arith) in
     let quote = quote-there t i found.result (omega arith) found.ensures (omega arith) c.if-bytes-to-eq34.true in
-    quote-stops t i _ (run t i found.result (omega arith) found.ensures (omega arith)) quote
+    record { stop = quote-stops t i _ end quote; quote = quote; ascii = quote-ascii t i _ end quote }
 
-pub returns-then-bytes-to-eq34-clause-quote : goal.returns-then-bytes-to-eq34-clause-quote
-returns-then-bytes-to-eq34-clause-quote c =
-    let found = c.ascii_stops-found in
-    quote-there c.args.bytes.now c.args.from found.result (omega arith) found.ensures (omega arith)
-    c.if-bytes-to-eq34.true
-
-pub returns-then-bytes-to-eq34-clause-ascii : goal.returns-then-bytes-to-eq34-clause-ascii
-returns-then-bytes-to-eq34-clause-ascii c =
+pub returns-else-bytes-to-eq34 : goal.returns-else-bytes-to-eq34
+returns-else-bytes-to-eq34 c =
     let t = c.args.bytes.now in
     let i = c.args.from in
     let found = c.ascii_stops-found in
-    let quote = quote-there t i found.result (omega arith) found.ensures (omega arith) c.if-bytes-to-eq34.true in
-    quote-ascii t i _ (run t i found.result (omega arith) found.ensures (omega arith)) quote
+    let inside = before t i found.result (omega arith) found.ensures (omega arith) in
+    record {
+      stop = ascii-again t i _ c.requires (run t i found.result (omega arith) found.ensures (omega arith));
+      within = (omega arith, omega (arith, inside));
+    }

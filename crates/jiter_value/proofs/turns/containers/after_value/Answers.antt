@@ -1,4 +1,4 @@
-use Rattle.std.proofs.Common.{ap, arith, refl, reverse, rules as library_rules}
+use Rattle.std.proofs.Common.{ap, arith, reverse, rules as library_rules}
 use Rattle.jiter_steps.specs.Frames.{resolve_step}
 use Rattle.jiter_value.specs.Settings.{forgives}
 use Rattle.jiter_value.proofs.Shapes.{reaches-part, inside-stands}

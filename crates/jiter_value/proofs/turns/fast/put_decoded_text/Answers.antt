@@ -12,10 +12,10 @@ returns-in-Ok-keep-clause-put g c = λ _.
     let made = g.T.StringStorage.made in
     let d = c.in-Ok in
     let n = c.put_reserved.ensures in
-    let read = read-whole t a.at c.decode_to.new.tape.items (d.count, d.end) d.ensures.value in
-    let ahead = on_tape-advances t a.at c.decode_to.new.tape.items c.requires.at_value.2 (d.count, d.end) read in
+    let read = read-whole t a.at c.decode_here.new.tape.items (d.count, d.end) d.ensures.value in
+    let ahead = on_tape-advances t a.at c.decode_here.new.tape.items c.requires.at_value.2 (d.count, d.end) read in
     let bytes = c.in-Ok-copy_text.ensures ∙ c.utf8_text-decoded.ensures ∙ ap (take d.count) c.as_slice.ensures.value in
-    put-at _ (string (made.text (record { owned = true; bytes = take d.count c.decode_to.new.tape.items })))
+    put-at _ (string (made.text (record { owned = true; bytes = take d.count c.decode_here.new.tape.items })))
     (view_str _
     ∙ ap string (c.in-Ok-keep.ensures.value ∙ ap (λ w. made.text (record { owned = true; bytes = w })) bytes))
     c.requires.at_value.0 c.requires.at_value.1 n.value n.stands n.nest n.held
