@@ -1,15 +1,15 @@
 -- The text of an error, written part by part.
-use Rattle.std.proofs.Common.{◌≡◌, ◌∙◌, ◌+◌, ◌≤◌, ◌++◌, ℕ, Bool, true, false, List, [], ◌∷◌, length, refl, sym, ap, subst, arith}
+use Rattle.std.proofs.Common.{◌≡◌, ◌∙◌, ◌+◌, ◌≤◌, ◌++◌, ℕ, true, List, [], ◌∷◌, length, refl, sym, ap, arith}
 use Rattle.std.specs.Prelude.{◌&&◌, ◌||◌, codes, decimal, nat_eq}
 use Rattle.std.proofs.lemmas.List.{append_assoc, length-append}
 use Rattle.jiter.specs.Cause.{Cause, ValueType, cause_text, error_description, type_text}
-use Rattle.jiter_scan.specs.Kind.{Kind, kind_of, kind_text}
+use Rattle.jiter_scan.specs.Kind.{kind_of, kind_text}
 use Rattle.jiter_scan.specs.Position.{position_of, position_text}
 use Rattle.jiter_scan.specs.declared.errors.LinePosition.{LinePosition}
 use Rattle.jiter_scan.specs.declared.errors.JsonErrorType.{JsonErrorType}
 use Rattle.jiter_scan.specs.declared.errors.JsonErrorType.TheVariants as code
 use Rattle.jiter_c.specs.Descriptions.{IsTypeText, WritesCause}
-use Rattle.jiter_c.specs.Faults.{Describes, HasCause, is_kind_number, is_type_number, has_cause, kind_number, type_number}
+use Rattle.jiter_c.specs.Faults.{Describes, is_kind_number, is_type_number, has_cause, kind_number, type_number}
 use Rattle.jiter_c.specs.Faults.{wrong_type_number}
 use Rattle.jiter_c.specs.Reports.{Appends, written}
 use Rattle.jiter_c.specs.declared.faults.JiterFault.{JiterFault}

@@ -1,5 +1,5 @@
 -- What a parse puts into a handle, and what it writes.
-use Rattle.std.proofs.Common.{◌≡◌, ◌≢◌, ◌⊎◌, inl, inr, ◌∙◌, ◌≤◌, ℕ, Bool, true, false, List, length, refl, sym, ap}
+use Rattle.std.proofs.Common.{◌≡◌, ◌⊎◌, inl, inr, ◌∙◌, ◌≤◌, ℕ, Bool, true, false, List, length, refl, sym, ap}
 use Rattle.std.proofs.Common.{subst, option_map, arith}
 use Rattle.std.specs.Prelude.{Result, Ok, Err, IfErr, IfOk, Option, Some, None, MatchOption, MatchResult, Vec}
 use Rattle.std.specs.Prelude.{option_and_then}
@@ -12,7 +12,6 @@ use Rattle.jiter_scan.specs.declared.errors.JsonErrorType.TheVariants as code
 use Rattle.jiter_scan.specs.declared.partial_mode.PartialMode.{PartialMode}
 use Rattle.jiter_steps.specs.Answer.{answer_in}
 use Rattle.jiter_steps.specs.Blank.{past_blanks}
-use Rattle.jiter_steps.specs.Node.{IsDocument, Node, value_of}
 use Rattle.jiter_steps.specs.Read.{Reading, done, fault}
 use Rattle.jiter_steps.specs.Tree.{Tree}
 use Rattle.jiter_steps.specs.Unique.{unique_answer_in}
@@ -23,10 +22,9 @@ use Rattle.jiter_value.specs.ParsesUnique.{ParsesUnique, refusing_repeats}
 use Rattle.jiter_value.specs.UniqueErrors.{IsMemoryRefused, unique_kind}
 use Rattle.jiter_value.specs.Value.{Answers, MayGrow, view}
 use Rattle.jiter_value.specs.declared.unique_error.UniqueError.{UniqueError}
-use Rattle.jiter_value.specs.declared.unique_error.UniqueErrorType.{UniqueErrorType}
 use Rattle.jiter_value.specs.declared.value.JsonValue.{JsonValue}
 use Rattle.jiter.specs.Cause.{json_error}
-use Rattle.jiter_c.specs.Documents.{PrintsBytes, ReportsBytes, RunsOut}
+use Rattle.jiter_c.specs.Documents.{PrintsBytes, RunsOut}
 use Rattle.jiter_c.specs.Faults.{fault_of, kind_number, memory_number, misuse}
 use Rattle.jiter_c.specs.Holding.{MatchDocument}
 use Rattle.jiter_c.specs.Printing.{WritesText}

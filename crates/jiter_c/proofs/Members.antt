@@ -13,7 +13,7 @@ use Rattle.jiter_value.specs.Value.{view, views, member_views}
 use Rattle.jiter_value.specs.declared.value.JsonValue.{JsonValue, Array, Object}
 use Rattle.jiter_value.specs.Pointer.{pointed_by}
 use Rattle.jiter_value.proofs.Views.{member_views_is, view_array, view_object}
-use Rattle.jiter_steps.specs.Tree.{Tree, array, object}
+use Rattle.jiter_steps.specs.Tree.{Tree, object}
 use Rattle.jiter_c.specs.Values.{count_items, count_members, member_at, part_at, placed, stepped, typed_value, value_report}
 
 member-there : (i : ℕ) (ms : List Member) (m : Member) → slice_get ms i ≡ Some m

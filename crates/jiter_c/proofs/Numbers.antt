@@ -1,6 +1,6 @@
 -- What C is told of a number.
 use Rattle.std.proofs.Common.{◌≡◌, ℕ, Bool, true, false, refl, sym, subst}
-use Rattle.std.specs.Prelude.{Option, Some, None}
+use Rattle.std.specs.Prelude.{Some, None}
 use Rattle.jiter.specs.Cause.{Cause}
 use Rattle.jiter.specs.Reader.{Reply, gave, refused}
 use Rattle.jiter_scan.specs.Number.{Number}

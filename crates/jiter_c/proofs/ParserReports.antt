@@ -2,7 +2,7 @@
 use Rattle.std.proofs.Common.{◌≡◌, ◌⊎◌, inl, inr, ◌∙◌, ◌+◌, ◌-◌, ◌^◌, ◌<◌, ◌≤◌, ◌++◌, ℕ, Bool, true, false, List}
 use Rattle.std.proofs.Common.{length, take, refl, sym, ap, subst}
 use Rattle.std.proofs.lemmas.Bool.{false≢true}
-use Rattle.std.specs.Prelude.{Result, Ok, Err, IfOk, IfErr, Option, Some, None, Vec}
+use Rattle.std.specs.Prelude.{Result, Ok, Err, IfOk, IfErr, Some, None, Vec}
 use Rattle.std.specs.declared.alloc.Global.{Global}
 use Rattle.jiter.specs.Cause.{json_error}
 use Rattle.jiter_incremental.specs.IncrementalParser.{HasReceived, Received, WouldFinish}

@@ -1,7 +1,6 @@
 -- Walks whose calls all succeeded.
 use Rattle.std.proofs.Common.{◌≡◌, ◌∙◌, ◌+◌, ◌-◌, ◌≤◌, ℕ, suc, Bool, true, false, List, refl, sym, ap, subst, arith}
-use Rattle.std.specs.Prelude.{Option, Some, None, if◌then◌else◌, is_some, option_map}
-use Rattle.std.specs.Option.{unwrap_or}
+use Rattle.std.specs.Prelude.{Option, Some, None, if◌then◌else◌, option_map}
 use Rattle.std.specs.Str.{bytes_eq}
 use Rattle.jiter_steps.specs.Literal.{start_of}
 use Rattle.jiter_steps.specs.StringReading.{raw, whole}
@@ -12,7 +11,7 @@ use Rattle.jiter.specs.Reader.{peek}
 use Rattle.jiter.specs.Reader.{skip_read, value_place, with_position}
 use Rattle.jiter.proofs.Walking.{moves-on}
 use Rattle.jiter_steps.proofs.Grammar.Sound.{object-byte}
-use Rattle.jiter_c.specs.Parts.{FindsItem, FindsMember, MembersPassed, PartsPassed, first_part, into_read, next_part}
+use Rattle.jiter_c.specs.Parts.{FindsItem, MembersPassed, PartsPassed, first_part, into_read, next_part}
 use Rattle.jiter_c.specs.Replies.{has_part}
 use Rattle.jiter_c.proofs.Into.{peek-into, peeked-byte}
 use Rattle.jiter_c.proofs.Walks.{IsBracket}
@@ -121,8 +120,3 @@ pub members-read : (s0 s : ReaderState) (name : List ℕ) (place : Option ℕ) �
     → MembersPassed name s0 None place s.position
 members-read s0 s name place (None, is, h) = h
 members-read s0 s name place (Some k, is, h) = absurd (cc)
-
-pub member-found : (name : List ℕ) (s : ReaderState) (place : Option ℕ) (e i : ℕ) (found : Bool)
-    → MembersPassed name s None place e → found ≡ is_some place → i ≡ unwrap_or place e → FindsMember name s found i
-member-found name s None e i found h is at = (None, e, h, (is, at))
-member-found name s (Some p) e i found h is at = (Some p, e, h, (is, at))

@@ -1,11 +1,11 @@
 -- What C is told of a document behind a handle, and of what lies in it.
-use Rattle.std.specs.Prelude.{◌≡◌, ◌⊎◌, ℕ, ℤ, pos, zero, suc, Bool, true, false, not, if◌then◌else◌, List, [], ◌∷◌, length}
+use Rattle.std.specs.Prelude.{◌≡◌, ◌⊎◌, ℕ, pos, zero, suc, Bool, true, false, not, if◌then◌else◌, List, [], ◌∷◌, length}
 use Rattle.std.specs.Prelude.{Option, Some, None, option_map, option_and_then, Result, Ok, Err, Vec}
 use Rattle.std.specs.Str.{is_utf8}
 use Rattle.std.specs.declared.alloc.Global.{Global}
 use Rattle.jiter.specs.Cause.{json_error}
 use Rattle.jiter_print.specs.Print.{print_of}
-use Rattle.jiter_scan.specs.Kind.{Kind, duplicate_key, out_of_memory}
+use Rattle.jiter_scan.specs.Kind.{Kind, out_of_memory}
 use Rattle.jiter_scan.specs.declared.partial_mode.PartialMode.{PartialMode}
 use Rattle.jiter_steps.specs.Answer.{answer_in}
 use Rattle.jiter_steps.specs.Read.{Reading, done, fault}

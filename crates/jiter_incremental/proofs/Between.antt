@@ -2,7 +2,6 @@
 use Rattle.std.proofs.Common.{◌≡◌, ℕ, suc, ◌+◌, ◌-◌, ◌<◌, ◌≤◌, ◌==◌, Bool, true, false, List, [], ◌∷◌, length, get_or}
 use Rattle.std.proofs.Common.{refl, sym, subst, ap, ◌∙◌, arith, add-one, inl, inr}
 use Rattle.std.proofs.lemmas.Bool.{eq-eqb, ne_eqb}
-use Rattle.std.proofs.lemmas.Bool.Decides.{nat_tests}
 use Rattle.std.specs.Prelude.{slice_get, Option, Some, None}
 use Rattle.std.proofs.lemmas.Option.{slice_get_within, get_or_from_slice_get}
 use Rattle.jiter_scan.proofs.Choices.{if_case, if-true, if-false}
@@ -31,7 +30,7 @@ use Rattle.jiter_steps.proofs.Reading.Values.{Advances, inside_at-none, inside_a
 use Rattle.jiter_incremental.specs.Arrived.{Arrived, IsLeft, OpenValue, at_value, between_parts, at_end, value_then, part_row}
 use Rattle.jiter_incremental.specs.Arrived.{container_of, owned, HasRead, IsBeforeValue, IsBetweenParts}
 use Rattle.jiter_incremental.specs.Between.{after_value, completed, Everywhere, EndsHere, TakesByte}
-use Rattle.jiter_incremental.specs.Between.{ClosesBefore, passed, BeginsItem, IsBeforePart}
+use Rattle.jiter_incremental.specs.Between.{ClosesBefore, passed, IsBeforePart}
 use Rattle.jiter_incremental.specs.Reader.{after_level}
 use Rattle.jiter_value.specs.Settings.{rules_as}
 use Rattle.jiter_incremental.specs.Slot.{OpenFrame, AwaitsPart, IsOfKey, filled, HasValue}
@@ -236,12 +235,6 @@ ends-blank (at_value a fs) c blank = tt
 ends-blank (between_parts a k xs fs) c blank = tt
 ends-blank (at_end v n) c blank = inr (blank, refl)
 
-ends-other : (s u : Arrived) (c : ℕ) (next : Arrived) → is_blank c ≡ false → EndsHere s c next → EndsHere u c next
-ends-other s u c (at_value a fs) other h = tt
-ends-other s u c (between_parts a k xs fs) other h = tt
-ends-other s u c (at_end v n) other (inl h) = inl h
-ends-other s u c (at_end v n) other (inr h) = let no : true ≡ false = sym h.0 ∙ other in absurd (cc)
-
 -- where another byte leads between the parts of a container
 abbrev pub RowIs : Awaits → ℕ → (List ℕ → ℕ → Step) → ContainerKind → Type 0
 RowIs a c u h = (p : Settings) (t : List ℕ) (j : ℕ) → part_row (rules_as owned p) t a h j (Some c) ≡ u t j
@@ -264,11 +257,6 @@ row-missing h c one two = λ p t j.
 pub missing-forgiven : (h : ContainerKind) → is_forgiven (comma_kind_of h) ≡ true
 missing-forgiven shape.Array = refl
 missing-forgiven shape.Object = refl
-
--- A container begins there with its bracket.
-pub opens-item : (h : ContainerKind) (c : ℕ) → start_of c ≡ opening h → BeginsItem c
-opens-item shape.Array c h = let is : c ≡ 91 = grind (arith, nat_tests, h) in subst BeginsItem (sym is) (refl, refl)
-opens-item shape.Object c h = let is : c ≡ 123 = grind (arith, nat_tests, h) in subst BeginsItem (sym is) (refl, refl)
 
 pub row-item : (a : Awaits) (c : ℕ) → IsBeforePart a → begins_part shape.Array c ≡ true
     → (p : Settings) (t : List ℕ) (j : ℕ) → part_row (rules_as owned p) t a shape.Array j (Some c) ≡ more j

@@ -542,23 +542,6 @@ closes-noted d v c t s kind at g on =
       held = λ unset. (at.token, g.left);
     }
 
--- Where no token is unfinished a document stands as another with its value, settings, faults and position.
-pub arrived-as : (d new : Document) (t : List ℕ) → d.fault ≡ None → d.token ≡ token.Nothing
-    → new.settings ≡ d.settings → new.fault ≡ d.fault → new.first ≡ d.first → new.token ≡ d.token
-    → new.position ≡ d.position → ((s : Arrived) → IsLeft d.value s → IsLeft new.value s) → HasCome d t
-    → HasCome new t
-arrived-as d new t unset none settings fault-is first token-is position left h =
-    let b = taken-between anything d t h.read unset none in
-    record {
-      read =
-          record {
-            opened = between_tokens b.state;
-            known = known-as anything d new t (between_tokens b.state) settings fault-is first b.known;
-            held = λ _. (token-is ∙ none, left b.state b.left);
-          };
-      position = position ∙ h.position;
-    }
-
 -- Before the first byte
 pub new-arrived : (d : Document) → d.fault ≡ None → d.first ≡ None → d.token ≡ token.Nothing → d.position ≡ 0
     → IsLeft d.value (at_value awaits.Value []) → ((p : Settings) → HasRead p [] (at_value awaits.Value []))
@@ -682,10 +665,3 @@ moved n d j t h = record {
 pub counted : (d : Document) (j : ℕ) (t : List ℕ) → HasTakenIn anything d t → j ≡ length t
     → HasCome (record d { position = j }) t
 counted d j t h is = record { read = moved anything d j t h; position = is }
-
--- What stands open before the byte
-pub between-before : (c : ℕ) (d : Document) (t : List ℕ) → HasCome d t → d.fault ≡ None
-    → d.token ≡ token.Nothing → Between (with_byte c) d t
-between-before c d t h unset none =
-    let b = taken-between anything d t h.read unset none in
-    record { state = b.state; known = known-before c d t (between_tokens b.state) b.known; left = b.left }

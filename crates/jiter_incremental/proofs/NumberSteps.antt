@@ -224,30 +224,6 @@ module _ (level : ℕ) (chunk : List ℕ) (i : Reader) (v : Tree) (h : IsHere le
       (ap (λ (m : Reader). m.token) same ∙ is) in
       (x.bytes, x.held.0)
 
-  -- What is taken where it is apart is taken.
-  pub from-apart : (k : Reader) (x : Tree) (n : ℕ) → StepsFrom level chunk j w k x n → Steps level chunk i v k x n
-  from-apart k x n s =
-      let place = ap (λ (m : Reader). m.at) same in
-      record {
-        goes = λ t outer at r.
-            let a = number-come t outer at r in
-            let e = document k (filled outer x) in
-            subst (λ p. HasReadIn (ahead k chunk (p + n)) e (t ++ slice_range chunk p (p + n))) place
-            (s.goes t outer at (record { read = a.read; position = a.position }));
-        moves = record {
-          within = subst (λ p. p + n ≤ length chunk) place s.moves.within;
-          some = s.moves.some;
-          still = (
-            s.moves.still.0 ∙ ap (λ (m : Reader). m.settings) same,
-            s.moves.still.1 ∙ ap (λ (m : Reader). m.base) same,
-            s.moves.still.2 ∙ place,
-          );
-          depth = s.moves.depth;
-          low = s.moves.low;
-          deeper = s.moves.deeper;
-        };
-      }
-
   module _ (m : PartialNumber) (k : Reader) (x : Tree) (shows : Shows level (record j { number = m }) w k x)
       (new : k ≡ with_shown (record j { number = m }) k.shown k.number k.string k.key) where
     number-still : IsStill i k

@@ -340,10 +340,6 @@ noted_in None k i = Some (record { kind = k; index = i })
 abbrev pub with_first : Document → Option Fault → Document
 with_first d f = record d { first = f }
 
--- and with a token that began there
-abbrev pub with_token : Document → ℕ → Token → Document
-with_token d b k = record d { begin = b; token = k }
-
 -- some bytes have come, and are not refused; this token is unfinished
 abbrev pub IsIn : Document → Token → Type 0
 IsIn d k = ((t : List ℕ) × HasCome d t) × (d.fault ≡ None) × (d.token ≡ k)

@@ -1,10 +1,9 @@
 -- The parts of an input, joined, are the input.
 use Rattle.std.proofs.Common.{◌≡◌, ◌∙◌, ap, refl, sym, subst, ℕ, ◌+◌, ◌-◌, ◌^◌, Bool, true, false, List, [], ◌∷◌, ◌++◌}
-use Rattle.std.proofs.Common.{append_assoc, append-nil, arith, drop, get_or, length, take, ◌<◌, ◌≤◌}
+use Rattle.std.proofs.Common.{append_assoc, append-nil, drop, length}
 use Rattle.std.specs.Prelude.{◌==◌, if◌then◌else◌, min, nat_lt, not}
 use Rattle.std.specs.List.{fold}
-use Rattle.std.proofs.lemmas.List.Sums.{fold-append, fold_more}
-use Rattle.std.proofs.lemmas.List.{length-append}
+use Rattle.std.proofs.lemmas.List.Sums.{fold-append}
 use Rattle.std.proofs.Math.Seq.{drop-append_seam}
 use Rattle.json_screen.specs.Parts.{at, Grows, is_close, is_open, no_parts, part_by, part_step, Parts, parts_of, step, step_by}
 use Rattle.json_screen.specs.Parts.{whole, with_after, with_before, with_inside}
@@ -103,17 +102,6 @@ whole-is t = joined no_parts t (refl, refl)
 pub parts-more : (t u : List ℕ) → parts_of (t ++ u) ≡ fold part_step (parts_of t) u
 parts-more t u = fold-append part_step no_parts t u
 
--- one byte more of those that are taken
-pub taken-more : (p : Parts) (t : List ℕ) (i : ℕ) (b : ℕ) → i < length t → b ≡ get_or t i 0
-    → fold part_step p (take (i + 1) t) ≡ part_step (fold part_step p (take i t)) b
-taken-more p t i b within is = fold_more part_step p t i 0 within ∙ ap (part_step (fold part_step p (take i t))) (sym is)
-
-pub grows-on : (a b c : List ℕ) → Grows a b → Grows b c → Grows a c
-grows-on a b c h k = (h.0 ++ k.0, k.1 ∙ ap (λ l. l ++ k.0) h.1 ∙ append_assoc a h.0 k.0)
-
 -- what grew is what stood and the rest
 pub rest-is : (a b : List ℕ) → Grows a b → a ++ drop (length a) b ≡ b
 rest-is a b h = ap (λ l. a ++ drop (length a) l) h.1 ∙ ap (λ l. a ++ l) (drop-append_seam a h.0) ∙ sym h.1
-
-pub rest-begins : (a b : List ℕ) → Grows a b → length a ≤ length b
-rest-begins a b h = omega (arith, ap length h.1, length-append a h.0)

@@ -1,8 +1,8 @@
 -- What a reading that has received bytes tells is what a parse of these bytes answers.
-use Rattle.std.proofs.Common.{◌≡◌, ◌∙◌, ap, ap₂, refl, sym, ℕ, zero, suc, ◌+◌, ◌≤◌, arith, length, Bool, List, [], ◌∷◌, ◌++◌, None, Some, inl, inr}
+use Rattle.std.proofs.Common.{◌≡◌, ◌∙◌, ap, ap₂, refl, sym, ℕ, zero, suc, arith, Bool, List, [], ◌∷◌, ◌++◌, None, inl, inr}
 use Rattle.std.specs.Prelude.{Result, Ok, Err, OnOk}
 use Rattle.jiter.specs.Caller.{answer, answer_in, done, fault, JsonError, JsonValue}
-use Rattle.jiter.specs.Caller.{kind_of, kind_text, owned_tree, Parses, PartialMode, Reading, reading_as, Tree, view}
+use Rattle.jiter.specs.Caller.{kind_of, owned_tree, Parses, PartialMode, Reading, reading_as, Tree, view}
 use Rattle.jiter_incremental.specs.Caller.{HasReceived, Received}
 use Rattle.jiter_print.specs.Layout.{deeper, items_laid_out, joined, laid_out, Layout, line_break, members_laid_out, pretty}
 use Rattle.jiter_print.specs.Layout.{pretty_of, space}
@@ -49,30 +49,6 @@ pub none-told : (options : Options) (d : Received) (t : List ℕ) → ReadsAs op
     → ((u : List ℕ) → HasReceived d u → Parses owned_tree ⊥ d.settings.allow_inf_nan PartialMode.Off u (Ok v))
     → (begin : ℕ) → None ≡ document_error begin (answer options.inf_nan t)
 none-told options d t h v told begin = rw (← h.names) (no-error begin _ t v (told t h.received))
-
--- what is answered with partial reading off, if it is an error: the first fault, since it is never want of memory
-error-is : (begin : ℕ) (names : Bool) (t : List ℕ) (e : JsonError) → Parses owned_tree ⊥ names PartialMode.Off t (Err e)
-    → document_error begin (answer names t) ≡ Some (begin + e.index, kind_text (kind_of e.error_type))
-error-is begin names t e h = elim h.answer [
-  | inl memory ↦ absurd (h.memory memory)
-  | inr told ↦ by (answer names t) told.0 told.1
-] where
-  by : (x : Reading Tree) (stop : ℕ) → reading_as owned_tree x ≡ fault (kind_of e.error_type) e.index stop
-      → document_error begin x ≡ Some (begin + e.index, kind_text (kind_of e.error_type))
-  by (done w end) stop same = absurd (cc)
-  by (fault k i at) stop same = ap (document_error begin) same
-
--- The error that the reading tells.
-pub error-told : (options : Options) (d : Received) (t : List ℕ) → ReadsAs options d t → (e : JsonError)
-    → ((u : List ℕ) → HasReceived d u → Parses owned_tree ⊥ d.settings.allow_inf_nan PartialMode.Off u (Err e))
-    → (begin : ℕ) → Some (begin + e.index, kind_text (kind_of e.error_type)) ≡ document_error begin (answer options.inf_nan t)
-error-told options d t h e told begin = rw (← h.names) (sym (error-is begin _ t e (told t h.received)))
-
--- it stands within the document's bytes
-pub error-within : (options : Options) (d : Received) (t : List ℕ) → ReadsAs options d t → (e : JsonError)
-    → ((u : List ℕ) → HasReceived d u → Parses owned_tree ⊥ d.settings.allow_inf_nan PartialMode.Off u (Err e))
-    → e.index ≤ length t
-error-within options d t h e told = (told t h.received).index
 
 module _ (options : Options) (d : Received) (t : List ℕ) (h : ReadsAs options d t) (width depth : ℕ) (r : Filled) where
   -- The rows of a value that the reading tells.

@@ -26,7 +26,7 @@ use Rattle.jiter_steps.specs.PartialText.{HoldsBytes}
 use Rattle.jiter_steps.specs.Read.{Rules, done, fault, prefix_answer, scalar_at, to_end}
 use Rattle.jiter_steps.specs.StringReading.{Form, Stop, whole, text_form, text_in_form, content_at}
 use Rattle.jiter_steps.specs.StringReading.{Body, body_at, closed, unclosed, cut, wrong}
-use Rattle.jiter_steps.specs.Tree.{Text, Tree, string, object, members_of}
+use Rattle.jiter_steps.specs.Tree.{Text, Tree, string}
 use Rattle.jiter_steps.specs.declared.partial_string.PartialString.{PartialString}
 use Rattle.jiter_steps.specs.declared.partial_string.Went.TheVariants as went
 use Rattle.jiter_steps.specs.declared.parse.Start.TheVariants as start
@@ -38,9 +38,9 @@ use Rattle.jiter_steps.proofs.Reading.Values.{inside_at-starts}
 use Rattle.jiter_steps.proofs.Reading.WholeTexts.{whole-is}
 use Rattle.jiter_incremental.specs.Arrived.{IsLeft, OpenValue, at_value, owned}
 use Rattle.jiter_incremental.specs.Between.{completed, text_of}
-use Rattle.jiter_incremental.specs.Document.{Comes, Document, EndsRight, Follows, HasCome, HasTakenIn, Holding, HoldsScalar, HoldsString, IsReadAs, IsReading, IsRefused, Known, Next, Opened, ReadsAt, TakenFrom, anything, between_tokens, in_key, in_scalar, noted_in, opened_to, strictly, with_byte, with_first}
-use Rattle.jiter_incremental.specs.Slot.{OpenFrame, filled}
-use Rattle.jiter_incremental.specs.Strings.{IsClosedAs, IsInString, IsKeyAs, IsOfString, IsTextAs}
+use Rattle.jiter_incremental.specs.Document.{Comes, Document, EndsRight, Follows, HasCome, HasTakenIn, Holding, HoldsScalar, HoldsString, IsReading, IsRefused, Known, Next, Opened, ReadsAt, TakenFrom, anything, between_tokens, in_key, in_scalar, noted_in, opened_to, strictly, with_byte, with_first}
+use Rattle.jiter_incremental.specs.Slot.{OpenFrame}
+use Rattle.jiter_incremental.specs.Strings.{IsClosedAs, IsKeyAs, IsOfString, IsTextAs}
 use Rattle.jiter_value.specs.Owned.{owned_text}
 use Rattle.jiter_value.specs.Settings.{answer_as, rules_as}
 use Rattle.jiter_incremental.specs.declared.reader.Token.{Token}
@@ -90,9 +90,6 @@ pub record InString (s : PartialString) (t : List ℕ) (b : ℕ) : Type 0 where
 no-token : (k : Token) → IsOfString k → k ≡ token.Nothing → ⊥
 no-token k (inl e) n = absurd (cc)
 no-token k (inr e) n = absurd (cc)
-
-key-text : (k : Token) → k ≡ token.Key → k ≡ token.Text → ⊥
-key-text k e n = absurd (cc)
 
 in-string : (d : Document) (t : List ℕ) (b : ℕ) (w : List ℕ) → TakenFrom d t b w → HoldsString d w
     → InString d.string t b
@@ -401,51 +398,6 @@ module _ (d : Document) (v : OpenValue) (n m : Next) (t w : List ℕ) (fs : List
     held = λ e. (refl, left);
   }
 
--- What is said of a document where a string is unfinished
-pub of-string : (d : Document) → IsInString d → IsOfString d.token
-of-string d (inl x) = inl x.2
-of-string d (inr x) = inr x.2
-
-pub unset-in : (d : Document) → IsInString d → d.fault ≡ None
-unset-in d (inl x) = x.1
-unset-in d (inr x) = x.1
-
-pub arrived-in : (d : Document) → IsInString d → (t : List ℕ) × HasCome d t
-arrived-in d (inl x) = x.0
-arrived-in d (inr x) = x.0
-
--- The text that was read is put where it was awaited: as a key,
-module _ (d new : Document) (s : PartialString) (n m : Next) (t w text : List ℕ) (unset : d.fault ≡ None)
-    (follows : Follows n w m) where
-  pub key-put : (o : Opened) (k : List ℕ) → k ≡ text → d.token ≡ token.Key → Known n d t o → Holding d t o
-      → IsTextAs d m (t ++ w) o text
-      → ((n m : Next) (t w : List ℕ) (fs : List OpenFrame) (ms : List (Text × Tree)) (b : ℕ)
-      → Known n (with_string d s) t (in_key fs ms b) → Follows n w m → d.fault ≡ None
-      → d.value.depth ≡ length fs + 1 → d.value.tree ≡ filled fs (object (members_of ms)) → b < length (t ++ w)
-      → IsKeyAs (with_string d s) m (t ++ w) b (text_of k) → HasTakenIn m new (t ++ w))
-      → HasTakenIn m new (t ++ w)
-  key-put (between_tokens a) k e is known held read put = absurd read
-  key-put (in_scalar fs b) k e is known held read put =
-      absurd (key-text d.token is (held-scalar d d.token held.0 refl (inr is) held.2).0)
-  key-put (in_key fs ms b) k e is known held read put =
-      let low : b < length (t ++ w) =
-      omega (arith, size d.string t b (in-string d t b held.0 held.1 held.3), length-append t w) in
-      put n m t w fs ms b (known-same n d s t (in_key fs ms b) known) follows unset held.5 held.6 low
-      (subst (λ x. IsKeyAs d m (t ++ w) b (text_of x)) (sym e) read)
-
-  -- or as a value.
-  pub value-put : (o : Opened) (v : Tree) → v ≡ string (text_of text) → (d.token ≡ token.Key → ⊥) → Known n d t o
-      → Holding d t o → IsTextAs d m (t ++ w) o text
-      → ((n m : Next) (t w : List ℕ) (fs : List OpenFrame) (b : ℕ) → Known n (with_string d s) t (in_scalar fs b)
-      → Follows n w m → d.fault ≡ None → IsLeft d.value (at_value awaits.Value fs)
-      → IsReadAs (with_string d s) m (t ++ w) (length fs) b v → HasTakenIn m new (t ++ w))
-      → HasTakenIn m new (t ++ w)
-  value-put (between_tokens a) v e not known held read put = absurd read
-  value-put (in_scalar fs b) v e not known held read put =
-      put n m t w fs b (known-same n d s t (in_scalar fs b) known) follows unset held.3
-      (subst (λ x. IsReadAs d m (t ++ w) (length fs) b x) (sym e) read)
-  value-put (in_key fs ms b) v e not known held read put = absurd (not held.2)
-
 -- What was read is refused with a fault of the string.
 pub refused-so : (n m : Next) (d : Document) (t v : List ℕ) (o : Opened) (k : Kind) (x : ℕ) → IsInside o
     → Known n d t o → Follows n v m → is_forgiven k ≡ false
@@ -682,12 +634,3 @@ module _ (d : Document) (k : IsOfString d.token) (unset : d.fault ≡ None) (t :
               (λ p u r. subst (λ q. content_at (form_of q o) (on u) (begin_of o + 1)
               ≡ text_or true (begin_of o + 1) string-in.taken_so.escaped text (length t + 1))
               (sym (noted-reading p r)) (form-closed true is o held (on u) u (on-is u)))
-
--- At its quote the string is whole, and the document is in it still.
-module _ (d : Document) (s : PartialString) (chunk : List ℕ) (at : ℕ)
-    (goes : (w : List ℕ) → HasTaken d.string w → Goes s w chunk at went.Quote) where
-  quote-arrived : (t : List ℕ) → IsOfString d.token → d.fault ≡ None → HasCome d t → HasCome (with_string d s) t
-  quote-arrived t k unset h = record {
-    read = taken-same d s t k unset (λ w x. (goes w x).0) h.read;
-    position = h.position;
-  }

@@ -1,4 +1,4 @@
-use Rattle.std.proofs.Common.{◌∙◌, length, arith}
+use Rattle.std.proofs.Common.{arith}
 use Rattle.jiter_c.proofs.Appending.{appends, full, to_the_end}
 use Rattle.jiter_c.proofs.texts.append.Goals as goal
 
