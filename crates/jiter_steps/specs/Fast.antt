@@ -16,7 +16,7 @@ IsNext j next.Part s = s ≡ more j
 IsNext j next.End s = s ≡ closed j
 IsNext j next.Stuck s = IsStuckAt j s
 
--- It was told so from i on, and a part is within the bytes.
+-- From i on this step was told. Its place isn't before i, and that of a part has a byte.
 pub record LeadsOn (t : List ℕ) (i : ℕ) (told : ℕ × Next) (s : Step) : Type 0 where
   pub within : (i ≤ told.0) × (told.0 ≤ length t)
   pub part : told.1 ≡ next.Part → told.0 < length t

@@ -141,7 +141,7 @@ fn text_end(bytes: &[u8], ending: StringEnd, keep: bool) -> Result<usize, Fault>
     }
 }
 
-/// Does what [`decode_to`] does, inlined: for the place that decodes most strings.
+/// Does what [`decode_to`] does, and is inlined. A parse decodes its values with it.
 #[inline(always)]
 pub fn decode_here(
     tape: &mut Vec<u8>,
@@ -166,6 +166,8 @@ pub fn decode_here(
 
 /// Decodes the string at `at`, which has a backslash, to the beginning of the tape. Returns how many bytes it has
 /// there, and the index after its closing quote. Fails as [`string_at`] does, and `keep` means the same.
+///
+/// It isn't inlined: all callers share one copy of [`decode_here`].
 #[inline(never)]
 pub fn decode_to(
     tape: &mut Vec<u8>,
