@@ -1,2 +1,4 @@
 //! Examples of the documents.
 mod examples;
+mod logs;
+mod printed;

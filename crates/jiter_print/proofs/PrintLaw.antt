@@ -23,12 +23,15 @@ use Rattle.jiter_steps.specs.declared.parse.Literal.{Literal}
 use Rattle.jiter_steps.specs.declared.parse.Literal.TheVariants as name
 use Rattle.jiter_steps.proofs.Grammar.NodeRules.{nodes_of, node_members_of}
 use Rattle.jiter_steps.proofs.Grammar.Sound.{IsNodeAt, IsItemAt, IsMemberAt, items-grammar, members-grammar}
+use Rattle.jiter_value.specs.Owned.{owned_tree, owned_items, owned_members, HoldSame}
+use Rattle.jiter_value.specs.Parses.{reading_as}
 use Rattle.jiter_print.specs.Layout.{Layout, compact, deeper, line_break, space, last_break, laid_out, items_laid_out}
 use Rattle.jiter_print.specs.Layout.{members_laid_out}
 use Rattle.jiter_print.specs.Print.{print_text, with_line_feed, print_of}
-use Rattle.jiter_print.specs.Printed.{borrow_tree, borrow_items, borrow_members, IsLineOf, PrintsAgain}
+use Rattle.jiter_print.specs.Printed.{IsLineOf, PrintsAgain}
 use Rattle.jiter_print.proofs.PrintLawNumbers.{number-again}
-use Rattle.jiter_print.proofs.Laying.{line_break-blank, space-blank, last_break-blank, compact-is}
+use Rattle.jiter_print.proofs.Laying.{line_break-blank, space-blank, last_break-blank, compact-is, same-laid}
+use Rattle.jiter_print.proofs.Laying.{holds-owned}
 use Rattle.jiter_print.proofs.PrintLawParts.{no_blank, stands_here, stands-blank, Wherever, Again, Anywhere, parts-again}
 use Rattle.jiter_print.proofs.PrintLawStrings.{string-again}
 use Rattle.jiter_print.proofs.GivenValues.{Gives}
@@ -58,18 +61,18 @@ parts-stand u i j closer n layout ps qs same h =
     (subst (λ rs. Stands u i j ((join_with_byte 44 rs ++ last_break layout n) ++ closer ∷ [])) same h)
 
 module _ (names : Bool) (u : List ℕ) where
-  -- the same value, but for where its texts lie
+  -- the same value, wherever its texts lie
   abbrev Same : Tree → Node → Type 0
-  Same v n = borrow_tree (value_of u n) ≡ borrow_tree v
+  Same v n = HoldSame (value_of u n) v
 
   abbrev SameMember : Text × Tree → Key × Node → Type 0
   SameMember p m = (text_of m.0.pieces ≡ p.0.bytes) × Same p.1 m.1
 
   abbrev SameItems : List Tree → List Node → Type 0
-  SameItems vs ns = borrow_items (values_of u (nodes_of ns)) ≡ borrow_items (items_of vs)
+  SameItems vs ns = owned_items (values_of u (nodes_of ns)) ≡ owned_items (items_of vs)
 
   abbrev SameMembers : List (Text × Tree) → List (Key × Node) → Type 0
-  SameMembers ps ms = borrow_members (grammar.members_of u (node_members_of ms)) ≡ borrow_members (members_of ps)
+  SameMembers ps ms = owned_members (grammar.members_of u (node_members_of ms)) ≡ owned_members (members_of ps)
 
   -- with so many levels left a node of the same value, and inside a container that has it
   abbrev AgainTree : ℕ → Tree → ℕ → ℕ → Type 0
@@ -105,7 +108,7 @@ module _ (names : Bool) (u : List ℕ) where
       let within = stands-within u i j _ l h in
       node-again levels v (number i j) _ l h
       (record { ordered = omega arith; within = within; text = subst (IsNumberText names) is text })
-      (omega arith) (ap borrow_tree (ap number_tree (ap number_value (sym is) ∙ value) ∙ n.is))
+      (omega arith) (ap owned_tree (ap number_tree (ap number_value (sym is) ∙ value) ∙ n.is))
 
   -- What is printed of a member is spelled by a key of the same text, a colon and what spells the value.
   member-again : (layout : Layout) (levels : ℕ) (p : Text × Tree) → IsUtf8 p.0.bytes
@@ -149,7 +152,7 @@ module _ (names : Bool) (u : List ℕ) where
   tree-again layout levels Inside inside (tree.string x) s = λ i j l h.
       let r = string-again u i j x.bytes s h in
       node-again levels (tree.string x) (string r.0 i j) (print_of (tree.string x)) l h r.1 (omega arith)
-      (ap (λ (y : List ℕ). tree.string (record { owned = false; bytes = y })) r.2)
+      (ap (λ (y : List ℕ). tree.string (record { owned = true; bytes = y })) r.2)
   tree-again layout levels Inside inside (tree.array js) s = λ i j l h.
       let lt = slice_get_within u i 91 h.0 in
       let within = deeper layout in
@@ -163,7 +166,7 @@ module _ (names : Bool) (u : List ℕ) where
       (parts-stand u (i + 1) j 93 n layout _ _ same h.1) in
       node-again levels (tree.array js) (array i j (nodes_of a.again)) (laid_out layout (tree.array js)) l h
       (h.0, a.spelled.0)
-      a.spelled.1 (ap tree.array (a.like ∙ ap borrow_items (sym s.1)))
+      a.spelled.1 (ap tree.array (a.like ∙ ap owned_items (sym s.1)))
   tree-again layout levels Inside inside (tree.object ms) s = λ i j l h.
       let lt = slice_get_within u i 123 h.0 in
       let within = deeper layout in
@@ -173,12 +176,12 @@ module _ (names : Bool) (u : List ℕ) where
       parts-again (members-grammar names u levels Anywhere (IsMember levels) (λ j m e at is. is)) {Like = SameMembers}
       refl
       (λ p m ps ms one more.
-      (λ d. tree.member (record { owned = false; bytes = one.0 d }) (one.1 d) (more d)))
+      (λ d. tree.member (record { owned = true; bytes = one.0 d }) (one.1 d) (more d)))
       (print_member within) (λ p is. member-again within levels p is.0 (inside p.1 is.1)) (line_break within)
       (last_break layout n) (line_break-blank within) (last_break-blank layout n) s.0 s.2 (i + 1) j (omega arith)
       (parts-stand u (i + 1) j 125 n layout _ _ same h.1) in
       node-again levels (tree.object ms) (object i j (node_members_of a.again)) (laid_out layout (tree.object ms)) l h
-      (h.0, a.spelled.0) a.spelled.1 (ap tree.object (a.like ∙ ap borrow_members (sym s.1)))
+      (h.0, a.spelled.0) a.spelled.1 (ap tree.object (a.like ∙ ap owned_members (sym s.1)))
 
   inside-again : (levels : ℕ) (layout : Layout) (v : Tree) → FitsInside names levels v
       → Wherever u (laid_out layout v) (AgainInside levels v)
@@ -241,14 +244,42 @@ read_lays_again layout names mode t v end is =
     subst (LaidAgain layout names) is
     (read-again layout names (answer_in names mode t) (answer_in-printable names mode t))
 
+-- A document of a value is one of each value that holds the same.
+pub line-same : (names : Bool) (v w : Tree) (line : List ℕ) → HoldSame v w → IsLineOf names v line → IsLineOf names w line
+line-same names v w line same is = (is.0, is.1, is.2 ∙ same)
+
+-- So it is of a value that holds the same as what was read, wherever its texts lie.
+pub held_lays_again : (layout : Layout) (names : Bool) (mode : PartialMode) (t : List ℕ) (v w : Tree) (end : ℕ)
+    → answer_in names mode t ≡ done v end → HoldSame v w → IsLineOf names w (with_line_feed (laid_out layout w))
+held_lays_again layout names mode t v w end is same =
+    subst (λ line. IsLineOf names w (with_line_feed line)) (same-laid layout v w same)
+    (line-same names v w _ same (read_lays_again layout names mode t v end is))
+
 -- of the compact text
+pub held_prints_again : (names : Bool) (mode : PartialMode) (t : List ℕ) (v w : Tree) (end : ℕ)
+    → answer_in names mode t ≡ done v end → HoldSame v w → IsLineOf names w (with_line_feed (print_of w))
+held_prints_again names mode t v w end is same =
+    subst (λ line. IsLineOf names w (with_line_feed line)) (compact-is w)
+    (held_lays_again compact names mode t v w end is same)
+
 pub read_prints_again : (names : Bool) (mode : PartialMode) (t : List ℕ) (v : Tree) (end : ℕ)
     → answer_in names mode t ≡ done v end → IsLineOf names v (with_line_feed (print_of v))
-read_prints_again names mode t v end is =
-    subst (λ w. IsLineOf names v (with_line_feed w)) (compact-is v) (read_lays_again compact names mode t v end is)
+read_prints_again names mode t v end is = held_prints_again names mode t v v end is refl
 
 pub prints_again : (names : Bool) (mode : PartialMode) (t : List ℕ) → PrintsAgain names (answer_in names mode t)
 prints_again names mode t = by (answer_in names mode t) refl where
   by : (x : Reading Tree) → answer_in names mode t ≡ x → PrintsAgain names x
   by (done v e) is = read_prints_again names mode t v e is
   by (fault kind i stop) is = tt
+
+-- What a parse returns that owns each text: it holds the same as what is read. So `again` can be cited for it.
+pub owned-read : (names : Bool) (mode : PartialMode) (t : List ℕ) (v : Tree) (end : ℕ)
+    → reading_as owned_tree (answer_in names mode t) ≡ done v end
+    → (read : Tree) × (answer_in names mode t ≡ done read end) × HoldSame read v
+owned-read names mode t v end = by (answer_in names mode t) where
+  by : (x : Reading Tree) → reading_as owned_tree x ≡ done v end → (read : Tree) × (x ≡ done read end) × HoldSame read v
+  by (done w e) is =
+      let made : owned_tree w ≡ v = cc in
+      let ends : e ≡ end = cc in
+      (w, ap (done w) ends, subst (HoldSame w) made (holds-owned w))
+  by (fault kind i stop) is = absurd (cc)

@@ -4,7 +4,8 @@ ghost use Rattle.std.specs.Fmt.{signed_decimal};
 ghost use Rattle.jiter_scan.specs.declared.partial_mode.PartialMode.{PartialMode};
 ghost use Rattle.jiter_steps.specs.Answer.{answer_in};
 ghost use Rattle.jiter_steps.specs.Read.{done};
-ghost use Rattle.jiter_steps.specs.Tree.{array, object};
+ghost use Rattle.jiter_steps.specs.Tree.{Tree, array, object};
+ghost use Rattle.jiter_value.specs.Owned.{HoldSame};
 ghost use Rattle.jiter_value.specs.Value.{view, views, member_views};
 ghost use Rattle.jiter_print.specs.Layout.{laid_out, layout_of, line_break, last_break, space, pretty_of};
 ghost use Rattle.jiter_print.specs.Print.{print_of, comma, with_line_feed, Appends};
@@ -22,8 +23,9 @@ use std::alloc::{AllocError, Global};
 /// - In a string, `"` and `\` follow a backslash, and a byte below 0x20 is `\u00` and two lower-case hex digits
 ///   (RFC 8259, 7). All else stays as it is.
 ///
-/// If the value was parsed, in any mode, the text and a line feed are a document with the same value. This holds under
-/// the same setting for non-finite numbers. A `BigInt` or `Float` that you build yourself is printed as you wrote it.
+/// If the value was parsed, in any mode, borrowed or owned, the text and a line feed are a document with the same value.
+/// It is the same for a copy of such a value. This holds under the same setting for non-finite numbers. A `BigInt` or
+/// `Float` that you build yourself is printed as you wrote it.
 ///
 /// # Errors
 ///
@@ -38,8 +40,8 @@ use std::alloc::{AllocError, Global};
 /// ```
 pub fn print(alloc: Global, value: &JsonValue<'_>) -> Result<Vec<u8>, AllocError>
     ensures text { IfOk result (λ text. text.items ≡ print_of (view value.now)) }
-    ensures again { (names : Bool) → (mode : PartialMode) → (bytes : List ℕ) → (end : ℕ)
-        → answer_in names mode bytes ≡ done (view value.now) end
+    ensures again { (names : Bool) → (mode : PartialMode) → (bytes : List ℕ) → (read : Tree) → (end : ℕ)
+        → answer_in names mode bytes ≡ done read end → HoldSame read (view value.now)
         → IsLineOf names (view value.now) (with_line_feed (print_of (view value.now))) }
 {
     let mut line = Vec::new(alloc);
@@ -70,8 +72,8 @@ pub fn print_pretty(
     indent: usize,
 ) -> Result<Vec<u8>, AllocError>
     ensures text { IfOk result (λ text. text.items ≡ pretty_of indent (view value.now)) }
-    ensures again { (names : Bool) → (mode : PartialMode) → (bytes : List ℕ) → (end : ℕ)
-        → answer_in names mode bytes ≡ done (view value.now) end
+    ensures again { (names : Bool) → (mode : PartialMode) → (bytes : List ℕ) → (read : Tree) → (end : ℕ)
+        → answer_in names mode bytes ≡ done read end → HoldSame read (view value.now)
         → IsLineOf names (view value.now) (with_line_feed (pretty_of indent (view value.now))) }
 {
     let mut line = Vec::new(alloc);

@@ -243,7 +243,7 @@ impl JsonError {
         Ok(self.describe(alloc, bytes)?)
     }
 
-    // The public call makes its `AllocError` from a `AllocFailed`, so it fails only if an allocation failed.
+    // The public call makes its `AllocError` from an `AllocFailed`, so it fails only if an allocation failed.
     fn describe(&self, alloc: Global, bytes: &[u8]) -> Result<String, AllocFailed>
         ensures { IfOk result (λ text. string_bytes text
             ≡ description_text (kind_of self.now.error_type) self.now.index bytes.now) }

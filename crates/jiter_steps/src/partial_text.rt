@@ -42,7 +42,7 @@ impl Model for PartialText {
 }
 
 impl PartialText {
-    /// Returns an `PartialText` without bytes. Does not allocate.
+    /// Returns a `PartialText` without bytes. Does not allocate.
     pub fn new(alloc: Global) -> PartialText
         ensures { result ≡ nothing }
     {

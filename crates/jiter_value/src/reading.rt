@@ -122,7 +122,7 @@ pub(crate) fn read_text_as<'s, T: StringStorage<'s>>(
     }
 }
 
-/// Parses a document with the buffers and settings of this reading. StringStorage without a backslash are borrowed.
+/// Parses a document with the buffers and settings of this reading. Strings without a backslash are borrowed.
 pub(crate) fn read_text<'j>(
     reading: &mut Reading<'j>,
     bytes: &'j [u8],

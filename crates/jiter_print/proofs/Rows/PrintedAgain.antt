@@ -6,6 +6,7 @@ use Rattle.jiter_steps.specs.Tree.{Text, Tree, null, boolean, int, big, float, s
 use Rattle.jiter_steps.specs.Tree.{members_of}
 use Rattle.jiter_steps.specs.Read.{done}
 use Rattle.jiter_steps.specs.Answer.{answer}
+use Rattle.jiter_value.specs.Owned.{owned_tree}
 use Rattle.jiter_print.specs.Layout.{pretty_of}
 use Rattle.jiter_print.specs.Print.{print_of}
 use Rattle.jiter_print.proofs.Rows.Computed.{computed_answers}
@@ -119,6 +120,16 @@ rows =
 again : map (λ r. answer true (print_of r.0)) rows ≡ map (λ r. done r.0 r.1) rows
 unfolding computed_answers
 again = refl
+
+-- With each text owned, a value holds the same.
+owned_holds_same : map (λ r. owned_tree (owned_tree r.0)) rows ≡ map (λ r. owned_tree r.0) rows
+unfolding computed_answers
+owned_holds_same = refl
+
+-- And it has the same text.
+owned_prints_same : map (λ r. print_of (owned_tree r.0)) rows ≡ map (λ r. print_of r.0) rows
+unfolding computed_answers
+owned_prints_same = refl
 
 -- the text over lines, two spaces for a level
 lines : pretty_of 2

@@ -33,7 +33,7 @@ module _ (t : List ℕ) where
       ∙ plain-letter c (d ∷ []) (i + 2) (i + 3) third (omega arith)
       ∙ plain-letter d [] (i + 3) e fourth (omega arith) ∙ plain-no_letter e
 
--- StringStorage of bytes below 80 hex.
+-- Texts of bytes below 80 hex.
 ascii-low : (b : ℕ) → is_ascii b ≡ true → b < 128
 ascii-low b e = grind (arith, nat_tests, e)
 

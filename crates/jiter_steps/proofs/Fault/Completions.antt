@@ -1,4 +1,4 @@
--- StringStorage whose end is other bytes: a prefix, a filler and closers.
+-- Texts whose end is other bytes: a prefix, a filler and closers.
 use Rattle.std.proofs.Common.{◌≡◌, ℕ, ◌+◌, ◌≤◌, true, List, [], ◌∷◌, ◌++◌, length, take, refl, sym, ap, ◌∙◌, arith}
 use Rattle.std.proofs.Common.{length-append}
 use Rattle.std.specs.Prelude.{slice_get, Some}

@@ -147,7 +147,7 @@ fn every_refusal_at_every_index_is_described_and_like_itself_alone(
     Ok(())
 }
 
-// StringStorage of numbers, no two of them the same number.
+// Texts of numbers, no two of them the same number.
 const NUMBERS: [&[u8]; 16] = [
     b"0",
     b"1",
