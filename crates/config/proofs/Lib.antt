@@ -1,4 +1,0 @@
-pub mod Held
-pub mod Judged
-pub mod Members
-pub mod Walk

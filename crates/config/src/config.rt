@@ -1,12 +1,17 @@
 //! A configuration, read from the members of a JSON object.
-ghost use Rattle.std.specs.Prelude.{◌≡◌, ◌≤◌, IfOk, ℕ, Some, false, string_bytes};
+ghost use Rattle.std.specs.Prelude.{◌≡◌, ◌≤◌, IfErr, IfOk, Some, false, length, string_bytes};
 ghost use Rattle.jiter.specs.Caller.{IsDocument, Node, position_of, value_of};
+ghost use Rattle.jiter_walk.specs.Table.{Finals, Holds, object_in, table};
+ghost use Rattle.jiter_walk.specs.Walk.{IsReadable, Returns, index_of, reason};
 ghost use Rattle.json_lines.specs.Line.{cause_in, refusal_text};
-ghost use Rattle.config.specs.Settings.{IsAnswer, IsHeldBy, is_memory_why, place_of, why, why_text};
-ghost use Rattle.config.specs.declared.config.Refusal.TheVariants as variant;
+ghost use Rattle.config.specs.Settings.{config, config_view, fields, reason_text, settings_slots, unfit_text};
 
-use crate::settings::{Name, named, read_host, read_port};
-use jiter::{Jiter, JiterError, LinePosition};
+use crate::port::Port;
+use jiter::Jiter;
+use jiter_walk::{
+    Object, Value, WalkError, next_flag, next_integer_in, next_text, read_document, read_object,
+    skip,
+};
 use json_lines::refusal_line;
 use std::alloc::{AllocError, Global};
 use std::fmt;
@@ -17,39 +22,40 @@ pub struct Config {
     /// The string of the last member `host`.
     pub host: String,
     /// The integer of the last member `port`, from 1 to 65535.
-    pub port: u16,
+    pub port: Port,
     /// The value of the last member `debug`; `false` without one.
     pub debug: bool,
 }
 
-/// Why bytes aren't a configuration, and where.
-#[derive(Debug, Drop)]
-pub enum Refusal {
-    /// An error of the pull reader: an error in the bytes, a value of another type, or out of memory.
-    Reading(JiterError),
-    /// The integer at this byte index isn't a port.
-    Port(usize),
-    /// The object has no member of this name. The index is that of its closing brace.
-    Missing(&'static str, usize),
+/// Why a document isn't a configuration.
+#[derive(Debug, Clone, Copy)]
+pub enum Unfit {
+    /// The integer isn't a port.
+    Port,
+    /// There is no member `host`.
+    NoHost,
+    /// There is no member `port`.
+    NoPort,
 }
 
-impl Refusal {
-    /// Returns the line and column of the error, in the bytes that were read.
-    pub fn position(&self, bytes: &[u8]) -> LinePosition
-        ensures { result ≡ position_of bytes.now (place_of self.now) }
-    {
-        match self {
-            Self::Reading(error) => LinePosition::find(bytes, error.index),
-            Self::Port(index) | Self::Missing(_, index) => LinePosition::find(bytes, *index),
-        }
-    }
+impl fmt::Display for Unfit {
+    ghost output = { λ unfit. Some (unfit_text unfit) };
 
-    /// Returns whether an allocation failed. Such an error says nothing about the bytes.
-    pub fn is_memory(&self) -> bool
-        ensures { result ≡ is_memory_why (why self.now) }
-    {
-        matches!(self, Self::Reading(error) if error.is_memory())
+    fn fmt<W: fmt::Write>(&self, f: &mut fmt::Formatter<W>) -> fmt::Result {
+        f.write_str(match self {
+            Self::Port => "no port from 1 to 65535",
+            Self::NoHost => "host is missing",
+            Self::NoPort => "port is missing",
+        })
     }
+}
+
+// What is set so far.
+#[derive(Drop)]
+struct Settings {
+    host: Option<String>,
+    port: Option<Port>,
+    debug: Option<bool>,
 }
 
 /// Returns `NAME:LINE:COLUMN: what is wrong` and a line feed.
@@ -57,33 +63,81 @@ pub fn report_of(
     alloc: Global,
     name: &str,
     bytes: &[u8],
-    refusal: &Refusal,
+    error: &WalkError<Unfit>,
 ) -> Result<String, AllocError>
     ensures { IfOk result (λ text. string_bytes text
-        ≡ refusal_text name.now (position_of bytes.now (place_of refusal.now)).line
-        (position_of bytes.now (place_of refusal.now)).column (cause_in bytes.now (why_text (why refusal.now)))) }
+        ≡ refusal_text name.now (position_of bytes.now (index_of error.now)).line
+        (position_of bytes.now (index_of error.now)).column (cause_in bytes.now (reason_text (reason error.now)))) }
 {
-    let cause = format!(in alloc; "{refusal}")?;
-    refusal_line(alloc, name, &refusal.position(bytes), bytes, cause.as_str())
+    let cause = cause_of(alloc, error)?;
+    refusal_line(alloc, name, &error.position(bytes), bytes, cause.as_str())
 }
 
-impl fmt::Display for Refusal {
-    ghost output = { λ refusal. Some (why_text (why refusal)) };
+fn cause_of(alloc: Global, error: &WalkError<Unfit>) -> Result<String, AllocError>
+    ensures { IfOk result (λ text. string_bytes text ≡ reason_text (reason error.now)) }
+{
+    match error {
+        WalkError::Reader(error) => format!(in alloc; "{}", error.error_type),
+        WalkError::Custom(cause, _) => format!(in alloc; "{cause}"),
+    }
+}
 
-    fn fmt<W: fmt::Write>(&self, f: &mut fmt::Formatter<W>) -> fmt::Result {
-        match self {
-            Self::Reading(error) => write!(f, "{}", error.error_type),
-            Self::Port(_) => f.write_str("no port from 1 to 65535"),
-            Self::Missing(name, _) => write!(f, "{name} is missing"),
+impl<'j> Object<'j, Unfit> for Settings {
+    type Whole = Config;
+
+    ghost table = { table fields };
+
+    ghost state = { settings_slots };
+
+    ghost view = { config_view };
+
+    fn member(
+        &mut self,
+        alloc: Global,
+        key: &str,
+        _at: usize,
+        jiter: &mut Jiter<'j>,
+    ) -> Result<(), WalkError<Unfit>> {
+        match key {
+            "host" => self.host = Some(next_text(alloc, jiter)?),
+            "port" => {
+                let number = next_integer_in(jiter, 1, 65535, Unfit::Port)? as u16;
+                self.port = Some(Port { number });
+            }
+            "debug" => self.debug = Some(next_flag(jiter)?),
+            _ => skip(jiter)?,
+        }
+        Ok(())
+    }
+
+    fn finish(self, _alloc: Global) -> Result<Config, Unfit> {
+        let Settings { host, port, debug } = self;
+        match (host, port) {
+            (Some(host), Some(port)) => Ok(Config {
+                host,
+                port,
+                debug: debug.unwrap_or(false),
+            }),
+            (None, _) => Err(Unfit::NoHost),
+            (_, None) => Err(Unfit::NoPort),
         }
     }
 }
 
-impl From<JiterError> for Refusal {
-    ghost from_gives = { λ error refusal. refusal ≡ variant.Reading error };
+impl<'j> Value<'j, Unfit> for Config {
+    ghost View = { Finals fields };
 
-    fn from(error: JiterError) -> Self {
-        Self::Reading(error)
+    ghost view = { config_view };
+
+    ghost meaning = { config };
+
+    fn read(alloc: Global, jiter: &mut Jiter<'j>) -> Result<Config, WalkError<Unfit>> {
+        let start = Settings {
+            host: None,
+            port: None,
+            debug: None,
+        };
+        read_object(alloc, jiter, start)
     }
 }
 
@@ -91,33 +145,19 @@ impl From<JiterError> for Refusal {
 ///
 /// # Errors
 ///
-/// - `Reading` for an error in the bytes, for a value of another type at its first byte, and if an allocation fails
-/// - `Port` if a member `port` has an integer that isn't from 1 to 65535, even if a later `port` is right
-/// - `Missing` if there is no `host` or no `port`
+/// - `Reader` for an error in the bytes, for a value of another type at its first byte, and if an allocation fails
+/// - `Custom` with `Port` if a member `port` has an integer that isn't from 1 to 65535, even if a later `port` is right
+/// - `Custom` with `NoHost` or `NoPort` if there is no `host` or no `port`, at the closing brace
 ///
 /// In skipped values UTF-8 isn't checked.
-pub fn read_config(alloc: Global, bytes: &[u8]) -> Result<Config, Refusal>
-    ensures document { (n : Node) → IsDocument false bytes.now n → IsAnswer bytes.now n result }
+pub fn read_config(alloc: Global, bytes: &[u8]) -> Result<Config, WalkError<Unfit>>
+    ensures document { (n : Node) → IsDocument false bytes.now n
+        → Returns config_view result (object_in (table fields) bytes.now n) }
     ensures last { (n : Node) → IsDocument false bytes.now n
-        → IfOk result (IsHeldBy (value_of bytes.now n)) }
-    ensures port { IfOk result (λ c. (1 ≤ c.port) × (c.port ≤ 65535)) }
+        → IfOk result (λ c. Holds fields (value_of bytes.now n) (config_view c)) }
+    ensures port { IfOk result (λ c. (1 ≤ c.port.number) × (c.port.number ≤ 65535)) }
+    ensures readable { IfOk result (λ _. IsReadable bytes.now) }
+    ensures index { IfErr result (λ e. index_of e ≤ length bytes.now) }
 {
-    let mut jiter = Jiter::new(bytes);
-    let (mut host, mut port, mut debug) = (None, None, None);
-    let mut next = named(jiter.next_object(alloc)?);
-    while let Some(name) = next {
-        match name {
-            Name::Host => host = Some(read_host(alloc, &mut jiter)?),
-            Name::Port => port = Some(read_port(&mut jiter)?),
-            Name::Debug => debug = Some(jiter.next_bool()?),
-            Name::Other => jiter.next_skip()?,
-        }
-        next = named(jiter.next_key(alloc)?);
-    }
-    let last = jiter.current_index().saturating_sub(1);
-    jiter.finish()?;
-    let host = host.ok_or(Refusal::Missing("host", last))?;
-    let port = port.ok_or(Refusal::Missing("port", last))?;
-    let debug = debug.unwrap_or(false);
-    Ok(Config { host, port, debug })
+    read_document(alloc, bytes)
 }

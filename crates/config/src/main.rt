@@ -2,7 +2,7 @@
 #![tactic(auto)]
 
 mod config;
-mod settings;
+mod port;
 #[cfg(test)]
 mod tests;
 
@@ -33,12 +33,12 @@ impl ReadInput for Show {
         reader.read_to_end(&mut bytes)?;
         match read_config(rt.alloc(), bytes.as_slice()) {
             Ok(Config { host, port, debug }) => {
-                println!(rt; "{host} port {port}, debug {debug}")?;
+                println!(rt; "{host} port {}, debug {debug}", port.number)?;
                 Ok(true)
             }
-            Err(refusal) if refusal.is_memory() => Err(io::Error::from(ErrorKind::OutOfMemory)),
-            Err(refusal) => {
-                let report = report_of(rt.alloc(), name, bytes.as_slice(), &refusal)?;
+            Err(error) if error.is_memory() => Err(io::Error::from(ErrorKind::OutOfMemory)),
+            Err(error) => {
+                let report = report_of(rt.alloc(), name, bytes.as_slice(), &error)?;
                 rt.stderr().write_all(report.as_bytes())?;
                 Ok(false)
             }

@@ -1,4 +1,4 @@
-//! Good and bad configurations. No contract promises success while there is memory, or says what happens with bytes
+//! Good and bad configurations. No contract promises success while there is memory, or says which error bytes get
 //! that aren't a document. These tests show both.
 use crate::config::read_config;
 use std::io;
@@ -8,7 +8,9 @@ use std::test::*;
 // Whether the text gives these settings.
 fn gives(rt: &HostRuntime, text: &[u8], host: &str, port: u16, debug: bool) -> bool {
     match read_config(rt.alloc(), text) {
-        Ok(config) => config.host.as_str() == host && config.port == port && config.debug == debug,
+        Ok(config) => config.host.as_str() == host
+            && config.port.number == port
+            && config.debug == debug,
         Err(_) => false,
     }
 }
@@ -17,9 +19,9 @@ fn gives(rt: &HostRuntime, text: &[u8], host: &str, port: u16, debug: bool) -> b
 fn refuses(rt: &HostRuntime, text: &[u8], words: &str) -> io::Result<bool> {
     match read_config(rt.alloc(), text) {
         Ok(_) => Ok(false),
-        Err(refusal) => {
+        Err(error) => {
             let mut line = Vec::new(rt.alloc());
-            write!(line, "{refusal} at {}", refusal.position(text))?;
+            write!(line, "{error} at {}", error.position(text))?;
             Ok(line.as_slice() == words.as_bytes())
         }
     }
@@ -49,7 +51,7 @@ fn last_members_count(rt: HostRuntime) {
 }
 
 #[test]
-fn values_are_refused_where_they_stand(rt: HostRuntime) -> io::Result<()> {
+fn an_error_is_at_its_value(rt: HostRuntime) -> io::Result<()> {
     let rows = [
         (
             b"{\"host\":\n  7}".as_slice(),
@@ -113,7 +115,7 @@ fn values_are_refused_where_they_stand(rt: HostRuntime) -> io::Result<()> {
 }
 
 #[test]
-fn faults_of_the_bytes_are_told(rt: HostRuntime) -> io::Result<()> {
+fn errors_in_the_bytes_are_reported(rt: HostRuntime) -> io::Result<()> {
     let rows = [
         (
             b"".as_slice(),
@@ -130,6 +132,26 @@ fn faults_of_the_bytes_are_told(rt: HostRuntime) -> io::Result<()> {
         ),
         (b"{\"port\": 080}", "invalid number at line 1 column 11"),
         (b"{\"host\" \"a\"}", "expected `:` at line 1 column 9"),
+        (
+            b"{\"host\":\"a\",\"port\":80",
+            "EOF while parsing an object at line 1 column 21",
+        ),
+        (
+            b"{\"host\":\"a\",\"port\":8",
+            "EOF while parsing an object at line 1 column 20",
+        ),
+        (
+            b"{\"host\":\"a\",\"port\":80,",
+            "EOF while parsing a value at line 1 column 22",
+        ),
+        (
+            b"{\"host\":\"a\",\"port\"",
+            "EOF while parsing an object at line 1 column 18",
+        ),
+        (
+            b"{\"host\":\"a\",\"port\":80,\"x\":[1}",
+            "expected `,` or `]` at line 1 column 29",
+        ),
     ];
     for (text, words) in rows {
         assert!(rt; refuses(&rt, text, words)?, "{words}");

@@ -1,8 +1,15 @@
 -- What a read promises, from its parts.
-use Rattle.std.proofs.Common.{Ok, Err, Result}
-use Rattle.jiter.specs.Jiter.{MovesOn, Replies, RefusesBytes}
-use Rattle.jiter.specs.Reader.{ReaderState, Reply}
-use Rattle.jiter.specs.Reads.{Memory, Reads, anywhere, never, only_at}
+use Rattle.std.proofs.Common.{◌≡◌, ◌∙◌, Ok, Err, Result, refl, ap}
+use Rattle.std.specs.Borrow.{Bor}
+use Rattle.std.specs.Prelude.{Option, Some, None, option_map, ℕ}
+use Rattle.std.specs.declared.alloc.Global.{Global}
+use Rattle.std.specs.declared.borrow.CowStr.{CowStr}
+use Rattle.jiter_steps.specs.Tree.{Text}
+use Rattle.jiter.specs.Cause.{Cause}
+use Rattle.jiter.specs.Jiter.{MovesOn, Replies, RefusesBytes, UnlessMemory, indexed_key_bytes}
+use Rattle.jiter.specs.Jiter.{indexed_key_view, key_bytes, reply_seen}
+use Rattle.jiter.specs.Reader.{ReaderState, Reply, gave, refused}
+use Rattle.jiter.specs.Reads.{Memory, Reads, Unless, anywhere, never, only_at}
 use Rattle.jiter.specs.declared.errors.JiterError.{JiterError}
 
 -- of a read that does not allocate
@@ -25,3 +32,22 @@ read-anywhere (only_at At) view (Err e) h = record {
   index = h.index;
   memory = λ m. let out = h.memory m in (out.0, tt);
 }
+
+-- A read of a key, of which the bytes are seen.
+pub keys-seen : (when : Memory) (x : Result (Option (CowStr Global × ℕ)) JiterError) {s0 s : ReaderState}
+    (r : Reply (Option Text)) → Reads when (option_map indexed_key_view) r x s0 s
+    → Reads when (option_map indexed_key_bytes) (reply_seen key_bytes r) x s0 s
+keys-seen when x {s0 = s0} {s = s} r h =
+    record { moves = h.moves; value = by when x h.value; index = h.index; memory = h.memory } where
+      seen : (k : Option (CowStr Global × ℕ)) → r ≡ gave (option_map indexed_key_view k) s.position
+          → reply_seen key_bytes r ≡ gave (option_map indexed_key_bytes k) s.position
+      seen None is = ap (reply_seen key_bytes) is
+      seen (Some k) is = ap (reply_seen key_bytes) is
+
+      by : (when : Memory) (x : Result (Option (CowStr Global × ℕ)) JiterError)
+          → Unless when x (Replies (option_map indexed_key_view) x s r)
+          → Unless when x (Replies (option_map indexed_key_bytes) x s (reply_seen key_bytes r))
+      by never (Ok k) is = seen k is
+      by never (Err e) is = ap (reply_seen key_bytes) is
+      by (only_at At) (Ok k) is = seen k is
+      by (only_at At) (Err e) is = λ m. ap (reply_seen key_bytes) (is m)

@@ -17,15 +17,16 @@ use Rattle.jiter_steps.specs.declared.parse.Literal.TheVariants as literal
 use Rattle.jiter_steps.specs.declared.parse.Start.TheVariants as start
 use Rattle.jiter_steps.proofs.Grammar.ScalarLaws.{scalar-laws}
 use Rattle.jiter_steps.proofs.Grammar.SpelledParts.{begins-value, start_is}
-use Rattle.jiter.specs.Cause.{ValueType, null, string, bool, object, wrong_type}
+use Rattle.jiter.specs.Cause.{ValueType, null, string, bool, array, object, wrong_type}
 use Rattle.jiter.specs.Reader.{ReaderState, gave, refused, next, refused_as, number_type, number_refusal}
-use Rattle.jiter.specs.Reader.{integer_reply, scalar_reply, string_read, str_read, bool_read, int_read, object_read}
+use Rattle.jiter.specs.Reader.{array_read, integer_reply, scalar_reply, string_read, str_read, bool_read, int_read}
+use Rattle.jiter.specs.Reader.{object_read}
 use Rattle.jiter.specs.Reader.{if_byte, null_read, number_read, number_bytes_read, peek, value_read, value_reply}
 use Rattle.jiter.specs.Telling.{tree_start, tree_type, other_type, str_told, bool_told, int_told, null_told, number_told}
 use Rattle.jiter.specs.Telling.{number_bytes_told, Tells}
 use Rattle.jiter.proofs.Integers.{AgreeAsInteger, IsWhole, int_at-number}
 use Rattle.jiter.proofs.Members.{read-spelled}
-use Rattle.jiter.proofs.Walking.{ComesNext, IsNoObject, gave-refused, next-reads, skip-passes}
+use Rattle.jiter.proofs.Walking.{ComesNext, IsNoArray, IsNoObject, gave-refused, next-reads, skip-passes}
 
 type-is : (n : Number) → number_type n ≡ tree_type (number_tree n)
 type-is (integer z) = refl
@@ -228,6 +229,20 @@ module _ (s : ReaderState) where
     by (grammar.string ps b e) h other = refl
     by (grammar.array b e ns) h other = refl
     by (grammar.object b e ms) h other = absurd other
+
+  -- Another value than an array is refused as one.
+  pub array-refused : (n : Node) → ComesNext s n → IsNoArray n
+      → next s (array_read s) ≡ other_type array (value_of s.text n) (begin n)
+  array-refused n h other = next-reads s n h.stands (array_read s) ∙ by n h other where
+    by : (n : Node) → ComesNext s n → IsNoArray n
+        → array_read s (begin n) (start_is n) ≡ other_type array (value_of s.text n) (begin n)
+    by (grammar.literal literal.Null b e) h other = refl
+    by (grammar.literal literal.True b e) h other = refl
+    by (grammar.literal literal.False b e) h other = refl
+    by (grammar.number b e) h other = refusal-told array (grammar.number b e) h
+    by (grammar.string ps b e) h other = refl
+    by (grammar.object b e ms) h other = refl
+    by (grammar.array b e ns) h other = absurd other
 
 -- It gives no key.
 pub no_object-refused : (f : Form) (s : ReaderState) (n : Node) (o : Option Text) (i : ℕ) → ComesNext s n

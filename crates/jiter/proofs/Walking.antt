@@ -189,7 +189,7 @@ module _ (s : ReaderState) where
         quiet = quiet;
       }
 
-  item-meets : (i : ℕ) (n : Node) (e : ℕ) → AnItem s.names s.text i n e
+  pub item-meets : (i : ℕ) (n : Node) (e : ℕ) → AnItem s.names s.text i n e
       → MeetsPart s (λ j. gave (Some (slice_index s.text j)) j) (first_byte s.text n) n i e
   item-meets i n e h = record {
     after = i;
@@ -247,7 +247,7 @@ abbrev pub SeesKeys : Form → (Key → Text) → List ℕ → Type 0
 SeesKeys f view t = (k : Key) (j : ℕ) → SpellsKey t k j → string_at f t k.begin ≡ taken (view k) k.end
 
 module _ (f : Form) (view : Key → Text) (s : ReaderState) (sees : SeesKeys f view s.text) where
-  member-meets : (i : ℕ) (m : Key × Node) (e : ℕ) → AMember s.names s.text i m e
+  pub member-meets : (i : ℕ) (m : Key × Node) (e : ℕ) → AMember s.names s.text i m e
       → MeetsPart s (λ j. key_reply s.text j (string_at f s.text j)) (view m.0) m.1 i e
   member-meets i m e h =
       let value = h.value in
@@ -291,6 +291,11 @@ sees-raw t k j s = raw-whole t k.begin k.end _ (sees-whole t k j s)
 abbrev pub IsNoObject : Node → Type 0
 IsNoObject (object b e ms) = ⊥
 IsNoObject n = Unit {0}
+
+-- no array
+abbrev pub IsNoArray : Node → Type 0
+IsNoArray (array b e ns) = ⊥
+IsNoArray n = Unit {0}
 
 -- After the document's value nothing is left.
 pub finish-ends : (s : ReaderState) → IsBlank s.text s.position (length s.text) → finish s ≡ gave tt (length s.text)

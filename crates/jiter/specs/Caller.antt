@@ -54,7 +54,8 @@ pub use Rattle.jiter.specs.Errors.{cause_of, type_of}
 pub use Rattle.jiter.specs.Prefixes.{PrefixesGrow, IsCleanCut, OneThenOther, ParsesPrefix}
 pub use Rattle.jiter.specs.Jiter.{BeginsAt, EndsWithColon, IndexWithin, IsMemory, IsRefusalOf, MovesOn}
 pub use Rattle.jiter.specs.Jiter.{RefusesBytes, Replies, StandsAt, StandsBefore, TellsHere, UnlessMemory}
-pub use Rattle.jiter.specs.Jiter.{WhereMemory, at_start, byte_of, key_bytes, reply_seen, text_bytes}
+pub use Rattle.jiter.specs.Jiter.{KeyIsAt, WhereMemory, at_start, byte_of, indexed_key_bytes, key_bytes}
+pub use Rattle.jiter.specs.Jiter.{reply_seen, text_bytes}
 pub use Rattle.jiter.specs.Lending.{LeavesReader}
 pub use Rattle.jiter.specs.Reader.{ReaderState, Reply, gave, refused, StaysAt, position_after, value_place}
 pub use Rattle.jiter.specs.Reader.{with_position}

@@ -1,10 +1,14 @@
 -- What the calls of the pull reader return, and where they leave it.
 use Rattle.std.specs.Prelude.{◌≡◌, ◌≢◌, ◌<◌, ◌≤◌, ◌+◌, ℕ, false, List, length, Result, Ok, Err, IfOk, IfErr, IfSome}
 use Rattle.std.specs.Prelude.{slice_get, slice_index, Option, Some, None, option_map, [], take, Vec}
+use Rattle.std.specs.Cow.{cow_str_bytes}
 use Rattle.std.specs.declared.alloc.Global.{Global}
+use Rattle.std.specs.declared.borrow.CowStr.{CowStr}
 use Rattle.jiter_scan.specs.Ascii as ascii
 use Rattle.jiter_scan.specs.Kind.{fault_kind, out_of_memory}
 use Rattle.jiter_steps.specs.Literal.{start_of}
+use Rattle.jiter_steps.specs.Step.{Step, more}
+use Rattle.jiter_steps.specs.StringDecoder.{text_view}
 use Rattle.jiter_steps.specs.Tree.{Text}
 use Rattle.jiter_steps.specs.declared.parse.Start.{Start}
 use Rattle.jiter_steps.specs.declared.read_error.ReadError.{ReadError}
@@ -97,6 +101,17 @@ TellsHere result s = IfOk result (λ told. IfSome told (λ p. StandsAt s (byte_o
 -- where a key was given, a colon stands right before i
 abbrev pub EndsWithColon : {K : Type 0} → Result (Option K) JiterError → List ℕ → ℕ → Type 0
 EndsWithColon result t i = IfOk result (λ key. IfSome key (λ _. StandsBefore t i ascii.colon))
+
+-- A key that was given with an index: its text, and its bytes.
+abbrev pub indexed_key_view : CowStr Global × ℕ → Text
+indexed_key_view k = text_view k.0
+
+abbrev pub indexed_key_bytes : CowStr Global × ℕ → List ℕ
+indexed_key_bytes k = cow_str_bytes k.0
+
+-- The index of a key that was given is where this step led: that of the key's quote.
+abbrev pub KeyIsAt : {K : Type 0} → Step → Result (Option (K × ℕ)) JiterError → Type 0
+KeyIsAt led result = IfOk result (λ key. IfSome key (λ k. led ≡ more k.1))
 
 -- at i a value begins so
 abbrev pub BeginsAt : List ℕ → ℕ → Start → Type 0

@@ -1,4 +1,4 @@
--- StringStorage of causes, by computation.
+-- Texts of causes, by computation.
 use Rattle.std.proofs.Common.{◌≡◌, ℕ, List, [], ◌∷◌, refl, codes, map}
 use Rattle.std.specs.Fmt.{digits}
 use Rattle.jiter_scan.specs.Kind.{trailing_comma}

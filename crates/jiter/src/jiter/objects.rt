@@ -1,18 +1,18 @@
 //! The pull reader's steps through objects.
 ghost use Rattle.std.specs.Borrow.{sem};
-ghost use Rattle.std.specs.Prelude.{◌≡◌, ◌<◌, ◌≤◌, IfErr, IfOk, IfSome, None, OnOk, Some, length, option_map, true};
+ghost use Rattle.std.specs.Prelude.{◌≡◌, ◌<◌, ◌≤◌, ◌+◌, IfErr, IfOk, IfSome, None, OnOk, Some, length, option_map, true};
 ghost use Rattle.jiter_scan.specs.Ascii as ascii;
 ghost use Rattle.jiter_steps.specs.Parse.{Steps};
 ghost use Rattle.jiter_steps.specs.Fast.{IsNext};
 ghost use Rattle.jiter_steps.specs.RawString.{raw_view};
-ghost use Rattle.jiter_steps.specs.Step.{Step, step, colon};
+ghost use Rattle.jiter_steps.specs.Step.{Step, more, step, colon, object_first, object_step};
 ghost use Rattle.jiter_steps.specs.StringDecoder.{text_view};
 ghost use Rattle.jiter_steps.specs.StringReading.{whole, raw};
 ghost use Rattle.jiter_steps.specs.Tree.{Text};
 ghost use Rattle.jiter.specs.Reader.{value_place, next, known, gave, colon_reply, member_reply, object_read};
 ghost use Rattle.jiter.specs.Reader.{key_step, position_after};
 ghost use Rattle.jiter.specs.Jiter.{MovesOn, Replies, RefusesBytes, reply_seen, key_bytes, BeginsAs, StandsAt};
-ghost use Rattle.jiter.specs.Jiter.{StandsBefore, EndsWithColon};
+ghost use Rattle.jiter.specs.Jiter.{StandsBefore, EndsWithColon, KeyIsAt, indexed_key_bytes, indexed_key_view};
 ghost use Rattle.jiter.specs.Reads.{Lends, Reads, never, key_memory, first_key_memory, next_key_memory};
 ghost use Rattle.jiter.specs.Lending.{LeavesReader};
 
@@ -24,6 +24,29 @@ use jiter_steps::fast::{Next, fast_first, known_fast_step, peek_for};
 use jiter_steps::parse::{ContainerKind, Start};
 use std::alloc::Global;
 use std::borrow::CowStr;
+
+#[inline(always)]
+fn borrowed_key<'j>(key: Option<&'j str>, at: usize) -> Option<(CowStr<'j>, usize)>
+    ensures text { option_map indexed_key_bytes result ≡ option_map (λ x. x.now) key.entry }
+    ensures index { IfSome result (λ k. k.1 ≡ at) }
+{
+    match key {
+        Some(text) => Some((CowStr::Borrowed(text), at)),
+        None => None,
+    }
+}
+
+#[inline(always)]
+fn indexed_key<'j>(key: Option<CowStr<'j>>, at: usize) -> Option<(CowStr<'j>, usize)>
+    ensures text { option_map indexed_key_view result ≡ option_map text_view key.entry }
+    ensures index { IfSome result (λ k. k.1 ≡ at) }
+    ensures given { IfSome result (λ k. key.entry ≡ Some k.0) }
+{
+    match key {
+        Some(text) => Some((text, at)),
+        None => None,
+    }
+}
 
 impl<'j> Jiter<'j> {
     fn colon(&mut self) -> JiterResult<()>
@@ -71,6 +94,7 @@ impl<'j> Jiter<'j> {
             ≡ gave (option_map (λ x. x.now) key) self.new.position) }
         ensures colon { IfSome result
             (λ key. IfSome key (λ _. StandsBefore self.old.text self.new.position ascii.colon)) }
+        ensures index { (s : Step) → IsNext at next s → IfSome result (λ key. IfSome key (λ _. s ≡ more at)) }
         ensures same { result ≡ None → self.new ≡ self.old }
     {
         match next {
@@ -95,34 +119,65 @@ impl<'j> Jiter<'j> {
     }
 
     #[inline(always)]
-    fn fast_object(&mut self) -> Option<Option<&'j str>>
+    fn fast_object(&mut self) -> Option<(Option<&'j str>, usize)>
         ensures moves { MovesOn self.old self.new }
         ensures value { IfSome result
-            (λ key. reply_seen key_bytes (next self.old (object_read whole self.old))
-            ≡ gave (option_map (λ x. x.now) key) self.new.position) }
+            (λ r. reply_seen key_bytes (next self.old (object_read whole self.old))
+            ≡ gave (option_map (λ x. x.now) r.0) self.new.position) }
         ensures colon { IfSome result
-            (λ key. IfSome key (λ _. StandsBefore self.old.text self.new.position ascii.colon)) }
+            (λ r. IfSome r.0 (λ _. StandsBefore self.old.text self.new.position ascii.colon)) }
+        ensures index { IfSome result
+            (λ r. IfSome r.0 (λ _. step self.old.text object_first (value_place self.old + 1) ≡ more r.1)) }
         ensures same { result ≡ None → self.new ≡ self.old }
     {
         match peek_for(self.parser.bytes, self.parser.index, b'{') {
             (at, Some(b'{')) => {
                 let (at, next) = fast_first(self.parser.bytes, at + 1, ContainerKind::Object);
-                self.fast_key(at, next)
+                match self.fast_key(at, next) {
+                    Some(key) => Some((key, at)),
+                    None => None,
+                }
             }
             _ => None,
         }
     }
 
-    fn first_key(&mut self, alloc: Global, start: Start) -> JiterResult<Option<CowStr<'j>>>
+    #[inline(always)]
+    fn fast_next_key(&mut self) -> Option<(Option<&'j str>, usize)>
+        ensures moves { MovesOn self.old self.new }
+        ensures value { IfSome result
+            (λ r. reply_seen key_bytes (key_step whole self.old)
+            ≡ gave (option_map (λ x. x.now) r.0) self.new.position) }
+        ensures colon { IfSome result
+            (λ r. IfSome r.0 (λ _. StandsBefore self.old.text self.new.position ascii.colon)) }
+        ensures index { IfSome result (λ r. IfSome r.0
+            (λ _. step self.old.text (object_step self.old.text) self.old.position ≡ more r.1)) }
+        ensures same { result ≡ None → self.new ≡ self.old }
+    {
+        let (at, next) = known_fast_step(
+            self.parser.bytes,
+            self.parser.index,
+            ContainerKind::Object,
+        );
+        match self.fast_key(at, next) {
+            Some(key) => Some((key, at)),
+            None => None,
+        }
+    }
+
+    fn first_key(&mut self, alloc: Global, start: Start) -> JiterResult<Option<(CowStr<'j>, usize)>>
         requires { BeginsAs self.old start }
-        ensures reads { Reads (first_key_memory self.old.text self.old.position) (option_map text_view)
+        ensures reads { Reads (first_key_memory self.old.text self.old.position) (option_map indexed_key_view)
             (object_read whole self.old self.old.position start) result self.old self.new }
         ensures colon { EndsWithColon result self.old.text self.new.position }
+        ensures index { KeyIsAt (step self.old.text object_first (self.old.position + 1)) result }
     {
         match start {
             Start::Object => {
                 let first = self.parser.first(ContainerKind::Object);
-                self.key_there(alloc, first)
+                let at = self.parser.index;
+                let key = self.key_there(alloc, first)?;
+                Ok(indexed_key(key, at))
             }
             _ => Err(self.refused_as(JsonType::Object, start)),
         }
@@ -130,10 +185,11 @@ impl<'j> Jiter<'j> {
 
     // Reads what the fast path can't, and finds the error.
     #[inline(never)]
-    fn take_first_key(&mut self, alloc: Global) -> JiterResult<Option<CowStr<'j>>>
-        ensures reads { Reads (first_key_memory self.old.text (value_place self.old)) (option_map text_view)
+    fn take_first_key(&mut self, alloc: Global) -> JiterResult<Option<(CowStr<'j>, usize)>>
+        ensures reads { Reads (first_key_memory self.old.text (value_place self.old)) (option_map indexed_key_view)
             (next self.old (object_read whole self.old)) result self.old self.new }
         ensures colon { EndsWithColon result self.old.text self.new.position }
+        ensures index { KeyIsAt (step self.old.text object_first (value_place self.old + 1)) result }
     {
         let start = self.next_start()?;
         self.first_key(alloc, start)
@@ -141,13 +197,16 @@ impl<'j> Jiter<'j> {
 
     // The same of the next key.
     #[inline(never)]
-    fn take_key(&mut self, alloc: Global) -> JiterResult<Option<CowStr<'j>>>
-        ensures reads { Reads (next_key_memory self.old) (option_map text_view)
+    fn take_key(&mut self, alloc: Global) -> JiterResult<Option<(CowStr<'j>, usize)>>
+        ensures reads { Reads (next_key_memory self.old) (option_map indexed_key_view)
             (key_step whole self.old) result self.old self.new }
         ensures colon { EndsWithColon result self.old.text self.new.position }
+        ensures index { KeyIsAt (step self.old.text (object_step self.old.text) self.old.position) result }
     {
         let next = self.parser.step(ContainerKind::Object);
-        self.key_there(alloc, next)
+        let at = self.parser.index;
+        let key = self.key_there(alloc, next)?;
+        Ok(indexed_key(key, at))
     }
 
     fn key_bytes_there(&mut self, led: Result<bool, Fault>) -> JiterResult<Option<&'j [u8]>>
@@ -224,7 +283,7 @@ impl<'j> Jiter<'j> {
     {
         let key = self.take_first_key(alloc)?;
         match key {
-            Some(text) => {
+            Some((text, _)) => {
                 self.text = text;
                 Ok(Some(self.text.as_str()))
             }
@@ -260,7 +319,7 @@ impl<'j> Jiter<'j> {
         ensures* after { sem 𝓛 (LeavesReader (first_key_memory self.old.text (value_place self.old)) (option_map (λ x. x.now))
             (reply_seen key_bytes (next self.old (object_read whole self.old))) result self.entry) }
     {
-        if let Some(key) = self.fast_object() {
+        if let Some((key, _)) = self.fast_object() {
             return Ok(key);
         }
         self.slow_object(alloc)
@@ -288,7 +347,7 @@ impl<'j> Jiter<'j> {
     {
         let key = self.first_key(alloc, Start::Object)?;
         match key {
-            Some(text) => {
+            Some((text, _)) => {
                 self.text = text;
                 Ok(Some(self.text.as_str()))
             }
@@ -307,7 +366,7 @@ impl<'j> Jiter<'j> {
     {
         let key = self.take_key(alloc)?;
         match key {
-            Some(text) => {
+            Some((text, _)) => {
                 self.text = text;
                 Ok(Some(self.text.as_str()))
             }
@@ -344,14 +403,71 @@ impl<'j> Jiter<'j> {
         ensures* after { sem 𝓛 (LeavesReader (next_key_memory self.old) (option_map (λ x. x.now))
             (reply_seen key_bytes (key_step whole self.old)) result self.entry) }
     {
-        let (at, next) = known_fast_step(
-            self.parser.bytes,
-            self.parser.index,
-            ContainerKind::Object,
-        );
-        if let Some(key) = self.fast_key(at, next) {
+        if let Some((key, _)) = self.fast_next_key() {
             return Ok(key);
         }
         self.slow_key(alloc)
+    }
+
+    #[inline(always)]
+    fn slow_object_cow(&mut self, alloc: Global) -> JiterResult<Option<(CowStr<'j>, usize)>>
+        ensures reads { Reads (first_key_memory self.old.text (value_place self.old)) (option_map indexed_key_bytes)
+            (reply_seen key_bytes (next self.old (object_read whole self.old))) result self.old self.new }
+        ensures colon { EndsWithColon result self.old.text self.new.position }
+        ensures index { KeyIsAt (step self.old.text object_first (value_place self.old + 1)) result }
+    {
+        self.take_first_key(alloc)
+    }
+
+    /// Steps into the next object and returns its first key and the key's index, or `None` if it is empty
+    /// (RFC 8259, 4).
+    ///
+    /// The index is that of the key's opening quote. The key borrows from the document, not from the reader, so you can
+    /// keep it while you read on. Only a key with an escape is copied. Otherwise this is [`Jiter::next_object`].
+    ///
+    /// # Errors
+    ///
+    /// - the errors of [`Jiter::next_object`]; they leave the reader at the same position
+    pub fn next_object_cow(&mut self, alloc: Global) -> JiterResult<Option<(CowStr<'j>, usize)>>
+        ensures reads { Reads (first_key_memory self.old.text (value_place self.old)) (option_map indexed_key_bytes)
+            (reply_seen key_bytes (next self.old (object_read whole self.old))) result self.old self.new }
+        ensures colon { EndsWithColon result self.old.text self.new.position }
+        ensures index { KeyIsAt (step self.old.text object_first (value_place self.old + 1)) result }
+    {
+        if let Some((key, at)) = self.fast_object() {
+            return Ok(borrowed_key(key, at));
+        }
+        self.slow_object_cow(alloc)
+    }
+
+    #[inline(always)]
+    fn slow_key_cow(&mut self, alloc: Global) -> JiterResult<Option<(CowStr<'j>, usize)>>
+        ensures reads { Reads (next_key_memory self.old) (option_map indexed_key_bytes)
+            (reply_seen key_bytes (key_step whole self.old)) result self.old self.new }
+        ensures colon { EndsWithColon result self.old.text self.new.position }
+        ensures index { KeyIsAt (step self.old.text (object_step self.old.text) self.old.position) result }
+    {
+        self.take_key(alloc)
+    }
+
+    /// Moves past the comma after a member and returns the next key and its index, or `None` at the object's end
+    /// (RFC 8259, 4).
+    ///
+    /// The index is that of the key's opening quote. The key borrows from the document, not from the reader, so you can
+    /// keep it while you read on. Only a key with an escape is copied. Otherwise this is [`Jiter::next_key`].
+    ///
+    /// # Errors
+    ///
+    /// - the errors of [`Jiter::next_key`]; they leave the reader at the same position
+    pub fn next_key_cow(&mut self, alloc: Global) -> JiterResult<Option<(CowStr<'j>, usize)>>
+        ensures reads { Reads (next_key_memory self.old) (option_map indexed_key_bytes)
+            (reply_seen key_bytes (key_step whole self.old)) result self.old self.new }
+        ensures colon { EndsWithColon result self.old.text self.new.position }
+        ensures index { KeyIsAt (step self.old.text (object_step self.old.text) self.old.position) result }
+    {
+        if let Some((key, at)) = self.fast_next_key() {
+            return Ok(borrowed_key(key, at));
+        }
+        self.slow_key_cow(alloc)
     }
 }

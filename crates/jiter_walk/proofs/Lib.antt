@@ -1,0 +1,12 @@
+pub mod Coming
+pub mod Documents
+pub mod ItemForm
+pub mod MemberForm
+pub mod Numerals
+pub mod Outcomes
+pub mod PartWalk
+pub mod Passing
+pub mod ScalarWalk
+pub mod Seen
+pub mod SkipsMore
+pub mod Unblank

@@ -1,0 +1,48 @@
+use Rattle.std.proofs.Common.{◌∙◌, ap, arith, sym}
+use Rattle.jiter.specs.Caller.{begin}
+use Rattle.jiter_walk.specs.Floats.{double}
+use Rattle.jiter_walk.specs.Values.{number_in}
+use Rattle.jiter_walk.specs.Walk.{custom, fails}
+use Rattle.jiter_walk.proofs.Coming.{walks-after_peek}
+use Rattle.jiter_walk.proofs.Outcomes.{fits, fits-not}
+use Rattle.jiter_walk.proofs.Passing.{reader-fails}
+use Rattle.jiter_walk.proofs.float.next_f64.Goals as goal
+
+pub returns-in_err-at : goal.returns-in_err-at
+returns-in_err-at g c =
+    let h = c.in_err-at.ensures in
+    reader-fails _ _ _ _ _ h.moves c.in_err-at.field-0.0 c.from_residual.ensures.1 (λ n comes bytes. absurd (h.begins n comes))
+    h.index (λ m. absurd (h.memory m))
+
+pub returns-in-None : goal.returns-in-None
+returns-in-None g c =
+    let s0 = c.args.jiter.now in
+    let place = c.in_ok-at.ensures in
+    let w = walks-after_peek _ _ _ s0 _ _ place.moves (place.place.1 ∙ place.place.0) c.in_ok-next_number.ensures in
+    record {
+      moves = w.moves;
+      value = λ n comes bytes.
+          fits-not double c.args.cause (begin n) (number_in s0.text n) _ (w.value n comes)
+          (sym c.double.ensures ∙ c.in-None.is)
+          ∙ ap (fails (custom c.args.cause)) (sym (place.begins n comes));
+      place = λ n comes. tt;
+      reads = λ strict. tt;
+      index = omega (arith, place.place.1, place.moves.within);
+      memory = λ m. absurd (cc);
+    }
+
+pub returns-in-Some : goal.returns-in-Some
+returns-in-Some g c =
+    let s0 = c.args.jiter.now in
+    let place = c.in_ok-at.ensures in
+    let w = walks-after_peek _ _ _ s0 _ _ place.moves (place.place.1 ∙ place.place.0) c.in_ok-next_number.ensures in
+    record {
+      moves = w.moves;
+      value = λ n comes.
+          fits double c.args.cause (begin n) (number_in s0.text n) _ _ (w.value n comes)
+          (sym c.double.ensures ∙ c.in-Some.is);
+      place = w.place;
+      reads = w.reads;
+      index = tt;
+      memory = tt;
+    }

@@ -1,0 +1,10 @@
+pub mod Names
+pub mod Floats
+pub mod Integers
+pub mod ListShown
+pub mod Meanings
+pub mod Shown
+pub mod Table
+pub mod TableLaw
+pub mod Values
+pub mod Walk

@@ -1,0 +1,226 @@
+-- Of a walk by a table: each field is what the last member of its name is. These are proofs, which no reader has to
+-- believe, as in Shown. No proof here calls a tactic.
+use Rattle.std.proofs.Common.{◌≡◌, ◌∙◌, ◌⊎◌, inl, inr, ◌-◌, ℕ, Bool, true, false, not, List, [], ◌∷◌, refl, sym, ap, subst, ◌&&◌}
+use Rattle.std.specs.Prelude.{Option, Some, None, if◌then◌else◌, option_map, slice_range, unwrap_or}
+use Rattle.std.specs.Str.{bytes_eq}
+use Rattle.std.proofs.lemmas.Bool.{and_parts, false≢true}
+use Rattle.std.proofs.lemmas.Slice.Eq.{bytes_eq-Decides}
+use Rattle.jiter.specs.Caller.{Literal, Node, NodeMembers, Number, Tree, end, last_such, member_named, members_of}
+use Rattle.jiter.specs.Caller.{number_tree, number_value, value_of}
+use Rattle.jiter.specs.Parts.{last_named}
+use Rattle.jiter_walk.specs.Walk.{Finished, Outcome, and_then, complete, finished, gives, key_text, members_walked}
+use Rattle.jiter_walk.specs.Walk.{missing, object_walked}
+use Rattle.jiter_walk.specs.Table.{Absent, Field, FieldHolds, Final, Finals, HasNo, Holds, LastIs, Meaning, Repeated, Slots}
+use Rattle.jiter_walk.specs.Table.{Table, Unknown, all_empty, all_final, and_finally, differs, distinct, final, object_in}
+use Rattle.jiter_walk.specs.Table.{set, set_among, unless_repeated, unless_unknown}
+use Rattle.jiter_walk.specs.Shown.{and_then-gives, gives-same, given, nothing-some, some-same}
+
+-- the value of the last member of this name, if there is one
+abbrev last_member : List ℕ → List ℕ → Node → Option Node
+last_member key t (Node.object b e ms) = last_named t key None ms
+last_member key t n = None
+
+if-true : {X : Type 0} (b : Bool) (x y : X) → b ≡ true → (if b then x else y) ≡ x
+if-true true x y h = refl
+if-true false x y h = absurd (false≢true h)
+
+if-false : {X : Type 0} (b : Bool) (x y : X) → b ≡ false → (if b then x else y) ≡ y
+if-false false x y h = refl
+if-false true x y h = absurd (false≢true (sym h))
+
+not-true : (b : Bool) → not b ≡ true → b ≡ false
+not-true false h = refl
+not-true true h = absurd (false≢true h)
+
+-- ---- after each member
+-- a slot holds what was found last under its key
+abbrev pub Keeps : {C A : Type 0} → (List ℕ → Node → Outcome C A) → List ℕ → Option Node → Option A → Type 0
+Keeps of t None s = s ≡ None
+Keeps of t (Some n) s = (a : _) × (of t n ≡ gives a) × (s ≡ Some a)
+
+abbrev pub AllKeep : {C : Type 0} (fs : List (Field C)) → List ℕ → (List ℕ → Option Node) → Slots fs → Type 0
+AllKeep [] t found s = Unit {0}
+AllKeep (f ∷ fs) t found s = Keeps f.meaning.of t (found f.key) s.0 × AllKeep fs t found s.1
+
+all-keep-none : {C : Type 0} (fs : List (Field C)) (t : List ℕ) → AllKeep fs t (λ key. None) (all_empty fs)
+all-keep-none [] t = tt
+all-keep-none (f ∷ fs) t = (refl, all-keep-none fs t)
+
+-- a value that a slot gets is what was read
+slot-gives : {C A : Type 0} (w : Repeated C) (i : ℕ) (s : Option A) (o : Outcome C A) (a : A)
+    → unless_repeated w i s o ≡ gives a → o ≡ gives a
+slot-gives Repeated.last_counts i s o a h = h
+slot-gives (Repeated.error c) i None o a h = h
+slot-gives (Repeated.error c) i (Some b) o a h = absurd (nothing-some a (ap given h))
+
+known-gives : {C S : Type 0} (u : Unknown C) (i : ℕ) (s r : S) → unless_unknown u i s ≡ gives r → s ≡ r
+known-gives {C = C} Unknown.skipped i s r h = gives-same {C = C} s r h
+known-gives (Unknown.error c) i s r h = absurd (nothing-some r (ap given h))
+
+-- what was found, with a member more
+abbrev pub found_too : List ℕ → Node → (List ℕ → Option Node) → List ℕ → Option Node
+found_too k n found key = if bytes_eq k key then Some n else found key
+
+module _ {C : Type 0} (t k : List ℕ) (n : Node) (found : List ℕ → Option Node) where
+  -- no field has the key
+  untouched : (key : List ℕ) (fs : List (Field C)) → bytes_eq k key ≡ true → differs key fs ≡ true → (s : Slots fs)
+      → AllKeep fs t found s → AllKeep fs t (found_too k n found) s
+  untouched key [] same apart s h = tt
+  untouched key (f ∷ fs) same apart s h =
+      let parts = and_parts (not (bytes_eq key f.key)) (differs key fs) apart in
+      let other : bytes_eq k f.key ≡ false =
+      ap (λ x. bytes_eq x f.key) ((bytes_eq-Decides k key).0 same) ∙ not-true (bytes_eq key f.key) parts.0 in (
+        subst (λ o. Keeps f.meaning.of t o s.0) (sym (if-false (bytes_eq k f.key) (Some n) (found f.key) other)) h.0,
+        untouched key fs same parts.1 s.1 h.1,
+      )
+
+  kept : {S : Type 0} (u : Unknown C) (i : ℕ) (fs : List (Field C)) (put : Slots fs → S) (s : Slots fs) (r : S)
+      → distinct fs ≡ true → set_among u fs put t k i n s ≡ gives r → AllKeep fs t found s
+      → (s1 : Slots fs) × (r ≡ put s1) × AllKeep fs t (found_too k n found) s1
+  kept u i [] put s r apart h so_far = (s, sym (known-gives u i (put s) r h), tt)
+  kept {S = S} u i (f ∷ fs) put s r apart h so_far =
+      by (bytes_eq k f.key) refl h
+      (λ g. kept u i fs (λ x. put (s.0, x)) s.1 r (and_parts (differs f.key fs) (distinct fs) apart).1 g so_far.1) where
+        by : (b : Bool) → bytes_eq k f.key ≡ b
+            → (if b then and_then (unless_repeated f.repeated i s.0 (f.meaning.of t n)) (λ a. gives (put (Some a, s.1)))
+            else set_among u fs (λ x. put (s.0, x)) t k i n s.1) ≡ gives r
+            → (set_among u fs (λ x. put (s.0, x)) t k i n s.1 ≡ gives r
+            → (s1 : Slots fs) × (r ≡ put (s.0, s1)) × AllKeep fs t (found_too k n found) s1)
+            → (s1 : Slots (f ∷ fs)) × (r ≡ put s1) × AllKeep (f ∷ fs) t (found_too k n found) s1
+        by true is h more =
+            let first = and_then-gives (unless_repeated f.repeated i s.0 (f.meaning.of t n)) (λ a. gives (put (Some a, s.1))) r h in (
+              (Some first.0, s.1),
+              sym (gives-same (put (Some first.0, s.1)) r first.2),
+              (
+                subst (λ o. Keeps f.meaning.of t o (Some first.0)) (sym (if-true (bytes_eq k f.key) (Some n) (found f.key) is))
+                    (first.0, slot-gives f.repeated i s.0 (f.meaning.of t n) first.0 first.1, refl),
+                untouched f.key fs is (and_parts (differs f.key fs) (distinct fs) apart).0 s.1 so_far.1,
+              ),
+            )
+        by false is h more =
+            let rest = more h in (
+              (s.0, rest.0),
+              rest.1,
+              (
+                subst (λ o. Keeps f.meaning.of t o s.0) (sym (if-false (bytes_eq k f.key) (Some n) (found f.key) is)) so_far.0,
+                rest.2,
+              ),
+            )
+
+module _ {C : Type 0} (x : Table C) (apart : distinct x.fields ≡ true) (t : List ℕ) where
+  abbrev fs : List (Field C)
+  fs = x.fields
+
+  all-kept : (ms : NodeMembers) (found : List ℕ → Option Node) (s r : Slots fs) → members_walked (set x) t s ms ≡ gives r
+      → AllKeep fs t found s → AllKeep fs t (λ key. last_named t key (found key) ms) r
+  all-kept NodeMembers.no_members found s r h so_far = subst (AllKeep fs t found) (gives-same s r h) so_far
+  all-kept (NodeMembers.member k n ms) found s r h so_far =
+      let first = and_then-gives (set x t (key_text t k) k.begin n s) (λ y. members_walked (set x) t y ms) r h in
+      let one = kept t (key_text t k) n found x.unknown k.begin fs (λ y. y) s first.0 apart first.1 so_far in
+      all-kept ms (found_too (key_text t k) n found) first.0 r first.2
+      (subst (AllKeep fs t (found_too (key_text t k) n found)) (sym one.1) one.2)
+
+  -- After an object.
+  object-kept : (n : Node) (r : Slots fs) → object_walked (set x) (all_empty fs) t n ≡ gives r
+      → AllKeep fs t (λ key. last_member key t n) r
+  object-kept (Node.object b e ms) r h = all-kept ms (λ key. None) (all_empty fs) r h (all-keep-none fs t)
+  object-kept n r h = absurd (nothing-some r (ap given h))
+
+-- ---- in the words of trees
+mapped : {X Y : Type 0} (f : X → Y) (b : Bool) (x : X) (found : Option X)
+    → option_map f (if b then Some x else found) ≡ (if b then Some (f x) else option_map f found)
+mapped f true x found = refl
+mapped f false x found = refl
+
+values-last : (t key : List ℕ) (ms : NodeMembers) (found : Option Node)
+    → option_map (value_of t) (last_named t key found ms)
+    ≡ last_such (λ k. bytes_eq k key) (option_map (value_of t) found) (members_of t ms)
+values-last t key NodeMembers.no_members found = refl
+values-last t key (NodeMembers.member k n ms) found =
+    values-last t key ms (if bytes_eq (key_text t k) key then Some n else found)
+    ∙ ap (λ o. last_such (λ j. bytes_eq j key) o (members_of t ms))
+    (mapped (value_of t) (bytes_eq (key_text t k) key) n found)
+
+no_member : (key : List ℕ) (n : Number) → None ≡ member_named key (number_tree n)
+no_member key (Number.integer z) = refl
+no_member key (Number.big w) = refl
+no_member key (Number.float w) = refl
+
+pub value-last : (t key : List ℕ) (n : Node)
+    → option_map (value_of t) (last_member key t n) ≡ member_named key (value_of t n)
+value-last t key (Node.object b e ms) = values-last t key ms None
+value-last t key (Node.literal Literal.Null b e) = refl
+value-last t key (Node.literal Literal.True b e) = refl
+value-last t key (Node.literal Literal.False b e) = refl
+value-last t key (Node.number b e) = no_member key (number_value (slice_range t b e))
+value-last t key (Node.string ps b e) = refl
+value-last t key (Node.array b e ns) = refl
+
+-- ---- what all members come to
+abbrev completed : {C A : Type 0} → Finished C A → Option A
+completed (complete a) = Some a
+completed (missing c) = None
+
+complete-same : {C A : Type 0} (a b : A) → ◌≡◌ {A = Finished C A} (complete a) (complete b) → a ≡ b
+complete-same a b h = some-same a b (ap completed h)
+
+and_finally-complete : {C A B : Type 0} (x : Finished C A) (g : A → Finished C B) (r : B) → and_finally x g ≡ complete r
+    → (a : A) × (x ≡ complete a) × (g a ≡ complete r)
+and_finally-complete (complete a) g r h = (a, refl, h)
+and_finally-complete (missing c) g r h = absurd (nothing-some r (ap completed h))
+
+finished-gives : {C A : Type 0} (x : Finished C A) (i : ℕ) (a : A) → finished x i ≡ gives a → x ≡ complete a
+finished-gives {C = C} (complete b) i a h = ap complete (gives-same {C = C} b a h)
+finished-gives (missing c) i a h = absurd (nothing-some a (ap given h))
+
+module _ {C A : Type 0} (m : Meaning C A) (t key : List ℕ) (v : Tree) where
+  -- what was found, in the tree
+  abbrev IsFound : Option Node → Type 0
+  IsFound found = option_map (value_of t) found ≡ member_named key v
+
+  last-is : (n : Node) (a b : A) → IsFound (Some n) → m.of t n ≡ gives a → a ≡ b → LastIs m.Is v key b
+  last-is n a b there h same = record {
+    value = value_of t n;
+    last = sym there;
+    is = subst (m.Is (value_of t n)) same (m.shows t n a h);
+  }
+
+  holds : (w : Absent C A) (found : Option Node) (s : Option A) (x : Final w) → IsFound found
+      → Keeps m.of t found s → final w s ≡ complete x → FieldHolds m.Is w key v x
+  holds (Absent.error c) None None x there h is = absurd (nothing-some x (ap completed is))
+  holds (Absent.error c) None (Some y) x there h is = absurd (nothing-some y (sym h))
+  holds (Absent.error c) (Some n) None x there h is = absurd (nothing-some x (ap completed is))
+  holds (Absent.error c) (Some n) (Some y) x there h is =
+      last-is n h.0 x there h.1 (sym (some-same y h.0 h.2) ∙ complete-same {C = C} y x is)
+  holds Absent.nothing None s None there h is = sym there
+  holds Absent.nothing None s (Some x) there h is = absurd (nothing-some x (sym h ∙ complete-same {C = C} s (Some x) is))
+  holds Absent.nothing (Some n) s None there h is =
+      absurd (nothing-some h.0 (sym (complete-same {C = C} s None is) ∙ h.2))
+  holds Absent.nothing (Some n) s (Some x) there h is =
+      last-is n h.0 x there h.1 (some-same h.0 x (sym h.2 ∙ complete-same {C = C} s (Some x) is))
+  holds (Absent.default d) None s x there h is =
+      inr (sym there, sym (complete-same {C = C} (unwrap_or s d) x is) ∙ ap (λ o. unwrap_or o d) h)
+  holds (Absent.default d) (Some n) s x there h is =
+      inl (last-is n h.0 x there h.1
+      (sym (ap (λ o. unwrap_or o d) h.2) ∙ complete-same {C = C} (unwrap_or s d) x is))
+
+all-hold : {C : Type 0} (fs : List (Field C)) (t : List ℕ) (n : Node) (s : Slots fs) (x : Finals fs)
+    → AllKeep fs t (λ key. last_member key t n) s → all_final fs s ≡ complete x → Holds fs (value_of t n) x
+all-hold [] t n s x h is = tt
+all-hold (f ∷ fs) t n s x h is =
+    let first = and_finally-complete (final f.absent s.0) (λ y. and_finally (all_final fs s.1) (λ r. complete (y, r))) x is in
+    let rest = and_finally-complete (all_final fs s.1) (λ r. complete (first.0, r)) x first.2 in
+    let same : (first.0, rest.0) ≡ x = complete-same (first.0, rest.0) x rest.2 in
+    subst (Holds (f ∷ fs) (value_of t n)) same (
+      holds f.meaning t f.key (value_of t n) f.absent (last_member f.key t n) s.0 first.0 (value-last t f.key n) h.0 first.1,
+      all-hold fs t n s.1 rest.0 h.1 rest.1,
+    )
+
+-- What a node means by a table is what its tree has.
+pub object-shows : {C : Type 0} (x : Table C) → distinct x.fields ≡ true → (t : List ℕ) (n : Node) (r : Finals x.fields)
+    → object_in x t n ≡ gives r → Holds x.fields (value_of t n) r
+object-shows x apart t n r h =
+    let both = and_then-gives (object_walked (set x) (all_empty x.fields) t n)
+    (λ s. finished (all_final x.fields s) (end n - 1)) r h in
+    all-hold x.fields t n both.0 r (object-kept x apart t n both.0 both.1)
+    (finished-gives (all_final x.fields both.0) (end n - 1) r both.2)
