@@ -1,10 +1,15 @@
-# Builds and installs the programs: `make` proves and builds each, `make install PREFIX=/usr/local` copies them.
-# `make c` and `make install-c` do the same for the library for C.
+# Builds and installs the programs: `make` proves and builds each, `make install PREFIX=/usr/local` copies them, with a manual
+# page and bash's completions of each, made of its `--help`. `make c` and `make install-c` do the same for the library for C.
 # `rt run` writes a proved program to crates/NAME/out/NAME; what it writes on its own input is not looked at here.
 PREFIX ?= /usr/local
-PROGRAMS = look config csv_of filter importer viewer
+# Installed, a program's name begins so: `look`, `filter` and `viewer` are names of other programs too.
+PROGRAM_PREFIX ?= jiter-
+PROGRAMS = look csv_of filter importer viewer
 BUILT = $(foreach name,$(PROGRAMS),crates/$(name)/out/$(name))
 LIBRARIES = $(wildcard crates/jiter*/src/*.rt crates/jiter*/src/*/*.rt crates/json_lines/src/*.rt crates/json_screen/src/*.rt)
+BIN = $(DESTDIR)$(PREFIX)/bin
+MANUALS = $(DESTDIR)$(PREFIX)/share/man/man1
+COMPLETIONS = $(DESTDIR)$(PREFIX)/share/bash-completion/completions
 
 all: $(BUILT)
 
@@ -13,9 +18,20 @@ $(BUILT): $$(wildcard $$(dir $$(patsubst %/,%,$$(dir $$@)))src/*.rt) $(LIBRARIES
 	rm -f $@
 	cd $(dir $(patsubst %/,%,$(dir $@))) && rt run </dev/null >/dev/null; test -x out/$(notdir $@)
 
+# PROGRAM,NAME: what prints the help of a program that is installed under this name. `look` takes no `--help`.
+help = $(if $(filter look,$(notdir $(1))),cat crates/look/help,$(BIN)/$(2) --help)
+
+# PROGRAM,NAME: installs a program under this name.
+define install_program
+	install $(1) $(BIN)/$(2)
+	$(call help,$(1),$(2)) | awk -v name=$(2) -f manual.awk >$(MANUALS)/$(2).1
+	$(call help,$(1),$(2)) | awk -v name=$(2) -v form=completion -f manual.awk >$(COMPLETIONS)/$(2)
+
+endef
+
 install: all
-	install -d $(DESTDIR)$(PREFIX)/bin
-	install $(BUILT) $(DESTDIR)$(PREFIX)/bin
+	install -d $(BIN) $(MANUALS) $(COMPLETIONS)
+	$(foreach program,$(BUILT),$(call install_program,$(program),$(PROGRAM_PREFIX)$(notdir $(program))))
 
 c:
 	$(MAKE) -C ffi
@@ -24,6 +40,6 @@ install-c:
 	$(MAKE) -C ffi install PREFIX=$(PREFIX)
 
 uninstall:
-	rm -f $(addprefix $(DESTDIR)$(PREFIX)/bin/,$(PROGRAMS))
+	rm -f $(foreach name,$(addprefix $(PROGRAM_PREFIX),$(PROGRAMS)),$(BIN)/$(name) $(MANUALS)/$(name).1 $(COMPLETIONS)/$(name))
 
 .PHONY: all install c install-c uninstall

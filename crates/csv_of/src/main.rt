@@ -1,49 +1,83 @@
-//! Converts logs of JSON lines to CSV (RFC 4180): a row for each line, of three members of its object.
+//! Converts logs of JSON lines to CSV (RFC 4180): a row for each line, with a cell for each column.
 #![tactic(auto)]
 
+mod columns;
 mod row;
 #[cfg(test)]
 mod tests;
 
-use clap::{Arg, ArgMatches, Command};
+use clap::{Arg, ArgAction, ArgMatches, Command};
+use columns::{Column, Columns};
+use jiter_print::write_line;
 use json_lines::{Program, base_command, convert_logs, main_of};
-use row::Names;
+use row::header_of;
 use std::alloc::{AllocError, Global};
 use std::io;
 use std::process::ExitCode;
 
 const ABOUT: &str =
-    "Reads JSON lines. Writes a CSV row of three members of each object to standard output, \
-    and `FILE:LINE:COLUMN: cause` of each line without a row to standard error.";
+    "Converts JSON lines to CSV. Each line is an object, and becomes a row on standard output. \
+    `FILE:LINE:COLUMN: cause` is written for each line without a row to standard error. Lines of whitespace are passed \
+    over.\n\nA string becomes its text between quotes. A number, `true` and `false` become their compact JSON text. A \
+    value that is missing or `null` is an empty cell.";
 
-impl Program for Names<'_> {
+const COLUMN: &str =
+    "A column: a member's name as `id`, a JSON Pointer as `/user/name`, or a name for the header and a pointer as \
+    `user=/user/name`; `~1` is a slash and `~0` a tilde in a pointer";
+
+fn flag<'a>(alloc: Global, name: &'a str, help: &'a str) -> Arg<'a> {
+    Arg::new(alloc, name)
+        .long(name)
+        .action(ArgAction::SetTrue)
+        .help(help)
+}
+
+impl Program for Columns<'_> {
     const NAME: &'static str = "csv_of";
 
     fn command<'a>(alloc: Global) -> Result<Command<'a>, AllocError> {
         let columns = Arg::new(alloc, "columns")
-            .long("columns")
-            .value_names(&["FIRST", "SECOND", "THIRD"])
-            .num_args(3)
+            .long("column")
+            .value_name("COLUMN")
+            .action(ArgAction::Append)
             .required(true)
-            .help("The names of the members; one that is missing or null is an empty cell");
+            .help(COLUMN);
         let files = "The logs; standard input if there is none";
-        base_command(alloc, Self::NAME, ABOUT, files)?.arg(columns)
+        let nested =
+            "Write an array or an object as its compact text between quotes; without this its line is refused";
+        base_command(alloc, Self::NAME, ABOUT, files)?
+            .arg(columns)?
+            .arg(flag(
+                alloc,
+                "header",
+                "Write the columns' names before the first row",
+            ))?
+            .arg(flag(alloc, "nested", nested))
     }
 
     fn run(rt: &HostRuntime, matches: &ArgMatches<'_>) -> io::Result<u8> {
-        // The command demands three names.
-        let Some(&[first, second, third]) = matches.get_strs("columns") else {
+        // The command demands a column.
+        let Some((first, words)) = matches.get_strs("columns").and_then(|it| it.split_first())
+        else {
             return Ok(2);
         };
-        let names = Names {
-            first,
-            second,
-            third,
+        let mut others = Vec::new(rt.alloc());
+        for word in words {
+            others.push(Column::of_word(word))?;
+        }
+        let columns = Columns {
+            first: Column::of_word(first),
+            others,
+            nested: matches.get_flag("nested"),
         };
-        Ok(convert_logs(rt, Self::NAME, matches, &names).0)
+        if matches.get_flag("header") {
+            let header = header_of(rt.alloc(), &columns)?;
+            write_line(&mut rt.stdout(), header.as_slice())?;
+        }
+        Ok(convert_logs(rt, Self::NAME, matches, &columns).0)
     }
 }
 
 fn main(rt: HostRuntime) -> ExitCode {
-    main_of::<Names<'static>>(&rt)
+    main_of::<Columns<'static>>(&rt)
 }

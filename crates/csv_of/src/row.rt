@@ -1,25 +1,16 @@
-//! The CSV row of a line (RFC 4180): three members of a JSON object.
+//! The CSV row of a line (RFC 4180): a cell for each column.
 ghost use Rattle.std.specs.Prelude.{◌≡◌, IfOk, false, option_map};
 ghost use Rattle.jiter.specs.Caller.{IsUniqueDocument, Node, value_of, view};
 ghost use Rattle.json_lines.specs.Line.{seen};
-ghost use Rattle.csv_of.specs.Row.{Becomes, cell_in, cell_named, cell_view, copies, no_cell, outcome_of, quoted};
+ghost use Rattle.csv_of.specs.Row.{Becomes, cell_in, cell_of, cell_view, copies, header_of, no_cell, outcome_of, quoted};
+ghost use Rattle.csv_of.specs.Row.{row_of, shown_by};
 
+use crate::columns::{Column, Columns};
 use jiter::{JsonValue, PartialMode};
 use jiter_print::print;
 use json_lines::{Convert, Outcome};
 use std::alloc::{AllocError, Global};
 use std::iter;
-
-/// The names of the members that make a row, in order.
-#[derive(Clone, Copy)]
-pub struct Names<'n> {
-    /// The first cell's member.
-    pub first: &'n str,
-    /// The second cell's member.
-    pub second: &'n str,
-    /// The third cell's member.
-    pub third: &'n str,
-}
 
 type Cell = Option<Vec<u8>>;
 
@@ -29,12 +20,13 @@ fn copies(byte: u8) -> usize
     if byte == b'"' { 2 } else { 1 }
 }
 
-// A string between quotes, with each quote in it written twice.
-fn quote(alloc: Global, text: &str) -> Result<Vec<u8>, AllocError>
+// A text between quotes, with each quote in it written twice.
+fn quote(alloc: Global, text: &[u8]) -> Result<Vec<u8>, AllocError>
     ensures { IfOk result (λ cell. cell.items ≡ quoted text.now) }
 {
     let doubled: Vec<u8> = text
-        .bytes()
+        .iter()
+        .copied()
         .flat_map(|byte| iter::repeat_n(byte, copies(byte)))
         .collect(alloc)?;
     let mut cell = Vec::new(alloc);
@@ -44,63 +36,117 @@ fn quote(alloc: Global, text: &str) -> Result<Vec<u8>, AllocError>
     Ok(cell)
 }
 
-fn cell_in(alloc: Global, value: &JsonValue<'_>) -> Result<Cell, AllocError>
-    ensures { IfOk result (λ cell. cell_view cell ≡ cell_in (view value.now)) }
+fn cell_in(alloc: Global, nested: bool, value: &JsonValue<'_>) -> Result<Cell, AllocError>
+    ensures { IfOk result (λ cell. cell_view cell ≡ cell_in nested (view value.now)) }
 {
     match value {
         JsonValue::Null => Ok(Some(Vec::new(alloc))),
-        JsonValue::Int(_) | JsonValue::BigInt(_) | JsonValue::Float(_) => {
+        JsonValue::Bool(_) | JsonValue::Int(_) | JsonValue::BigInt(_) | JsonValue::Float(_) => {
             Ok(Some(print(alloc, value)?))
         }
-        JsonValue::Str(text) => Ok(Some(quote(alloc, text.as_str())?)),
-        JsonValue::Bool(_) | JsonValue::Array(_) | JsonValue::Object(_) => Ok(None),
+        JsonValue::Str(text) => Ok(Some(quote(alloc, text.as_str().as_bytes())?)),
+        JsonValue::Array(_) | JsonValue::Object(_) => {
+            if !nested {
+                return Ok(None);
+            }
+            let text = print(alloc, value)?;
+            Ok(Some(quote(alloc, text.as_slice())?))
+        }
     }
 }
 
-// A member that is missing makes an empty cell, as `null` does.
-fn cell_named(alloc: Global, name: &str, object: &JsonValue<'_>) -> Result<Cell, AllocError>
-    ensures { IfOk result (λ cell. cell_view cell ≡ cell_named name.now (view object.now)) }
+fn shown<'v, 's>(column: &Column<'_>, object: &'v JsonValue<'s>) -> Option<&'v JsonValue<'s>>
+    ensures { option_map (λ v. view v.now) result ≡ shown_by (option_map (λ p. p.now) column.now.pointer)
+        column.now.name.now (view object.now) }
 {
-    cell_in(alloc, object.get(name).unwrap_or(&JsonValue::Null))
+    match column.pointer {
+        Some(pointer) => object.pointer(pointer),
+        None => object.get(column.name),
+    }
+}
+
+// A value that is missing makes an empty cell, as `null` does.
+fn cell_of(
+    alloc: Global,
+    nested: bool,
+    column: &Column<'_>,
+    object: &JsonValue<'_>,
+) -> Result<Cell, AllocError>
+    ensures { IfOk result (λ cell. cell_view cell ≡ cell_of nested column.now (view object.now)) }
+{
+    cell_in(
+        alloc,
+        nested,
+        shown(column, object).unwrap_or(&JsonValue::Null),
+    )
 }
 
 fn no_cell(alloc: Global, name: &str) -> Result<Outcome, AllocError>
     ensures { IfOk result (λ outcome. seen outcome ≡ no_cell name.now) }
 {
-    let cause = format!(in alloc; "member {name} is not a string, a number or null")?;
+    let cause = format!(in alloc; "the value of {name} is an array or an object")?;
     Ok(Outcome::Refused(1, cause))
 }
 
-fn outcome_of(alloc: Global, names: Names<'_>, value: &JsonValue<'_>) -> Result<Outcome, AllocError>
-    ensures { IfOk result (λ outcome. seen outcome ≡ outcome_of names.entry (view value.now)) }
+fn row_of(
+    alloc: Global,
+    columns: &Columns<'_>,
+    object: &JsonValue<'_>,
+) -> Result<Outcome, AllocError>
+    ensures { IfOk result (λ outcome. seen outcome ≡ row_of columns.now (view object.now)) }
 {
-    if value.as_object().is_none() {
-        return Ok(Outcome::Refused(1, String::from_str(alloc, "not an object")?));
+    let Some(mut row) = cell_of(alloc, columns.nested, &columns.first, object)? else {
+        return no_cell(alloc, columns.first.name);
+    };
+    for column in &columns.others {
+        let Some(cell) = cell_of(alloc, columns.nested, column, object)? else {
+            return no_cell(alloc, column.name);
+        };
+        row.push(b',')?;
+        row.extend_from_slice(cell.as_slice())?;
     }
-    let Some(mut row) = cell_named(alloc, names.first, value)? else {
-        return no_cell(alloc, names.first);
-    };
-    let Some(second) = cell_named(alloc, names.second, value)? else {
-        return no_cell(alloc, names.second);
-    };
-    let Some(third) = cell_named(alloc, names.third, value)? else {
-        return no_cell(alloc, names.third);
-    };
-    row.push(b',')?;
-    row.extend_from_slice(second.as_slice())?;
-    row.push(b',')?;
-    row.extend_from_slice(third.as_slice())?;
     row.extend_from_slice(b"\r\n")?;
     Ok(Outcome::Text(row))
 }
 
-impl Convert for Names<'_> {
+fn outcome_of(
+    alloc: Global,
+    columns: &Columns<'_>,
+    value: &JsonValue<'_>,
+) -> Result<Outcome, AllocError>
+    ensures { IfOk result (λ outcome. seen outcome ≡ outcome_of columns.now (view value.now)) }
+{
+    if value.as_object().is_none() {
+        return Ok(Outcome::Refused(1, String::from_str(alloc, "not an object")?));
+    }
+    row_of(alloc, columns, value)
+}
+
+/// Returns the row of the columns' names, each between quotes.
+///
+/// # Errors
+///
+/// - `AllocError` if an allocation fails
+pub fn header_of(alloc: Global, columns: &Columns<'_>) -> Result<Vec<u8>, AllocError>
+    ensures { IfOk result (λ row. row.items ≡ header_of columns.now) }
+{
+    let mut row = quote(alloc, columns.first.name.as_bytes())?;
+    for column in &columns.others {
+        row.push(b',')?;
+        row.extend_from_slice(quote(alloc, column.name.as_bytes())?.as_slice())?;
+    }
+    row.extend_from_slice(b"\r\n")?;
+    Ok(row)
+}
+
+impl Convert for Columns<'_> {
     ghost becomes = { Becomes };
 
     /// Converts a line to its row, or to the reason why it has none.
     ///
-    /// A string becomes its decoded text between quotes, a number its compact text. `null` and a member that is missing
-    /// become an empty cell. An error of the document is at its byte, any other one at the line's first column.
+    /// A string becomes its decoded text between quotes; a number, `true` and `false` become their compact text. `null` and
+    /// a value that is missing become an empty cell. An array or an object becomes its compact text between quotes, or the
+    /// line is refused. An error of the document is at its byte, any other one at the line's first column.
     ///
     /// # Errors
     ///
@@ -113,7 +159,7 @@ impl Convert for Names<'_> {
         ensures first { IfOk result (λ outcome. Becomes self.now line.now (seen outcome)) }
     {
         match JsonValue::parse_unique(alloc, line, false, PartialMode::Off) {
-            Ok(value) => outcome_of(alloc, *self, &value),
+            Ok(value) => outcome_of(alloc, self, &value),
             Err(error) if error.is_memory() => Err(AllocError),
             Err(error) => {
                 let cause = format!(in alloc; "{}", error.error_type)?;

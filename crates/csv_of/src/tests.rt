@@ -1,18 +1,20 @@
 //! What lines become: rows, or errors with their columns.
-use crate::row::Names;
+use crate::columns::{Column, Columns};
 use json_lines::{Convert, Outcome};
 use std::alloc::AllocError;
 use std::test::*;
 
-const NAMES: Names<'static> = Names {
-    first: "id",
-    second: "name",
-    third: "amount",
-};
-
 // Whether the line becomes these bytes: its row, or the column and the words of its error.
 fn becomes(rt: &HostRuntime, line: &[u8], wanted: &[u8]) -> Result<bool, AllocError> {
-    match NAMES.convert(rt.alloc(), line)? {
+    let mut others = Vec::new(rt.alloc());
+    others.push(Column::of_word("name"))?;
+    others.push(Column::of_word("amount"))?;
+    let columns = Columns {
+        first: Column::of_word("id"),
+        others,
+        nested: false,
+    };
+    match columns.convert(rt.alloc(), line)? {
         Outcome::Text(row) => Ok(row.as_slice() == wanted),
         Outcome::Refused(column, cause) => {
             let words = format!(in rt.alloc(); "{column}: {cause}")?;
@@ -46,8 +48,8 @@ fn lines_are_refused(rt: HostRuntime) -> Result<(), AllocError> {
         (b"".as_slice(), b"1: EOF while parsing a value".as_slice()),
         (b"[1]", b"1: not an object"),
         (
-            b" {\"name\": true}",
-            b"1: member name is not a string, a number or null",
+            b" {\"name\": [true]}",
+            b"1: the value of name is an array or an object",
         ),
         (
             b"{\"x\": 1, \"\\u0078\": 2}",

@@ -1,9 +1,10 @@
 -- What becomes of a line.
 use Rattle.std.specs.Prelude.{◌≡◌, ℕ, ◌+◌, List, [], ◌∷◌, ◌++◌, false, Option, Some, None, codes, option_map, string_bytes}
-use Rattle.jiter.specs.Caller.{IsDocument, Node, NodeMembers, Tree, begin, cause_text, pointed_by, value_of}
+use Rattle.jiter.specs.Caller.{Cause, IsDocument, Node, NodeMembers, Reading, Tree, answer, at_start, begin, cause_text}
+use Rattle.jiter.specs.Caller.{done, fault, kind_text, pointed_by, value_of}
 use Rattle.jiter_print.specs.Print.{print_of}
 use Rattle.json_lines.specs.Line.{Seen, refused, written}
-use Rattle.filter.specs.Members.{last_source, no_object}
+use Rattle.filter.specs.Members.{Fails, Finds, last_source, no_object}
 use Rattle.filter.specs.declared.pointers.Member.{Member}
 
 abbrev pub or_null : Option (List ℕ) → List ℕ
@@ -41,6 +42,38 @@ abbrev pub part_outcome : Member → List ℕ → Node → Seen
 part_outcome m t (Node.object b e ms) = written (part_text m t (value_of t (Node.object b e ms)) ms)
 part_outcome m t n = refused_at t n
 
--- This becomes of a line, if it is a document. So a line with an object is refused only if it is no document.
-abbrev pub BecomesBy : List Member → List ℕ → Seen → Type 0
-BecomesBy members line o = (n : Node) → IsDocument false line n → o ≡ outcome_of members line n
+-- ---- any line
+-- what becomes of a member whose pointer has more steps, by what is read of the whole line
+abbrev pub pointed_outcome : List ℕ → Reading Tree → Seen
+pointed_outcome pointer (done v e) = written (pointed_text pointer v)
+pointed_outcome pointer (fault kind index stop) = refused (index + 1) (kind_text kind)
+
+-- what becomes of a member that was found, or wasn't
+abbrev pub found_outcome : Option (List ℕ) → List ℕ → Option (List ℕ) → Seen
+found_outcome None line found = written (or_null found)
+found_outcome (Some pointer) line found = pointed_outcome pointer (answer false line)
+
+-- What becomes of one member of any line. The calls of the reader decide, and of a pointer with more steps a parse of the
+-- line after them.
+pub data PartBecomes (m : Member) (line : List ℕ) : Seen → Type 0 where
+  part_fails : (c : Cause) (x stop : ℕ) → Fails (string_bytes m.name) (at_start line) c x stop
+      → PartBecomes m line (refused (x + 1) (cause_text c))
+  part_found : (found : Option (List ℕ)) → Finds (string_bytes m.name) line found
+      → PartBecomes m line (found_outcome (option_map string_bytes m.deep) line found)
+
+-- after a text the line goes on, and after an error nothing is written
+abbrev pub AfterPart : Seen → Seen → (List ℕ → Type 0) → Type 0
+AfterPart (written text) o more = more text
+AfterPart (refused column cause) o more = o ≡ refused column cause
+
+-- What becomes of any line whose first members have this text: the others follow in their order, or the first error
+-- among them is reported.
+abbrev pub LineBecomes : List Member → List ℕ → List ℕ → Seen → Type 0
+LineBecomes [] line text o = o ≡ written (text ++ codes "}\n")
+LineBecomes (m ∷ more) line text o = (part : Seen) × PartBecomes m line part
+    × AfterPart part o (λ value. LineBecomes more line ((text ++ m.key.items) ++ value) o)
+
+-- What becomes of a line. An object is refused only if its line is no document; of any line the reader's calls decide.
+pub record BecomesBy (members : List Member) (line : List ℕ) (o : Seen) : Type 0 where
+  pub document : (n : Node) → IsDocument false line n → o ≡ outcome_of members line n
+  pub any : LineBecomes members line [] o

@@ -3,8 +3,10 @@ use Rattle.std.specs.Prelude.{◌≡◌, ℕ, Bool, if◌then◌else◌, List, O
 use Rattle.std.specs.Prelude.{option_map, slice_range}
 use Rattle.std.specs.Borrow.{Bor}
 use Rattle.std.specs.Str.{bytes_eq}
-use Rattle.jiter.specs.Caller.{Cause, IsMemory, Key, Node, NodeMembers, ValueType, begin, cause_of, end, text_at, tree_type}
-use Rattle.jiter.specs.Caller.{value_of, wrong_type}
+use Rattle.jiter.specs.Caller.{Cause, IsMemory, Key, Node, NodeMembers, ReaderState, Reply, Start, Text, ValueType}
+use Rattle.jiter.specs.Caller.{at_start, begin, cause_of, end, finish, gave, key_step, next, object_read, refused}
+use Rattle.jiter.specs.Caller.{reply_seen, skip_read, text_at, tree_type, value_of, value_place, value_read, whole}
+use Rattle.jiter.specs.Caller.{with_position, wrong_type}
 use Rattle.jiter.specs.declared.errors.JiterError.{JiterError}
 
 -- the source of a value, if one was found
@@ -39,3 +41,50 @@ IsAnswer name t (Node.object b e ms) (Ok found) = found_view found ≡ last_sour
 IsAnswer name t (Node.object b e ms) (Err x) = (IsMemory x → ⊥) → ⊥
 IsAnswer name t n (Ok found) = ⊥
 IsAnswer name t n (Err x) = (IsMemory x → ⊥) → (cause_of x.error_type ≡ no_object t n) × (x.index ≡ begin n)
+
+-- ---- any line, by what the reader's calls reply
+-- the value of a member that has the name is read, and that of any other one skipped
+abbrev pub part_read : Bool → ReaderState → ℕ → Start → Reply (Unit {0})
+part_read is_named s i b = if is_named then reply_seen (λ v. tt) (value_read s i b) else skip_read s i b
+
+-- whether a key is the name
+abbrev pub key_is : List ℕ → Option Text → Option Bool
+key_is name = option_map (λ key. bytes_eq key.bytes name)
+
+-- The reader passed members of the object that comes next at s, and is at i: after the next member's key, of which
+-- `key` says whether it is the name, or after the object. `found` is the source of the last member with the name.
+pub data Passed (name : List ℕ) (s : ReaderState) : Option Bool → Option (List ℕ) → ℕ → Type 0 where
+  first : (key : Option Bool) (i : ℕ) → reply_seen (key_is name) (next s (object_read whole s)) ≡ gave key i
+      → Passed name s key None i
+  past : (is_named : Bool) (found : Option (List ℕ)) (key : Option Bool) (i j e : ℕ)
+      → Passed name s (Some is_named) found i
+      → next (with_position s i) (part_read is_named (with_position s i)) ≡ gave tt j
+      → reply_seen (key_is name) (key_step whole (with_position s j)) ≡ gave key e
+      → Passed name s key
+      (with_value is_named (slice_range s.text (value_place (with_position s i)) j) found) e
+
+-- all members were passed, and nothing follows the object
+pub record Finds (name line : List ℕ) (found : Option (List ℕ)) : Type 0 where
+  pub place : ℕ
+  pub last : ℕ
+  pub passed : Passed name (at_start line) None found place
+  pub ended : finish (with_position (at_start line) place) ≡ gave tt last
+
+-- The first call that is refused, for this cause and at this index: that for the object, for a member's value, for the
+-- next key, or for the end of the line.
+pub data Fails (name : List ℕ) (s : ReaderState) (c : Cause) (x stop : ℕ) : Type 0 where
+  at_object : next s (object_read whole s) ≡ refused c x stop → Fails name s c x stop
+  at_value : (is_named : Bool) (found : Option (List ℕ)) (i : ℕ) → Passed name s (Some is_named) found i
+      → next (with_position s i) (part_read is_named (with_position s i)) ≡ refused c x stop
+      → Fails name s c x stop
+  at_key : (is_named : Bool) (found : Option (List ℕ)) (i j : ℕ) → Passed name s (Some is_named) found i
+      → next (with_position s i) (part_read is_named (with_position s i)) ≡ gave tt j
+      → key_step whole (with_position s j) ≡ refused c x stop → Fails name s c x stop
+  at_end : (found : Option (List ℕ)) (i : ℕ) → Passed name s None found i
+      → finish (with_position s i) ≡ refused c x stop → Fails name s c x stop
+
+-- What is returned for any line, unless memory ran out.
+abbrev pub ReadsSo : List ℕ → List ℕ → Result (Option (Bor (List ℕ))) JiterError → Type 0
+ReadsSo name line (Ok found) = Finds name line (found_view found)
+ReadsSo name line (Err x) =
+    (IsMemory x → ⊥) → (stop : ℕ) × Fails name (at_start line) (cause_of x.error_type) x.index stop

@@ -1,8 +1,8 @@
 //! What becomes of a line: the object of its members, or why it has none.
-ghost use Rattle.std.specs.Prelude.{◌≡◌, ◌<◌, false, IfOk, length};
-ghost use Rattle.jiter.specs.Caller.{IsDocument, Node, value_of};
+ghost use Rattle.std.specs.Prelude.{◌≡◌, ◌<◌, [], false, IfOk, length};
+ghost use Rattle.jiter.specs.Caller.{IsDocument, Node, answer, value_of};
 ghost use Rattle.json_lines.specs.Line.{seen, written};
-ghost use Rattle.filter.specs.Line.{outcome_of, part_outcome, pointed_text};
+ghost use Rattle.filter.specs.Line.{LineBecomes, PartBecomes, outcome_of, part_outcome, pointed_outcome, pointed_text};
 
 use crate::members::read_member;
 use crate::pointers::Member;
@@ -15,6 +15,7 @@ use std::alloc::{AllocError, Global};
 fn pointed(alloc: Global, line: &[u8], pointer: &str) -> Result<Outcome, AllocError>
     ensures document { (n : Node) → IsDocument false line.now n → IfOk result
         (λ outcome. seen outcome ≡ written (pointed_text pointer.now (value_of line.now n))) }
+    ensures any { IfOk result (λ outcome. seen outcome ≡ pointed_outcome pointer.now (answer false line.now)) }
 {
     match &JsonValue::parse(alloc, line, false) {
         Ok(value) => match value.pointer(pointer) {
@@ -33,6 +34,7 @@ fn pointed(alloc: Global, line: &[u8], pointer: &str) -> Result<Outcome, AllocEr
 fn part_of(alloc: Global, member: &Member, line: &[u8]) -> Result<Outcome, AllocError>
     ensures document { (n : Node) → IsDocument false line.now n
         → IfOk result (λ outcome. seen outcome ≡ part_outcome member.now line.now n) }
+    ensures any { IfOk result (λ outcome. PartBecomes member.now line.now (seen outcome)) }
 {
     match read_member(alloc, line, member.name.as_str()) {
         Ok(source) => match &member.deep {
@@ -56,6 +58,7 @@ pub fn line_of(alloc: Global, members: &[Member], line: &[u8]) -> Result<Outcome
     requires { 0 < length members.now }
     ensures document { (n : Node) → IsDocument false line.now n
         → IfOk result (λ outcome. seen outcome ≡ outcome_of members.now line.now n) }
+    ensures any { IfOk result (λ outcome. LineBecomes members.now line.now [] (seen outcome)) }
 {
     let mut text = Vec::new(alloc);
     for member in members {

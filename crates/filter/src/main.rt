@@ -15,11 +15,12 @@ use std::io;
 use std::process::ExitCode;
 
 const ABOUT: &str =
-    "Reads JSON lines, each an object, and writes an object for each to standard output: the parts that the \
+    "Writes parts of JSON lines. Each line is an object, and becomes an object on standard output: the parts that the \
     pointers lead to, in their order. Its keys are the pointers' steps with slashes between them. The value of a \
     pointer of one step is written as it is in the line, that of any other pointer compactly, and a missing value as \
-    `null`; of a repeated name the last member counts. Writes `FILE:LINE:COLUMN: cause` for any other line to \
-    standard error.";
+    `null`; of a repeated name the last member counts. `FILE:LINE:COLUMN: cause` is written for any other line to \
+    standard error. Lines of whitespace are passed over.\n\nMembers that no pointer leads to or into are skipped: their \
+    syntax is checked, but not that their strings are UTF-8. With a pointer of several steps all of a line is checked.";
 
 impl Program for Filter {
     const NAME: &'static str = "filter";

@@ -1,21 +1,33 @@
 //! Finds a member of an object, and returns the source of its value.
 ghost use Rattle.std.specs.Prelude.{◌≡◌, ◌≤◌, IfErr, IfOk, false, length, option_map, slice_range};
 ghost use Rattle.std.specs.Str.{bytes_eq};
-ghost use Rattle.jiter.specs.Caller.{IsDocument, Node, Reads, never, next, skip_read, value_place};
-ghost use Rattle.filter.specs.Members.{IsAnswer, found_view, with_value};
+ghost use Rattle.jiter.specs.Caller.{IsDocument, Node, Reads, anywhere, byte_of, known, next, value_place, StandsAt};
+ghost use Rattle.filter.specs.Members.{IsAnswer, ReadsSo, found_view, part_read, with_value};
 
-use jiter::{Jiter, JiterResult};
+use jiter::{Jiter, JiterResult, Peek};
 use std::alloc::Global;
 
+// Moves past a member's value. One that is written is read, so that its UTF-8 is checked; any other one is skipped.
+fn known_part(alloc: Global, jiter: &mut Jiter<'_>, peek: Peek, is_named: bool) -> JiterResult<()>
+    requires { StandsAt jiter.old (byte_of peek) }
+    ensures reads { Reads anywhere (λ u. u) (known jiter.old (part_read is_named jiter.old)) result jiter.old jiter.new }
+{
+    if is_named {
+        let _value = jiter.known_value(alloc, peek)?;
+        return Ok(());
+    }
+    jiter.known_skip(peek)
+}
+
 // The source is the value without the whitespace around it.
-fn next_source<'j>(jiter: &mut Jiter<'j>) -> JiterResult<&'j [u8]>
-    ensures reads { Reads never (λ _. tt) (next jiter.old (skip_read jiter.old)) result jiter.old jiter.new }
+fn next_source<'j>(alloc: Global, jiter: &mut Jiter<'j>, is_named: bool) -> JiterResult<&'j [u8]>
+    ensures reads { Reads anywhere (λ _. tt) (next jiter.old (part_read is_named jiter.old)) result jiter.old jiter.new }
     ensures source { IfOk result (λ x. x.now
         ≡ slice_range jiter.old.text (value_place jiter.old) jiter.new.position) }
 {
     let peek = jiter.peek()?;
     let start = jiter.current_index();
-    jiter.known_skip(peek)?;
+    known_part(alloc, jiter, peek, is_named)?;
     Ok(jiter.slice_to_current(start))
 }
 
@@ -32,22 +44,24 @@ fn with_value<'j>(is_named: bool, source: &'j [u8], found: Option<&'j [u8]>) -> 
 }
 
 /// Returns the source of the last member with this name in the object that a line is. Keys are compared decoded. All
-/// other members are skipped.
+/// members with the name are read, and all others skipped.
 ///
 /// # Errors
 ///
 /// - `WrongType` if the line's value isn't an object
 /// - any other error of the pull reader; in skipped values UTF-8 isn't checked
-/// - `OutOfMemory`, only for a key with a backslash
+/// - `OutOfMemory`, only for a key with a backslash or a member with the name
 pub fn read_member<'j>(alloc: Global, line: &'j [u8], name: &str) -> JiterResult<Option<&'j [u8]>>
     ensures document { (n : Node) → IsDocument false line.now n → IsAnswer name.now line.now n result }
+    // What the reader's calls reply decides of any other line too.
+    ensures any { ReadsSo name.now line.now result }
     ensures index { IfErr result (λ e. e.index ≤ length line.now) }
 {
     let mut jiter = Jiter::new(line);
     let mut found = None;
     let mut next = is_named(name, jiter.next_object(alloc)?);
     while let Some(is_named_so) = next {
-        let source = next_source(&mut jiter)?;
+        let source = next_source(alloc, &mut jiter, is_named_so)?;
         found = with_value(is_named_so, source, found);
         next = is_named(name, jiter.next_key(alloc)?);
     }

@@ -10,8 +10,10 @@ use std::alloc::{AllocError, Global};
 use std::io;
 use std::process::ExitCode;
 
-const ABOUT: &str = "Reads JSON lines. Writes each document compactly to standard output, and \
-    `FILE:LINE:COLUMN: cause` for each other line to standard error, with their counts at the end.";
+const ABOUT: &str =
+    "Checks JSON lines. Each line is one document, and is written compactly to standard output. `FILE:LINE:COLUMN: cause` \
+    is written for each other line to standard error, with the counts of both at the end. Lines of whitespace are passed \
+    over.";
 
 impl Program for Importer {
     const NAME: &'static str = "importer";
@@ -30,6 +32,13 @@ impl Program for Importer {
         let (status, counts) = convert_logs(rt, Self::NAME, matches, &Importer { unique });
         if status < 3 {
             eprintln!(rt; "{} values, {} refused", counts.texts, counts.refused)?;
+            // Of a document on several lines more are refused than not: a line that holds a value is the last item of an
+            // array, and that array's brackets have lines of their own.
+            if counts.refused > counts.texts {
+                eprintln!(rt;
+                    "each line must be one document; is this one document on several lines?"
+                )?;
+            }
         }
         Ok(status)
     }

@@ -1,14 +1,14 @@
 -- The same where the bytes that a reader has left are known, or not.
 use Rattle.std.proofs.Common.{◌≡◌, ◌∙◌, ap, refl, sym, subst, ℕ, ◌+◌, List, [], ◌∷◌, Option, Some, None, IfSome}
 use Rattle.std.proofs.Common.{arith, length}
-use Rattle.std.specs.Prelude.{Result, Ok, Err, OnErr}
+use Rattle.std.specs.Prelude.{◌↔◌, Bool, false, IsTrue, Result, Ok, Err, OnErr}
 use Rattle.std.proofs.lemmas.Option.{IfSome_then}
 use Rattle.std.specs.Io.BufRead.{drop_through, take_through}
 use Rattle.std.specs.Io.KnownBytes.{Appends}
 use Rattle.std.proofs.KnownBytes.{Appends-nil}
 use Rattle.jiter_print.specs.Written.{AppendsPrefix}
 use Rattle.json_lines.specs.Line.{Seen}
-use Rattle.json_lines.specs.Log.{WritesAll, WritesPart, chomp, refusal_of, refusals_in, text_of}
+use Rattle.json_lines.specs.Log.{IsRight, WritesAll, WritesPart, chomp, refusal_of, refusals_in, text_of, texts_in}
 use Rattle.json_lines.specs.declared.log.Counts.{Counts}
 use Rattle.json_lines.proofs.Lines.{SoFar, all-done, begun, none-left, one-more, part-more, stopped}
 
@@ -16,6 +16,10 @@ use Rattle.json_lines.proofs.Lines.{SoFar, all-done, begun, none-left, one-more,
 pub if-err : {T E P : Type 0} (r : Result T E) → P → OnErr r P
 if-err (Ok x) p = tt
 if-err (Err e) p = p
+
+-- what a test decides does not hold where the test is false
+pub not-so : {P : Type 0} (b : Bool) → (IsTrue b ↔ P) → b ≡ false → P → ⊥
+not-so b test is p = let yes = test.1 p in absurd (cc)
 
 -- a list of length 0
 empty : (xs : List ℕ) → length xs ≡ 0 → xs ≡ []
@@ -26,24 +30,24 @@ empty (x ∷ xs) e = absurd (omega (arith, e))
 pub no-part : (a : Option (List ℕ)) (bs : List ℕ) → AppendsPrefix a a bs
 no-part a bs = (0, Appends-nil a)
 
--- of a reader that had these bytes, the lines up to those of the rest are written
-abbrev pub Known : (List ℕ → Seen → Type 0) → List ℕ → Option (List ℕ) → Option (List ℕ) → Counts
+-- Of a reader that had these bytes, the lines up to those of the rest are written; the next one has this number.
+abbrev pub Known : (List ℕ → Seen → Type 0) → List ℕ → Option (List ℕ) → Option (List ℕ) → ℕ → Counts
     → Option (List ℕ) → Option (List ℕ) → Option (List ℕ) → Option (List ℕ) → Type 0
-Known becomes name from from' counts out out' err err' = IfSome from (λ t. (rest : List ℕ) × (from' ≡ Some rest)
-    × SoFar becomes name t rest counts out out' err err')
+Known becomes name from from' number counts out out' err err' = IfSome from (λ t. (rest : List ℕ) × (from' ≡ Some rest)
+    × SoFar becomes name t rest number counts out out' err err')
 
 module _ (becomes : List ℕ → Seen → Type 0) (name : List ℕ) (from out err : Option (List ℕ)) where
   pub known-begun : (counts : Counts) → counts.texts ≡ 0 → counts.refused ≡ 0
-      → Known becomes name from from counts out out err err
+      → Known becomes name from from 1 counts out out err err
   known-begun counts a b = by from where
-    by : (x : Option (List ℕ)) → Known becomes name x x counts out out err err
+    by : (x : Option (List ℕ)) → Known becomes name x x 1 counts out out err err
     by None = tt
     by (Some t) = (t, refl, begun becomes name t out err counts a b)
 
-  module _ (from' : Option (List ℕ)) (counts : Counts) (out' err' : Option (List ℕ))
-      (h : Known becomes name from from' counts out out' err err') where
+  module _ (from' : Option (List ℕ)) (number : ℕ) (counts : Counts) (out' err' : Option (List ℕ))
+      (h : Known becomes name from from' number counts out out' err err') where
     pub known-stopped : IfSome from (λ t. WritesPart becomes name t out out' err err')
-    known-stopped = IfSome_then from h (λ t x. stopped becomes name t out err x.0 counts out' err' x.2)
+    known-stopped = IfSome_then from h (λ t x. stopped becomes name t out err x.0 number counts out' err' x.2)
 
     -- a line was read
     module _ (line : List ℕ) (read : IfSome from' (λ xs. line ≡ take_through 10 xs)) where
@@ -53,33 +57,33 @@ module _ (becomes : List ℕ → Seen → Type 0) (name : List ℕ) (from out er
       -- it was the end
       pub known-end : length line ≡ 0 → IfSome from (λ t. WritesAll becomes name t counts out out' err err')
       known-end none = IfSome_then from h (λ t x.
-          all-done becomes name t out err x.0 counts out' err' x.2
+          all-done becomes name t out err x.0 number counts out' err' x.2
           (none-left x.0 (sym (line-is x.0 x.1) ∙ empty line none)))
 
-      module _ (some : length line ≡ 0 → ⊥) (o : Seen) (right : becomes (chomp line) o) (number : ℕ)
-          (number-is : counts.texts + counts.refused + 1 ≡ number) where
+      module _ (some : length line ≡ 0 → ⊥) (o : Option Seen) (right : IsRight becomes (chomp line) o) where
         is-some : (rest : List ℕ) → from' ≡ Some rest → rest ≡ [] → ⊥
         is-some rest is none = some (ap length (line-is rest is ∙ ap (take_through 10) none))
 
-        right-is : (rest : List ℕ) → from' ≡ Some rest → becomes (chomp (take_through 10 rest)) o
-        right-is rest is = subst (λ l. becomes (chomp l) o) (line-is rest is) right
+        right-is : (rest : List ℕ) → from' ≡ Some rest → IsRight becomes (chomp (take_through 10 rest)) o
+        right-is rest is = subst (λ l. IsRight becomes (chomp l) o) (line-is rest is) right
 
         pub known-more : (from'' : Option (List ℕ)) → IfSome from' (λ xs. from'' ≡ Some (drop_through 10 xs))
             → (out'' err'' : Option (List ℕ)) (counts' : Counts) → Appends out' out'' (text_of o)
-            → Appends err' err'' (refusal_of name number (chomp line) o) → counts'.refused ≡ counts.refused + refusals_in o
-            → counts'.texts + counts'.refused ≡ number → Known becomes name from from'' counts' out out'' err err''
-        known-more from'' left out'' err'' counts' text refusal counted all = IfSome_then from h (λ t x. (
+            → Appends err' err'' (refusal_of name number (chomp line) o) → counts'.texts ≡ counts.texts + texts_in o
+            → counts'.refused ≡ counts.refused + refusals_in o
+            → Known becomes name from from'' (number + 1) counts' out out'' err err''
+        known-more from'' left out'' err'' counts' text refusal texts refusals = IfSome_then from h (λ t x. (
           drop_through 10 x.0,
           subst (λ f. IfSome f (λ xs. from'' ≡ Some (drop_through 10 xs))) x.1 left,
-          one-more becomes name t out err x.0 counts out' err' x.2 (is-some x.0 x.1) o (right-is x.0 x.1) number number-is
+          one-more becomes name t out err x.0 number counts out' err' x.2 (is-some x.0 x.1) o (right-is x.0 x.1)
               out'' err'' counts' text
-              (subst (λ l. Appends err' err'' (refusal_of name number (chomp l) o)) (line-is x.0 x.1) refusal) counted all,
+              (subst (λ l. Appends err' err'' (refusal_of name number (chomp l) o)) (line-is x.0 x.1) refusal) texts refusals,
         ))
 
         pub known-part : (out'' err'' : Option (List ℕ)) → AppendsPrefix out' out'' (text_of o)
             → AppendsPrefix err' err'' (refusal_of name number (chomp line) o)
             → IfSome from (λ t. WritesPart becomes name t out out'' err err'')
         known-part out'' err'' text refusal = IfSome_then from h (λ t x.
-            part-more becomes name t out err x.0 counts out' err' x.2 (is-some x.0 x.1) o (right-is x.0 x.1) number number-is
+            part-more becomes name t out err x.0 number counts out' err' x.2 (is-some x.0 x.1) o (right-is x.0 x.1)
             out'' err'' text
             (subst (λ l. AppendsPrefix err' err'' (refusal_of name number (chomp l) o)) (line-is x.0 x.1) refusal))

@@ -10,8 +10,8 @@ use Rattle.std.proofs.lemmas.List.Elements.{All-nil, All-push}
 use Rattle.std.proofs.Math.Seq.{take-append_seam, take-length}
 use Rattle.jiter_print.specs.Written.{AppendsPrefix}
 use Rattle.json_lines.specs.Line.{Seen}
-use Rattle.json_lines.specs.Log.{Answer, IsRight, WritesAll, WritesPart, chomp, count_of, raw_lines, refusal_of}
-use Rattle.json_lines.specs.Log.{refusals_from, refusals_in, text_of, texts_of, with_first}
+use Rattle.json_lines.specs.Log.{Answer, IsRight, WritesAll, WritesPart, chomp, raw_lines, refusal_of, refusals_among}
+use Rattle.json_lines.specs.Log.{refusals_from, refusals_in, text_of, texts_among, texts_in, texts_of, with_first}
 use Rattle.json_lines.specs.declared.log.Counts.{Counts}
 
 -- the first line, and the others
@@ -67,24 +67,31 @@ refusals-more name number (b ∷ xs) a =
     ∙ ap (λ n. refusals_from name (number + 1) xs ++ refusal_of name n (chomp a.line) a.outcome) same)
     ∙ sym (append_assoc (refusal_of name number (chomp b.line) b.outcome) (refusals_from name (number + 1) xs) _)
 
-count-more : (xs : List Answer) (a : Answer) → count_of (xs ++ (a ∷ [])) ≡ count_of xs + refusals_in a.outcome
-count-more [] a = omega (arith)
-count-more (b ∷ xs) a = omega (arith, count-more xs a)
+texts-among-more : (xs : List Answer) (a : Answer)
+    → texts_among (xs ++ (a ∷ [])) ≡ texts_among xs + texts_in a.outcome
+texts-among-more [] a = omega (arith)
+texts-among-more (b ∷ xs) a = omega (arith, texts-among-more xs a)
+
+refusals-among-more : (xs : List Answer) (a : Answer)
+    → refusals_among (xs ++ (a ∷ [])) ≡ refusals_among xs + refusals_in a.outcome
+refusals-among-more [] a = omega (arith)
+refusals-among-more (b ∷ xs) a = omega (arith, refusals-among-more xs a)
 
 length-more : (xs : List Answer) (a : Answer) → length (xs ++ (a ∷ [])) ≡ length xs + 1
 length-more [] a = refl
 length-more (b ∷ xs) a = omega (arith, length-more xs a)
 
--- The lines up to those of the rest are written.
-pub record SoFar (becomes : List ℕ → Seen → Type 0) (name t rest : List ℕ) (counts : Counts)
+-- The lines up to those of the rest are written; the next one has this number.
+pub record SoFar (becomes : List ℕ → Seen → Type 0) (name t rest : List ℕ) (number : ℕ) (counts : Counts)
     (out out' err err' : Option (List ℕ)) : Type 0 where
   pub answers : List Answer
   pub lines : map (λ a. a.line) answers ++ raw_lines rest ≡ raw_lines t
-  pub right : All (IsRight becomes) answers
+  pub right : All (λ a. IsRight becomes (chomp a.line) a.outcome) answers
   pub texts : Appends out out' (texts_of answers)
   pub refusals : Appends err err' (refusals_from name 1 answers)
-  pub counted : counts.refused ≡ count_of answers
-  pub all : counts.texts + counts.refused ≡ length answers
+  pub texts_counted : counts.texts ≡ texts_among answers
+  pub refusals_counted : counts.refused ≡ refusals_among answers
+  pub numbered : 1 + length answers ≡ number
 
 -- all of some bytes is a prefix of them
 whole-part : (a b : Option (List ℕ)) (bs : List ℕ) → Appends a b bs → AppendsPrefix a b bs
@@ -105,19 +112,20 @@ prefix-more a b c xs ys all more prefix is =
 
 module _ (becomes : List ℕ → Seen → Type 0) (name t : List ℕ) (out err : Option (List ℕ)) where
   -- before the first line
-  pub begun : (counts : Counts) → counts.texts ≡ 0 → counts.refused ≡ 0 → SoFar becomes name t t counts out out err err
+  pub begun : (counts : Counts) → counts.texts ≡ 0 → counts.refused ≡ 0 → SoFar becomes name t t 1 counts out out err err
   begun counts no-texts none-refused = record {
     answers = [];
     lines = refl;
-    right = All-nil (IsRight becomes);
+    right = All-nil (λ a. IsRight becomes (chomp a.line) a.outcome);
     texts = Appends-nil out;
     refusals = Appends-nil err;
-    counted = none-refused;
-    all = omega (arith, no-texts, none-refused);
+    texts_counted = no-texts;
+    refusals_counted = none-refused;
+    numbered = refl;
   }
 
-  module _ (rest : List ℕ) (counts : Counts) (out' err' : Option (List ℕ))
-      (h : SoFar becomes name t rest counts out out' err err') where
+  module _ (rest : List ℕ) (number : ℕ) (counts : Counts) (out' err' : Option (List ℕ))
+      (h : SoFar becomes name t rest number counts out out' err err') where
     -- nothing more is written
     pub stopped : WritesPart becomes name t out out' err err'
     stopped = record {
@@ -138,12 +146,12 @@ module _ (becomes : List ℕ → Seen → Type 0) (name t : List ℕ) (out err :
       right = h.right;
       texts = h.texts;
       refusals = h.refusals;
-      counted = h.counted;
-      all = h.all;
+      texts_counted = h.texts_counted;
+      refusals_counted = h.refusals_counted;
     }
 
     -- ---- the next line, and what it becomes
-    module _ (some : rest ≡ [] → ⊥) (o : Seen) (right : becomes (chomp (take_through 10 rest)) o) where
+    module _ (some : rest ≡ [] → ⊥) (o : Option Seen) (right : IsRight becomes (chomp (take_through 10 rest)) o) where
       abbrev line : List ℕ
       line = take_through 10 rest
 
@@ -159,41 +167,41 @@ module _ (becomes : List ℕ → Seen → Type 0) (name t : List ℕ) (out err :
           ∙ ap (λ ls. map (λ x. x.line) h.answers ++ ls) (sym (first-line rest some)) ∙ h.lines
 
       -- what is reported of it
-      abbrev pub report : ℕ → List ℕ
-      report number = refusal_of name number (chomp line) o
+      abbrev pub report : List ℕ
+      report = refusal_of name number (chomp line) o
 
       texts-are : texts_of h.answers ++ text_of o ≡ texts_of more
       texts-are = sym (texts-more h.answers next)
 
-      module _ (number : ℕ) (number-is : counts.texts + counts.refused + 1 ≡ number) where
-        refusals-are : refusals_from name 1 h.answers ++ report number ≡ refusals_from name 1 more
-        refusals-are =
-            let here : number ≡ 1 + length h.answers = omega (arith, number-is, h.all) in
-            ap (λ n. refusals_from name 1 h.answers ++ report n) here ∙ sym (refusals-more name 1 h.answers next)
+      refusals-are : refusals_from name 1 h.answers ++ report ≡ refusals_from name 1 more
+      refusals-are =
+          ap (λ n. refusals_from name 1 h.answers ++ refusal_of name n (chomp line) o) (sym h.numbered)
+          ∙ sym (refusals-more name 1 h.answers next)
 
-        -- it is written
-        pub one-more : (out'' err'' : Option (List ℕ)) (counts' : Counts) → Appends out' out'' (text_of o)
-            → Appends err' err'' (report number) → counts'.refused ≡ counts.refused + refusals_in o
-            → counts'.texts + counts'.refused ≡ number
-            → SoFar becomes name t (drop_through 10 rest) counts' out out'' err err''
-        one-more out'' err'' counts' text refusal counted all = record {
-          answers = more;
-          lines = lines-are;
-          right = All-push (IsRight becomes) h.answers next h.right right;
-          texts = subst (Appends out out'') texts-are (Appends-trans out out' out'' _ _ h.texts text);
-          refusals = subst (Appends err err'') refusals-are (Appends-trans err err' err'' _ _ h.refusals refusal);
-          counted = omega (arith, counted, h.counted, count-more h.answers next);
-          all = omega (arith, all, number-is, h.all, length-more h.answers next);
-        }
+      -- it is written
+      pub one-more : (out'' err'' : Option (List ℕ)) (counts' : Counts) → Appends out' out'' (text_of o)
+          → Appends err' err'' report → counts'.texts ≡ counts.texts + texts_in o
+          → counts'.refused ≡ counts.refused + refusals_in o
+          → SoFar becomes name t (drop_through 10 rest) (number + 1) counts' out out'' err err''
+      one-more out'' err'' counts' text refusal texts refusals = record {
+        answers = more;
+        lines = lines-are;
+        right = All-push (λ a. IsRight becomes (chomp a.line) a.outcome) h.answers next h.right right;
+        texts = subst (Appends out out'') texts-are (Appends-trans out out' out'' _ _ h.texts text);
+        refusals = subst (Appends err err'') refusals-are (Appends-trans err err' err'' _ _ h.refusals refusal);
+        texts_counted = omega (arith, texts, h.texts_counted, texts-among-more h.answers next);
+        refusals_counted = omega (arith, refusals, h.refusals_counted, refusals-among-more h.answers next);
+        numbered = omega (arith, h.numbered, length-more h.answers next);
+      }
 
-        -- a prefix of it is
-        pub part-more : (out'' err'' : Option (List ℕ)) → AppendsPrefix out' out'' (text_of o)
-            → AppendsPrefix err' err'' (report number) → WritesPart becomes name t out out'' err err''
-        part-more out'' err'' text refusal = record {
-          answers = more;
-          others = raw_lines (drop_through 10 rest);
-          lines = lines-are;
-          right = All-push (IsRight becomes) h.answers next h.right right;
-          texts = prefix-more out out' out'' _ _ _ h.texts text texts-are;
-          refusals = prefix-more err err' err'' _ _ _ h.refusals refusal refusals-are;
-        }
+      -- a prefix of it is
+      pub part-more : (out'' err'' : Option (List ℕ)) → AppendsPrefix out' out'' (text_of o)
+          → AppendsPrefix err' err'' report → WritesPart becomes name t out out'' err err''
+      part-more out'' err'' text refusal = record {
+        answers = more;
+        others = raw_lines (drop_through 10 rest);
+        lines = lines-are;
+        right = All-push (λ a. IsRight becomes (chomp a.line) a.outcome) h.answers next h.right right;
+        texts = prefix-more out out' out'' _ _ _ h.texts text texts-are;
+        refusals = prefix-more err err' err'' _ _ _ h.refusals refusal refusals-are;
+      }

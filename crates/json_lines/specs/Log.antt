@@ -1,5 +1,5 @@
 -- The lines of a log, and what is written of each.
-use Rattle.std.specs.Prelude.{◌≡◌, ℕ, ◌+◌, ◌==◌, List, [], ◌∷◌, ◌++◌, if◌then◌else◌, length, map, Option}
+use Rattle.std.specs.Prelude.{◌≡◌, ℕ, ◌+◌, ◌==◌, ◌⊎◌, List, [], ◌∷◌, ◌++◌, if◌then◌else◌, map, Option, Some, None}
 use Rattle.std.specs.List.{All}
 use Rattle.std.specs.Io.BufRead.{strip_last}
 use Rattle.std.specs.Io.KnownBytes.{Appends}
@@ -21,27 +21,37 @@ raw_lines (b ∷ bs) = if b == 10 then (b ∷ []) ∷ raw_lines bs else with_fir
 abbrev pub chomp : List ℕ → List ℕ
 chomp line = strip_last 13 (strip_last 10 line)
 
--- a line as it is in the log, and what it becomes
+-- no byte but a space, a tab, a line feed or a carriage return
+abbrev pub IsBlankLine : List ℕ → Type 0
+IsBlankLine line = All (λ b. (b ≡ 32) ⊎ (b ≡ 9) ⊎ (b ≡ 10) ⊎ (b ≡ 13)) line
+
+-- a line as it is in the log, and what it becomes; none where it is passed over
 pub record Answer : Type 0 where
   pub line : List ℕ
-  pub outcome : Seen
+  pub outcome : Option Seen
 
-abbrev pub IsRight : (List ℕ → Seen → Type 0) → Answer → Type 0
-IsRight becomes a = becomes (chomp a.line) a.outcome
+-- Blank lines are passed over, and no others.
+abbrev pub IsRight : (List ℕ → Seen → Type 0) → List ℕ → Option Seen → Type 0
+IsRight becomes line None = IsBlankLine line
+IsRight becomes line (Some o) = (IsBlankLine line → ⊥) × becomes line o
 
 -- what is written of a line to the output
-abbrev pub text_of : Seen → List ℕ
-text_of (written text) = text
-text_of (refused column cause) = []
+abbrev pub text_of : Option Seen → List ℕ
+text_of (Some (written text)) = text
+text_of o = []
 
 -- what is reported of a line
-abbrev pub refusal_of : List ℕ → ℕ → List ℕ → Seen → List ℕ
-refusal_of name number line (written text) = []
-refusal_of name number line (refused column cause) = refusal_text name number column (cause_in line cause)
+abbrev pub refusal_of : List ℕ → ℕ → List ℕ → Option Seen → List ℕ
+refusal_of name number line (Some (refused column cause)) = refusal_text name number column (cause_in line cause)
+refusal_of name number line o = []
 
-abbrev pub refusals_in : Seen → ℕ
-refusals_in (written text) = 0
-refusals_in (refused column cause) = 1
+abbrev pub texts_in : Option Seen → ℕ
+texts_in (Some (written text)) = 1
+texts_in o = 0
+
+abbrev pub refusals_in : Option Seen → ℕ
+refusals_in (Some (refused column cause)) = 1
+refusals_in o = 0
 
 -- the texts of these lines, in their order
 abbrev pub texts_of : List Answer → List ℕ
@@ -54,21 +64,26 @@ refusals_from name number [] = []
 refusals_from name number (a ∷ more) =
     refusal_of name number (chomp a.line) a.outcome ++ refusals_from name (number + 1) more
 
+-- how many of these lines have a text
+abbrev pub texts_among : List Answer → ℕ
+texts_among [] = 0
+texts_among (a ∷ more) = texts_in a.outcome + texts_among more
+
 -- how many of these lines have an error
-abbrev pub count_of : List Answer → ℕ
-count_of [] = 0
-count_of (a ∷ more) = refusals_in a.outcome + count_of more
+abbrev pub refusals_among : List Answer → ℕ
+refusals_among [] = 0
+refusals_among (a ∷ more) = refusals_in a.outcome + refusals_among more
 
 -- What is written of a whole log: what became of each of its lines, in their order.
 pub record WritesAll (becomes : List ℕ → Seen → Type 0) (name t : List ℕ) (counts : Counts)
     (out out' err err' : Option (List ℕ)) : Type 0 where
   pub answers : List Answer
   pub lines : map (λ a. a.line) answers ≡ raw_lines t
-  pub right : All (IsRight becomes) answers
+  pub right : All (λ a. IsRight becomes (chomp a.line) a.outcome) answers
   pub texts : Appends out out' (texts_of answers)
   pub refusals : Appends err err' (refusals_from name 1 answers)
-  pub counted : counts.refused ≡ count_of answers
-  pub all : counts.texts + counts.refused ≡ length answers
+  pub texts_counted : counts.texts ≡ texts_among answers
+  pub refusals_counted : counts.refused ≡ refusals_among answers
 
 -- a prefix of what is written of its first lines
 pub record WritesPart (becomes : List ℕ → Seen → Type 0) (name t : List ℕ)
@@ -76,6 +91,6 @@ pub record WritesPart (becomes : List ℕ → Seen → Type 0) (name t : List �
   pub answers : List Answer
   pub others : List (List ℕ)
   pub lines : map (λ a. a.line) answers ++ others ≡ raw_lines t
-  pub right : All (IsRight becomes) answers
+  pub right : All (λ a. IsRight becomes (chomp a.line) a.outcome) answers
   pub texts : AppendsPrefix out out' (texts_of answers)
   pub refusals : AppendsPrefix err err' (refusals_from name 1 answers)

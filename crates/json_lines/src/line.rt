@@ -17,6 +17,29 @@ pub enum Outcome {
 }
 
 /// A program that makes something of each line of a log.
+///
+/// # Examples
+///
+/// Each line becomes the number of its bytes, and the prover checks that it does:
+///
+/// ```rust
+/// ghost use Rattle.std.specs.Prelude.{◌≡◌, decimal, length};
+/// ghost use Rattle.jiter_print.specs.Print.{with_line_feed};
+/// ghost use Rattle.json_lines.specs.Line.{written};
+///
+/// struct Lengths;
+///
+/// impl Convert for Lengths {
+///     ghost becomes = { λ _ line o. o ≡ written (with_line_feed (decimal (length line))) };
+///
+///     fn convert(&self, alloc: Global, line: &[u8]) -> Result<Outcome, AllocError> {
+///         let text = format!(in alloc; "{}\n", line.len())?;
+///         Ok(Outcome::Text(text.into_bytes()))
+///     }
+/// }
+/// ```
+///
+/// [`crate::convert_logs`] reads the logs that the command line names and writes what their lines become.
 pub trait Convert {
     // This may become of a line.
     ghost becomes: { Self → List ℕ → Seen → Type 0 };

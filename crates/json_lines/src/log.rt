@@ -1,7 +1,7 @@
 //! Logs, read line by line.
-ghost use Rattle.std.specs.Prelude.{◌≡◌, IfOk, IfSome, OnErr};
+ghost use Rattle.std.specs.Prelude.{◌≡◌, ◌↔◌, IfOk, IfSome, IsTrue, OnErr};
 ghost use Rattle.std.specs.Io.Buffered.{reader_remaining};
-ghost use Rattle.json_lines.specs.Log.{WritesAll, WritesPart, chomp};
+ghost use Rattle.json_lines.specs.Log.{IsBlankLine, WritesAll, WritesPart, chomp};
 
 use crate::line::{Convert, Outcome, refusal_line};
 use jiter_print::write_line;
@@ -10,7 +10,7 @@ use std::alloc::Global;
 use std::io;
 use std::io::{BufRead, BufReader, ErrorKind, Read, Write};
 
-/// How many lines have a text, and how many an error.
+/// How many lines have a text, and how many an error. Lines of whitespace only have neither.
 #[derive(Debug, Clone, Copy, PartialEq, Eq)]
 pub struct Counts {
     /// The lines with a text.
@@ -27,11 +27,19 @@ fn without_end(line: &[u8]) -> &[u8]
     line.strip_suffix(b"\r").unwrap_or(line)
 }
 
+// Whether a line has no byte but whitespace.
+fn is_blank(line: &[u8]) -> bool
+    ensures { IsTrue result ↔ IsBlankLine line.now }
+{
+    line.iter().all(|byte| *byte == b' ' || *byte == b'\t' || *byte == b'\n' || *byte == b'\r')
+}
+
 /// Reads a log to its end. Writes what each line becomes: its text to `out`, and for an error `NAME:LINE:COLUMN: CAUSE` to
 /// `err`, in the order of the lines. Returns how many there are of each.
 ///
-/// A line ends at `\n` or `\r\n`; the last one may have no end. Lines and columns count from 1, columns in bytes. The
-/// memory in use doesn't grow with the number of lines: what a line becomes is written before the next one is read.
+/// A line ends at `\n` or `\r\n`; the last one may have no end. A line of whitespace only is passed over, and counted as a
+/// line. Lines and columns count from 1, columns in bytes. The memory in use doesn't grow with the number of lines: what a
+/// line becomes is written before the next one is read.
 ///
 /// # Errors
 ///
@@ -65,6 +73,9 @@ pub fn convert_log<C: Convert, R: Read, O: Write, E: Write>(
             return Ok(counts);
         }
         let bytes = without_end(buffer.as_slice());
+        if is_blank(bytes) {
+            continue;
+        }
         match converter.convert(alloc, bytes)? {
             Outcome::Text(text) => {
                 write_line(out, text.as_slice())?;

@@ -9,7 +9,7 @@ use std::process::ExitCode;
 use std::{env, fs, io};
 
 const STATUS: &str =
-    "Exit status: 0 if nothing is refused, 1 if something is, 2 for wrong arguments, 3 if a read, a write \
+    "The FILE `-` is standard input.\n\nExit status: 0 if nothing is refused, 1 if something is, 2 for wrong arguments, 3 if a read, a write \
     or an allocation failed.";
 
 // The bytes of a log that are read at once, at most.
@@ -106,16 +106,21 @@ fn read_file<I: ReadInput>(rt: &HostRuntime, name: &str, input: &mut I) -> io::R
     input.read(rt, name, file)
 }
 
-// The exit status after one input.
-fn status_of(rt: &HostRuntime, program: &str, name: &str, read: io::Result<bool>) -> u8 {
+// Reads one input, and returns the exit status after it.
+fn read_one<I: ReadInput>(rt: &HostRuntime, program: &str, name: &str, input: &mut I) -> u8 {
+    let (name, read) = match name {
+        "-" => ("<stdin>", input.read(rt, "<stdin>", rt.stdin())),
+        _ => (name, read_file(rt, name, input)),
+    };
     match read {
         Ok(is_clean) => !is_clean as u8,
         Err(error) => report(rt, program, name, &error),
     }
 }
 
-/// Reads each file, or standard input if there is none. Returns the exit status: 0 if nothing was refused, 1 if something
-/// was, 3 if an input could not be read to its end. Such an input is reported, and the next one is read.
+/// Reads each file, or standard input if there is none; the file `-` is standard input too. Returns the exit status: 0 if
+/// nothing was refused, 1 if something was, 3 if an input could not be read to its end. Such an input is reported, and the
+/// next one is read.
 pub fn read_each<I: ReadInput>(
     rt: &HostRuntime,
     program: &str,
@@ -124,12 +129,11 @@ pub fn read_each<I: ReadInput>(
 ) -> u8 {
     let names = matches.get_strs("files").unwrap_or(&[]);
     if names.is_empty() {
-        let read = input.read(rt, "<stdin>", rt.stdin());
-        return status_of(rt, program, "<stdin>", read);
+        return read_one(rt, program, "-", input);
     }
     let mut status = 0;
     for name in names {
-        status = status.max(status_of(rt, program, name, read_file(rt, name, input)));
+        status = status.max(read_one(rt, program, name, input));
     }
     status
 }
