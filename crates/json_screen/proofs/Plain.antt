@@ -14,7 +14,7 @@ use Rattle.jiter_steps.proofs.Calls.DecodeSteps.{encode-sign}
 use Rattle.jiter.specs.Caller.{Reading, done, fault, Tree, answer_in}
 use Rattle.jiter_print.specs.Layout.{pretty_of}
 use Rattle.json_screen.specs.Parts.{parts_of}
-use Rattle.json_screen.specs.Rows.{columns_of, empty_row, escape_of, fill, Filled, is_hidden, mark, new_row, open_place}
+use Rattle.json_screen.specs.Rows.{columns_of, dim_on, empty_row, escape_of, fill, Filled, is_hidden, mark, new_row, open_place}
 use Rattle.json_screen.specs.Rows.{put_bytes, put_char, put_reading, put_value, rows_of, shown_char}
 use Rattle.json_screen.specs.Rows.{two_digits}
 use Rattle.json_screen.specs.Terminal.{is_plain, IsPlain}
@@ -118,15 +118,15 @@ plain-value width zero r t p = plain-bytes width r t p
 plain-value width (suc depth) r t p =
     let place = open_place (suc depth) t in
     let head = put_bytes width r (take place t) in
-    plain-bytes width (put_bytes width head mark) (drop place t)
-    (plain-bytes width head mark (plain-bytes width r (take place t) p))
+    plain-bytes width (put_bytes width (dim_on head) mark) (drop place t)
+    (plain-bytes width (dim_on head) mark (plain-bytes width r (take place t) p))
 
 plain-reading : (width depth : ℕ) (r : Filled) (t : List ℕ) (x : Reading Tree) → Plain r
     → Plain (put_reading width depth r t x)
 plain-reading width depth r t (done v e) p = plain-value width depth r (pretty_of 2 v) p
 plain-reading width depth r t (fault k i stop) p = plain-bytes width r t p
 
-pub plain-rows : (options : Options) (width : ℕ) (t : List ℕ) → IsPlain (rows_of options width t)
+pub plain-rows : (options : Options) (width : ℕ) (t : List ℕ) → IsPlain (rows_of options width t).text
 plain-rows options width t =
     let p = parts_of t in
     let before = put_bytes width (empty_row width) p.before in

@@ -1,6 +1,7 @@
 -- What a reading that has received bytes tells is what a parse of these bytes answers.
-use Rattle.std.proofs.Common.{◌≡◌, ◌∙◌, ap, ap₂, refl, sym, ℕ, zero, suc, arith, Bool, List, [], ◌∷◌, ◌++◌, None, inl, inr}
-use Rattle.std.specs.Prelude.{Result, Ok, Err, OnOk}
+use Rattle.std.proofs.Common.{◌≡◌, ◌∙◌, ap, ap₂, refl, sym, ℕ, zero, suc, arith, ◌+◌, ◌-◌, ◌≤◌, Bool, false, List, [], ◌∷◌, ◌++◌, length, Option, Some, inl, inr}
+use Rattle.std.specs.Prelude.{codes, if◌then◌else◌, Result, Ok, Err, OnOk}
+use Rattle.std.proofs.lemmas.List.{length-append}
 use Rattle.jiter.specs.Caller.{answer, answer_in, done, fault, JsonError, JsonValue}
 use Rattle.jiter.specs.Caller.{kind_of, owned_tree, Parses, PartialMode, Reading, reading_as, Tree, view}
 use Rattle.jiter_incremental.specs.Caller.{HasReceived, Received}
@@ -10,10 +11,13 @@ use Rattle.jiter_print.specs.Print.{print_text}
 use Rattle.jiter_steps.specs.Tree.{null, boolean, int, big, float, string, array, object, Items, no_items, item}
 use Rattle.jiter_steps.specs.Tree.{Members, no_members, member}
 use Rattle.jiter_value.specs.Owned.{owned_items, owned_members}
-use Rattle.json_screen.specs.Arrived.{ReadsAs}
-use Rattle.json_screen.specs.Report.{document_error}
+use Rattle.json_screen.specs.Arrived.{HasArrived, ReadsAs}
+use Rattle.json_screen.specs.Parts.{parts_of}
+use Rattle.json_screen.specs.Report.{document_error, error_of, has_mark, next_document, trailing_error}
 use Rattle.json_screen.specs.Rows.{Filled, put_bytes, put_marked, put_reading, put_value}
+use Rattle.json_screen.specs.declared.input.Input.{Input}
 use Rattle.json_screen.specs.declared.input.Options.{Options}
+use Rattle.json_screen.proofs.Split.{whole-is}
 
 -- The text of a value is the same in each layout wherever its texts lie.
 mutual
@@ -36,19 +40,43 @@ mutual
   members-laid l (member k v ms) =
       ap₂ (λ p ps. (line_break l ++ (print_text k.bytes ++ 58 ∷ (space l ++ p))) ∷ ps) (laid-owned l v) (members-laid l ms)
 
--- a value that is answered with partial reading off has no error
-no-error : (begin : ℕ) (names : Bool) (t : List ℕ) (v : JsonValue) → Parses owned_tree ⊥ names PartialMode.Off t (Ok v)
-    → None ≡ document_error begin (answer names t)
-no-error begin names t v h = by (answer names t) h.answer.1 where
-  by : (x : Reading Tree) → reading_as owned_tree x ≡ done (view v) h.answer.0 → None ≡ document_error begin x
+-- a value that is answered with partial reading off has no error: one after it is left
+no-error : (begin : ℕ) (after : Option (ℕ × List ℕ)) (names : Bool) (t : List ℕ) (v : JsonValue)
+    → Parses owned_tree ⊥ names PartialMode.Off t (Ok v) → after ≡ document_error begin (answer names t) after
+no-error begin after names t v h = by (answer names t) h.answer.1 where
+  by : (x : Reading Tree) → reading_as owned_tree x ≡ done (view v) h.answer.0 → after ≡ document_error begin x after
   by (done w e) same = refl
   by (fault k i stop) same = absurd (cc)
 
--- Where the reading tells a value at the end, there is no error.
+-- Where the reading tells a value at the end, only what follows is an error.
 pub none-told : (options : Options) (d : Received) (t : List ℕ) → ReadsAs options d t → (v : JsonValue)
     → ((u : List ℕ) → HasReceived d u → Parses owned_tree ⊥ d.settings.allow_inf_nan PartialMode.Off u (Ok v))
-    → (begin : ℕ) → None ≡ document_error begin (answer options.inf_nan t)
-none-told options d t h v told begin = rw (← h.names) (no-error begin _ t v (told t h.received))
+    → (begin : ℕ) (after : Option (ℕ × List ℕ)) → after ≡ document_error begin (answer options.inf_nan t) after
+none-told options d t h v told begin after = rw (← h.names) (no-error begin after _ t v (told t h.received))
+
+-- The same of the input, whose parts are no longer than all of it.
+module _ (options : Options) (input : Input) (t : List ℕ) (h : HasArrived options input t) where
+  sizes : length t ≡ (length (parts_of t).before + length (parts_of t).inside) + length input.after.items
+  sizes =
+      let p = parts_of t in
+      let all : length ((p.before ++ p.inside) ++ p.after) ≡ length t = ap length (whole-is t) in
+      let rest : length input.after.items ≡ length p.after = ap (λ q. length q.after) h.split in
+      omega (arith, all, rest, length-append (p.before ++ p.inside) p.after, length-append p.before p.inside)
+
+  pub after-fits : length input.after.items ≤ length t
+  after-fits = omega (arith, sizes)
+
+  pub after-told : has_mark t ≡ false → (v : JsonValue) → ((u : List ℕ) → HasReceived input.document u
+      → Parses owned_tree ⊥ input.document.settings.allow_inf_nan PartialMode.Off u (Ok v))
+      → trailing_error (length t - length input.after.items) (next_document 0 input.after.items) ≡ error_of options.inf_nan t
+  after-told unmarked v told =
+      let p = parts_of t in
+      let begin = length p.before in
+      let after = trailing_error (begin + length p.inside) (next_document 0 p.after) in
+      ap₂ trailing_error (omega (arith, sizes)) (ap (λ q. next_document 0 q.after) h.split)
+      ∙ none-told options input.document p.inside h.read v told begin after
+      ∙ sym (ap (λ b. if b then Some (0, codes "byte order mark") else document_error begin (answer options.inf_nan p.inside) after)
+      unmarked)
 
 module _ (options : Options) (d : Received) (t : List ℕ) (h : ReadsAs options d t) (width depth : ℕ) (r : Filled) where
   -- The rows of a value that the reading tells.

@@ -32,19 +32,20 @@ escape_of c = codes "\\u" ++ (two_digits (c / 256) ++ two_digits (c % 256))
 abbrev pub shown_char : ℕ → List ℕ
 shown_char c = if is_hidden c then escape_of c else encode_utf8 c
 
--- the rows, and how many columns of the last one are free
+-- the rows, how many columns of the last one are free, and where the text is dim from
 pub record Filled : Type 0 where
   pub text : List ℕ
   pub left : ℕ
+  pub mark : ℕ
 
 abbrev pub filled : Rows → Filled
-filled rows = record { text = string_bytes rows.text; left = rows.left }
+filled rows = record { text = string_bytes rows.text; left = rows.left; mark = rows.mark }
 
 abbrev pub new_row : ℕ → Filled → Filled
-new_row width r = record { text = r.text ++ 10 ∷ []; left = width }
+new_row width r = record { text = r.text ++ 10 ∷ []; left = width; mark = r.mark }
 
 abbrev pub fill : Filled → ℕ → Filled
-fill r c = record { text = r.text ++ shown_char c; left = r.left - columns_of c }
+fill r c = record { text = r.text ++ shown_char c; left = r.left - columns_of c; mark = r.mark }
 
 -- One more character: in a new row if the last one is full. A carriage return is left out.
 abbrev pub put_char : ℕ → Filled → ℕ → Filled
@@ -57,9 +58,17 @@ put_char width r c =
 abbrev pub put_bytes : ℕ → Filled → List ℕ → Filled
 put_bytes width r bytes = fold (put_char width) r (chars (utf8_lossy bytes))
 
--- one empty row
+-- no column of a row, and no index of a text, is so great
+abbrev pub endless : ℕ
+endless = 2 ^ 64 - 1
+
+-- one empty row; nothing is dim
 abbrev pub empty_row : ℕ → Filled
-empty_row width = record { text = []; left = width }
+empty_row width = record { text = []; left = width; mark = endless }
+
+-- what comes now is dim
+abbrev pub dim_on : Filled → Filled
+dim_on r = record { text = r.text; left = r.left; mark = length r.text }
 
 -- `…`
 abbrev pub mark : List ℕ
@@ -80,11 +89,11 @@ closers (suc depth) (b ∷ bs) =
 abbrev pub open_place : ℕ → List ℕ → ℕ
 open_place depth text = length text - closers depth (reverse text)
 
--- the text of a value, with the mark at its open place
+-- the text of a value, with the mark at its open place; it is dim from the mark on
 abbrev pub put_marked : ℕ → ℕ → Filled → List ℕ → Filled
 put_marked depth width r text =
     let place = open_place depth text in
-    put_bytes width (put_bytes width (put_bytes width r (take place text)) mark) (drop place text)
+    put_bytes width (put_bytes width (dim_on (put_bytes width r (take place text))) mark) (drop place text)
 
 -- no mark in a complete value
 abbrev pub put_value : ℕ → ℕ → Filled → List ℕ → Filled
@@ -108,5 +117,5 @@ put_parts options width p =
     put_bytes width (put_reading width p.extent.depth before p.inside value) p.after
 
 -- the rows of an input so far
-abbrev pub rows_of : Options → ℕ → List ℕ → List ℕ
-rows_of options width t = (ended width (put_parts options width (parts_of t))).text
+abbrev pub rows_of : Options → ℕ → List ℕ → Filled
+rows_of options width t = ended width (put_parts options width (parts_of t))

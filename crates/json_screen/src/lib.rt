@@ -8,5 +8,5 @@ mod shown;
 
 pub use input::{Input, Options};
 pub use report::error_report;
-pub use screen::{Rows, redraw};
+pub use screen::{Rows, Shown, redraw};
 pub use shown::rows_of;

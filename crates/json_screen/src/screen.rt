@@ -1,23 +1,27 @@
 //! What is on the screen, and what is written to change it.
-ghost use Rattle.std.specs.Prelude.{◌≡◌, ◌-◌, ◌++◌, ◌≤◌, chars, IfOk, List, ℕ, OnOk, length, reverse, take};
+ghost use Rattle.std.specs.Prelude.{◌≡◌, ◌-◌, ◌++◌, ◌≤◌, [], chars, IfOk, List, ℕ, OnOk, length, reverse, take};
 ghost use Rattle.std.specs.Int.{is_in_range};
 ghost use Rattle.std.specs.List.{fold};
 ghost use Rattle.json_screen.specs.Rows.{closers, columns_of, empty_row, ended, filled, is_hidden, new_row, put_bytes, put_char, put_marked};
-ghost use Rattle.json_screen.specs.Terminal.{IsPlain, IsWholeRows, Redraws, ups};
+ghost use Rattle.json_screen.specs.Terminal.{dimmed, IsPlain, IsWholeRows, Redraws, ups};
 
 use std::alloc::{AllocError, Global};
 
 // `…` at the open place, before the closing brackets that have not come.
 const MARK: &[u8] = b"\xe2\x80\xa6";
 
-// Up one row; to the row's first column, and clear to the screen's end; dim; plain again.
+// No line wrap: on a terminal that is narrower than expected, a row then stays one row. Off only while rows are drawn, so
+// that it isn't left off when the program is interrupted between two draws.
+const WRAP_OFF: &[u8] = b"\x1b[?7l";
+
+// Up one row; to the row's first column, and clear to the screen's end; dim; plain again, and line wrap on.
 const UP: &[u8] = b"\x1bM";
 
 const CLEAR: &[u8] = b"\r\x1b[J";
 
 const DIM: &[u8] = b"\x1b[2m";
 
-const PLAIN: &[u8] = b"\x1b[m";
+const END: &[u8] = b"\x1b[m\x1b[?7h";
 
 // Control characters, DEL, C1 controls, and the marks that turn the direction of text.
 fn is_hidden(c: char) -> bool
@@ -168,25 +172,51 @@ fn open_place(text: &[u8], depth: usize) -> usize
     place
 }
 
-/// Returns what to write so that a screen that ends with the rows `old` ends with the rows `new`.
+/// What a screen ends with.
+#[derive(Debug, Drop)]
+pub struct Shown {
+    /// The rows, with line feeds between them.
+    pub text: Vec<u8>,
+    /// Where the text is dim from.
+    pub mark: usize,
+}
+
+impl Shown {
+    /// Returns no rows.
+    pub fn new(alloc: Global) -> Shown
+        ensures { result.text.items ≡ [] }
+    {
+        Shown {
+            text: Vec::new(alloc),
+            mark: usize::MAX,
+        }
+    }
+}
+
+/// Returns what to write so that a screen that ends with `old` ends with `new`.
 ///
-/// It begins with the first row that changes. The text from `mark` on is dim.
-pub fn redraw(alloc: Global, old: &[u8], new: &[u8], mark: usize) -> Result<Vec<u8>, AllocError>
-    ensures { IsPlain old.now → IsPlain new.now
-        → IfOk result (λ drawn. Redraws old.now new.now drawn.items) }
+/// It begins with the first row that changes, or that is dim in one of them. While it is drawn, lines don't wrap.
+pub fn redraw(alloc: Global, old: &Shown, new: &Shown) -> Result<Vec<u8>, AllocError>
+    ensures { IsPlain old.now.text.items → IsPlain new.now.text.items
+        → IfOk result (λ drawn. Redraws (dimmed old.now.text.items old.now.mark)
+        (dimmed new.now.text.items new.now.mark) drawn.items) }
 {
     let mut drawn = Vec::new(alloc);
-    if old == new {
+    let last = old.text.as_slice();
+    let text = new.text.as_slice();
+    if last == text && old.mark == new.mark {
         return Ok(drawn);
     }
-    let begin = changed_row(old, new);
-    append_ups(&mut drawn, &old[begin..])?;
+    let was_dim = old.mark.min(last.len());
+    let dim = new.mark.min(text.len());
+    let begin = changed_row(&last[..was_dim], &text[..dim]);
+    drawn.extend_from_slice(WRAP_OFF)?;
+    append_ups(&mut drawn, &last[begin..])?;
     drawn.extend_from_slice(CLEAR)?;
-    let dim = mark.max(begin).min(new.len());
-    drawn.extend_from_slice(&new[begin..dim])?;
+    drawn.extend_from_slice(&text[begin..dim])?;
     drawn.extend_from_slice(DIM)?;
-    drawn.extend_from_slice(&new[dim..])?;
-    drawn.extend_from_slice(PLAIN)?;
+    drawn.extend_from_slice(&text[dim..])?;
+    drawn.extend_from_slice(END)?;
     Ok(drawn)
 }
 

@@ -12,53 +12,61 @@ use Rattle.std.specs.Io.{StartsWith}
 use Rattle.std.specs.Io.KnownBytes.{Appends, Consumes, IsAtEnd, Keeps}
 use Rattle.jiter_print.specs.Written.{AppendsPrefix}
 use Rattle.json_screen.specs.Arrived.{HasArrived}
-use Rattle.json_screen.specs.Rows.{rows_of}
-use Rattle.viewer.specs.Shown.{BreaksOff, Changes, if_any, last_line, line_at, lines_of, new_line, shown, Shows, ShowsAll}
-use Rattle.viewer.specs.Shown.{ShowsPrefix, ShowsRows, WritesChange}
+use Rattle.viewer.specs.Shown.{BreaksOff, Changes, if_any, last_line, line_at, lines_of, Look, look, look_at, new_line, sent}
+use Rattle.viewer.specs.Shown.{shown, Shows, ShowsPrefix, ShowsRead, ShowsRows, WritesChange}
+use Rattle.viewer.specs.declared.view.Output.{Output}
+use Rattle.viewer.specs.declared.view.Output.TheVariants.{Value, Lines, Rows}
 use Rattle.json_screen.specs.Terminal.{IsPlain, Redraws}
 use Rattle.json_screen.specs.declared.input.Input.{Input}
 use Rattle.json_screen.specs.declared.input.Options.{Options}
-use Rattle.json_screen.proofs.Drawing.{redraws-then}
+use Rattle.json_screen.specs.declared.screen.Shown.{Shown}
+use Rattle.json_screen.proofs.Drawing.{nothing-drawn, redraws-then}
 use Rattle.viewer.proofs.Lines.{last_of, last-more, lines-more, shown-more}
 use Rattle.json_screen.proofs.Plain.{below_or_not, plain-rows}
 
 -- What was shown of some pieces, and what was written for that. In rows: the screen ends with what was shown.
-abbrev pub State : Option ℕ → Options → List (List ℕ) → List ℕ → List ℕ → Type 0
-State None options pieces last bytes = (last ≡ last_of [] (lines_of options pieces)) × (bytes ≡ shown options pieces)
-State (Some width) options pieces last bytes =
-    (IsPlain last × Redraws [] last bytes)
+abbrev pub State : Output → Options → List (List ℕ) → Look → List ℕ → Type 0
+State Value options pieces last bytes = bytes ≡ []
+State Lines options pieces last bytes = (last.0 ≡ last_of [] (lines_of options pieces)) × (bytes ≡ shown options pieces)
+State (Rows width) options pieces last bytes =
+    (IsPlain last.0 × Redraws [] (sent last) bytes)
     × ((writes : List (List ℕ)) × ShowsRows options width pieces writes × (bytes ≡ concat writes))
 
-shows-is : (width : Option ℕ) (options : Options) (pieces : List (List ℕ)) (last bytes : List ℕ)
-    → State width options pieces last bytes → Shows width options pieces bytes
-shows-is None options pieces last bytes s = s.1
-shows-is (Some width) options pieces last bytes s = s.1
+shows-is : (output : Output) (options : Options) (pieces : List (List ℕ)) (last : Look) (bytes : List ℕ)
+    → State output options pieces last bytes → Shows output options pieces bytes
+shows-is Value options pieces last bytes s = s
+shows-is Lines options pieces last bytes s = s.1
+shows-is (Rows width) options pieces last bytes s = s.1
 
-pub begun : (width : Option ℕ) (options : Options) → State width options [] [] []
-begun None options = (refl, refl)
-begun (Some width) options =
-    ((tt, λ top plain whole. refl), ([], record { count = refl; rows = λ n some few. absurd (omega (arith, some, few)) }, refl))
+begun : (output : Output) (options : Options) (last : Look) → last.0 ≡ [] → State output options [] last []
+begun Value options last none = refl
+begun Lines options last none = (none, refl)
+begun (Rows width) options last none = (
+  (subst IsPlain (sym none) tt, nothing-drawn last.0 last.1 none),
+  ([], record { count = refl; rows = λ n some few. absurd (omega (arith, some, few)) }, refl),
+)
 
 one-more : (pieces : List (List ℕ)) (piece : List ℕ) → concat (pieces ++ piece ∷ []) ≡ concat pieces ++ piece
 one-more pieces piece = concat-append pieces (piece ∷ []) ∙ ap (λ l. concat pieces ++ l) (append-nil piece)
 
 -- what one read more shows
-pub state-then : (width : Option ℕ) (options : Options) (pieces : List (List ℕ)) (last bytes piece new more : List ℕ)
-    → State width options pieces last bytes → Changes width options (concat pieces ++ piece) last new more
-    → State width options (pieces ++ piece ∷ []) new (bytes ++ more)
-state-then None options pieces last bytes piece new more s c =
+pub state-then : (output : Output) (options : Options) (pieces : List (List ℕ)) (last : Look) (bytes piece : List ℕ) (new : Look)
+    (more : List ℕ) → State output options pieces last bytes → Changes output options (concat pieces ++ piece) last new more
+    → State output options (pieces ++ piece ∷ []) new (bytes ++ more)
+state-then Value options pieces last bytes piece new more s c = ap₂ (λ a b. a ++ b) s c
+state-then Lines options pieces last bytes piece new more s c =
     let line = line_at options (concat pieces ++ piece) in
     let all : lines_of options (pieces ++ piece ∷ []) ≡ lines_of options pieces ++ if_any line = lines-more options pieces piece in (
       c.0 ∙ ap (λ l. last_line l line) s.0 ∙ sym (ap (last_of []) all ∙ last-more [] (lines_of options pieces) line),
       ap₂ (λ a b. a ++ b) s.1 (c.1 ∙ ap (λ l. new_line l line) s.0)
           ∙ sym (ap (λ l. concat (dedup bytes_eq l)) all ∙ shown-more (lines_of options pieces) line),
     )
-state-then (Some width) options pieces last bytes piece new more s c =
+state-then (Rows width) options pieces last bytes piece new more s c =
     let writes = s.1.0 in
     let before = s.1.1 in
     let joined : concat (writes ++ more ∷ []) ≡ bytes ++ more = one-more writes more ∙ ap (λ l. l ++ more) (sym s.1.2) in
-    let drawn : Redraws [] new (bytes ++ more) = redraws-then [] last new bytes more s.0.1 (c.1 s.0.0) in (
-      (subst IsPlain (sym c.0) (plain-rows options width (concat pieces ++ piece)), drawn),
+    let drawn : Redraws [] (sent new) (bytes ++ more) = redraws-then [] (sent last) (sent new) bytes more s.0.1 (c.1 s.0.0) in (
+      (subst IsPlain (sym (ap (λ l. l.0) c.0)) (plain-rows options width (concat pieces ++ piece)), drawn),
       (
         writes ++ more ∷ [],
         record {
@@ -69,8 +77,9 @@ state-then (Some width) options pieces last bytes piece new more s c =
       ),
     ) where
       rows-then : (n : ℕ) → 1 ≤ n → n ≤ length (pieces ++ piece ∷ []) → ShowsRows options width pieces s.1.0
-          → concat (s.1.0 ++ more ∷ []) ≡ bytes ++ more → Redraws [] new (bytes ++ more)
-          → Redraws [] (rows_of options width (concat (take n (pieces ++ piece ∷ [])))) (concat (take n (s.1.0 ++ more ∷ [])))
+          → concat (s.1.0 ++ more ∷ []) ≡ bytes ++ more → Redraws [] (sent new) (bytes ++ more)
+          → Redraws [] (sent (look_at options width (concat (take n (pieces ++ piece ∷ [])))))
+          (concat (take n (s.1.0 ++ more ∷ [])))
       rows-then n some few before joined drawn =
           ⊎_elim
           (λ earlier.
@@ -86,29 +95,29 @@ state-then (Some width) options pieces last bytes piece new more s c =
           let written : take n (s.1.0 ++ more ∷ []) ≡ s.1.0 ++ more ∷ [] =
           ap (λ m. take m (s.1.0 ++ more ∷ [])) same ∙ take-length (s.1.0 ++ more ∷ []) in
           subst (λ x. Redraws [] x (concat (take n (s.1.0 ++ more ∷ []))))
-          (c.0 ∙ ap (rows_of options width) (sym (ap concat whole ∙ one-more pieces piece)))
-          (subst (Redraws [] new) (sym (ap concat written ∙ joined)) drawn))
+          (ap sent (c.0 ∙ ap (look_at options width) (sym (ap concat whole ∙ one-more pieces piece))))
+          (subst (Redraws [] (sent new)) (sym (ap concat written ∙ joined)) drawn))
           (below_or_not n (length pieces + 1))
 
 -- What was read has arrived in some pieces, and they are shown.
-pub record Follows (width : Option ℕ) (options : Options) (from from' out out' : Option (List ℕ)) (input : Input) (last : List ℕ)
+pub record Follows (output : Output) (options : Options) (from from' out out' : Option (List ℕ)) (input : Input) (last : Look)
     : Type 0 where
   pub pieces : List (List ℕ)
   pub bytes : List ℕ
   pub arrived : HasArrived options input (concat pieces)
   pub taken : Consumes from from' (concat pieces)
-  pub state : State width options pieces last bytes
+  pub state : State output options pieces last bytes
   pub shown-is : Appends out out' bytes
 
 -- nothing was read yet
-pub begins : (width : Option ℕ) (options : Options) (from out : Option (List ℕ)) (input : Input) → HasArrived options input []
-    → Follows width options from from out out input []
-begins width options from out input h = record {
+pub begins : (output : Output) (options : Options) (from out : Option (List ℕ)) (input : Input) → HasArrived options input []
+    → (last : Shown) → last.text.items ≡ [] → Follows output options from from out out input (look last)
+begins output options from out input h last none = record {
   pieces = [];
   bytes = [];
   arrived = h;
   taken = Consumes-nil from;
-  state = begun width options;
+  state = begun output options (look last) none;
   shown-is = Appends-nil out;
 }
 
@@ -130,20 +139,20 @@ appends-kept (Some x) None c t h k = absurd h
 appends-kept (Some x) (Some y) None t h k = absurd k
 appends-kept (Some x) (Some y) (Some z) t h k = k ∙ h
 
-module _ (width : Option ℕ) (options : Options) (from out : Option (List ℕ)) where
+module _ (output : Output) (options : Options) (from out : Option (List ℕ)) where
   -- a prefix of what pieces that were read show
   stopped-in : (from' out' : Option (List ℕ)) (pieces : List (List ℕ)) (bytes : List ℕ) → Consumes from from' (concat pieces)
-      → Shows width options pieces bytes → AppendsPrefix out out' bytes → IfSome from (λ t. ShowsPrefix width options t out out')
+      → Shows output options pieces bytes → AppendsPrefix out out' bytes → IfSome from (λ t. ShowsPrefix output options t out out')
   stopped-in from' out' pieces bytes taken shows prefix =
       IfSome_then from (prefix-of from from' (concat pieces) taken) (λ t starts. (pieces, starts, (bytes, shows, prefix)))
 
-  module _ (from' out' : Option (List ℕ)) (input : Input) (last : List ℕ)
-      (h : Follows width options from from' out out' input last) where
-    shows : Shows width options h.pieces h.bytes
-    shows = shows-is width options h.pieces last h.bytes h.state
+  module _ (from' out' : Option (List ℕ)) (input : Input) (last : Look)
+      (h : Follows output options from from' out out' input last) where
+    shows : Shows output options h.pieces h.bytes
+    shows = shows-is output options h.pieces last h.bytes h.state
 
     -- nothing was read
-    pub stays : (from'' : Option (List ℕ)) → Keeps from' from'' → Follows width options from from'' out out' input last
+    pub stays : (from'' : Option (List ℕ)) → Keeps from' from'' → Follows output options from from'' out out' input last
     stays from'' kept = record {
       pieces = h.pieces;
       bytes = h.bytes;
@@ -163,11 +172,11 @@ module _ (width : Option ℕ) (options : Options) (from out : Option (List ℕ))
       pub all-arrived : IfSome from (λ t. HasArrived options input t)
       all-arrived = IfSome_then from all-read (λ t is. subst (HasArrived options input) is h.arrived)
 
-      pub all-shown : IfSome from (λ t. ShowsAll width options t out out')
+      pub all-shown : IfSome from (λ t. ShowsRead output options t out out')
       all-shown = IfSome_then from all-read (λ t is. (h.pieces, is, (h.bytes, shows, h.shown-is)))
 
     -- no more is read
-    pub stopped : (out'' : Option (List ℕ)) → Keeps out' out'' → IfSome from (λ t. ShowsPrefix width options t out out'')
+    pub stopped : (out'' : Option (List ℕ)) → Keeps out' out'' → IfSome from (λ t. ShowsPrefix output options t out out'')
     stopped out'' kept =
         let whole = appends-kept out out' out'' h.bytes h.shown-is kept in
         stopped-in from' out'' h.pieces h.bytes h.taken shows
@@ -187,40 +196,41 @@ module _ (width : Option ℕ) (options : Options) (from out : Option (List ℕ))
 
       -- what stands then is shown
       pub goes-on : (input' : Input) → HasArrived options input' (concat h.pieces ++ piece)
-          → (out'' : Option (List ℕ)) (new : List ℕ) → WritesChange width options (concat h.pieces ++ piece) last new out' out''
-          → Follows width options from from'' out out'' input' new
+          → (out'' : Option (List ℕ)) (new : Look) → WritesChange output options (concat h.pieces ++ piece) last new out' out''
+          → Follows output options from from'' out out'' input' new
       goes-on input' more-arrived out'' new wrote = record {
         pieces = pieces;
         bytes = h.bytes ++ wrote.0;
         arrived = subst (HasArrived options input') joined more-arrived;
         taken = taken-then;
-        state = state-then width options h.pieces last h.bytes piece new wrote.0 h.state wrote.1;
+        state = state-then output options h.pieces last h.bytes piece new wrote.0 h.state wrote.1;
         shown-is = Appends-trans out out' out'' _ _ h.shown-is wrote.2;
       }
 
       -- a prefix of it is
-      pub breaks-off : (out'' : Option (List ℕ)) → BreaksOff width options (concat h.pieces ++ piece) last out' out''
-          → IfSome from (λ t. ShowsPrefix width options t out out'')
+      pub breaks-off : (out'' : Option (List ℕ)) → BreaksOff output options (concat h.pieces ++ piece) last out' out''
+          → IfSome from (λ t. ShowsPrefix output options t out out'')
       breaks-off out'' (inl kept) = stopped out'' kept
       breaks-off out'' (inr (new, (more, changes, prefix))) =
-          let state = state-then width options h.pieces last h.bytes piece new more h.state changes in
+          let state = state-then output options h.pieces last h.bytes piece new more h.state changes in
           stopped-in from'' out'' pieces (h.bytes ++ more) taken-then
-          (shows-is width options pieces new (h.bytes ++ more) state) (
+          (shows-is output options pieces new (h.bytes ++ more) state) (
             length h.bytes + prefix.0,
             subst (Appends out out'') (sym (take-append-add h.bytes more prefix.0))
                 (Appends-trans out out' out'' _ _ h.shown-is prefix.1),
           )
 
 -- A line that was written, or a prefix of it.
-pub line-written : {T E : Type 0} (r : Result T E) (items : T → List ℕ) (options : Options) (t last : List ℕ)
-    (out out' : Option (List ℕ)) → IfOk r (λ x. items x ≡ last_line last (line_at options t))
-    → OnOk r (Appends out out' (new_line last (line_at options t)))
-    → IfOk r (λ x. WritesChange None options t last (items x) out out')
-line-written (Ok x) items options t last out out' is wrote = (new_line last (line_at options t), (is, refl), wrote)
-line-written (Err e) items options t last out out' is wrote = tt
+pub line-written : {E : Type 0} (r : Result Shown E) (options : Options) (t : List ℕ) (last : Shown) (out out' : Option (List ℕ))
+    → IfOk r (λ x. x.text.items ≡ last_line last.text.items (line_at options t))
+    → OnOk r (Appends out out' (new_line last.text.items (line_at options t)))
+    → IfOk r (λ x. WritesChange Lines options t (look last) (look x) out out')
+line-written (Ok x) options t last out out' is wrote = (new_line last.text.items (line_at options t), (is, refl), wrote)
+line-written (Err e) options t last out out' is wrote = tt
 
-pub line-broken : {T E : Type 0} (r : Result T E) (options : Options) (t last : List ℕ) (out out' : Option (List ℕ))
-    → OnErr r (AppendsPrefix out out' (new_line last (line_at options t))) → OnErr r (BreaksOff None options t last out out')
+pub line-broken : {E : Type 0} (r : Result Shown E) (options : Options) (t : List ℕ) (last : Shown) (out out' : Option (List ℕ))
+    → OnErr r (AppendsPrefix out out' (new_line last.text.items (line_at options t)))
+    → OnErr r (BreaksOff Lines options t (look last) out out')
 line-broken (Ok x) options t last out out' prefix = tt
 line-broken (Err e) options t last out out' prefix =
-    inr (last_line last (line_at options t), (new_line last (line_at options t), (refl, refl), prefix))
+    inr ((last_line last.text.items (line_at options t), 0), (new_line last.text.items (line_at options t), (refl, refl), prefix))

@@ -88,3 +88,8 @@ pub last-more : (d : List ℕ) (xs : List (List ℕ)) (o : Option (List ℕ))
 last-more d xs None = ap (last_of d) (append-nil xs)
 last-more d [] (Some x) = refl
 last-more d (y ∷ ys) (Some x) = last-more y ys (Some x)
+
+-- the first line is written
+pub first-line : (o : Option (List ℕ)) → new_line [] o ≡ concat (if_any o)
+first-line None = refl
+first-line (Some line) = sym (shown-more [] (Some line))

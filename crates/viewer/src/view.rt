@@ -1,19 +1,31 @@
 //! A complete run, over one reader and two writers.
-ghost use Rattle.std.specs.Prelude.{◌≡◌, [], List, ℕ, true, IfOk, IfSome, OnErr, OnOk, Some};
+ghost use Rattle.std.specs.Prelude.{◌≡◌, [], List, ℕ, true, IfOk, IfSome, OnErr, OnOk};
 ghost use Rattle.std.specs.Io.KnownBytes.{Appends};
 ghost use Rattle.jiter.specs.Caller.{answer_in, is_active, IsBegunContainer};
 ghost use Rattle.jiter_print.specs.Written.{AppendsPrefix};
 ghost use Rattle.json_screen.specs.Arrived.{HasArrived, ReadsAs};
 ghost use Rattle.json_screen.specs.declared.input.Options.{Options};
-ghost use Rattle.viewer.specs.Shown.{BreaksOff, EndsAs, Finishes, IsLineOfCut, last_line, new_line, Ran, ShowsAll, ShowsPrefix};
-ghost use Rattle.viewer.specs.Shown.{value_line, WritesChange};
+ghost use Rattle.viewer.specs.Shown.{BreaksOff, EndsAs, Finishes, IsLineOfCut, last_line, look, new_line, Ran, ShowsPrefix, ShowsRead};
+ghost use Rattle.viewer.specs.Shown.{shown_at_end, value_line, WritesChange};
+ghost use Rattle.viewer.specs.declared.view.Output.TheVariants.{Rows};
 
 use jiter_incremental::IncrementalParser;
 use jiter_print::{print, write_line};
-use json_screen::{Input, Options, error_report, redraw, rows_of};
+use json_screen::{Input, Options, Shown, error_report, redraw, rows_of};
 use std::alloc::{AllocError, Global};
 use std::io;
 use std::io::{ErrorKind, Read, Write};
+
+/// What is written of a document.
+#[derive(Clone, Copy)]
+pub enum Output {
+    /// The value's line, once, at the end of the input.
+    Value,
+    /// A line for each change, at once.
+    Lines,
+    /// Rows on a terminal, of so many columns, in place.
+    Rows(usize),
+}
 
 /// How a document is read and shown.
 #[derive(Clone, Copy)]
@@ -22,16 +34,20 @@ pub struct Settings<'a> {
     pub name: &'a str,
     /// How the document is read.
     pub options: Options,
-    /// The columns of the terminal's rows; `None` if a line is written for each change.
-    pub width: Option<usize>,
+    /// What is written.
+    pub output: Output,
 }
 
-/// Reads the input to its end, and shows the document so far after each read.
+/// Reads the input to its end, and shows the document.
 ///
-/// With a width, it is shown in place, indented, with the text around it: after each read the screen ends with the rows of
-/// the input so far. The closing brackets that haven't come are dim. An input whose document has an error is shown as it
-/// is. Without a width, the compact text of the value is written if its line differs from the last one. Returns whether
-/// the input has a document. If it hasn't, the error is written to `err`, with the line and a caret under the column.
+/// - `Rows`: it is shown in place, indented, with the text around it. After each read the screen ends with the rows of the
+///   input so far; the closing brackets that haven't come are dim. An input whose document has an error is shown as it is.
+/// - `Lines`: after each read, the compact text of the value so far is written if its line differs from the last one.
+/// - `Value`: the compact text of the value is written once, at the end of the input. For a document that ends early it is
+///   the value so far.
+///
+/// Returns whether the input has a document, and no other one right after it. If not, the error is written to `err`, with
+/// the line and a caret under the column.
 ///
 /// # Errors
 ///
@@ -55,7 +71,8 @@ pub fn run<R: Read, O: Write, E: Write>(
         (value_line (answer_in settings.entry.options.inf_nan settings.entry.options.mode prefix)) }
 {
     let mut input = Input::new(alloc, settings.options);
-    follow(alloc, settings.width, &mut input, reader, out)?;
+    follow(alloc, settings.output, &mut input, reader, out)?;
+    write_value(alloc, settings.output, &input, out)?;
     finish(alloc, settings, input, err)
 }
 
@@ -63,7 +80,7 @@ pub fn run<R: Read, O: Write, E: Write>(
 #[tactic(auto, using(crate::proofs::Following::begins))]
 fn follow<R: Read, O: Write>(
     alloc: Global,
-    width: Option<usize>,
+    output: Output,
     input: &mut Input,
     reader: &mut R,
     out: &mut O,
@@ -71,20 +88,20 @@ fn follow<R: Read, O: Write>(
     ensures all { (options : Options) → HasArrived options input.old []
         → OnOk result (IfSome (R.remaining reader.old) (λ t. HasArrived options input.new t)) }
     ensures shown { (options : Options) → HasArrived options input.old []
-        → OnOk result (IfSome (R.remaining reader.old) (λ t. ShowsAll width options t
+        → OnOk result (IfSome (R.remaining reader.old) (λ t. ShowsRead output options t
         (O.contents out.old) (O.contents out.new))) }
     ensures prefix { (options : Options) → HasArrived options input.old []
-        → OnErr result (IfSome (R.remaining reader.old) (λ t. ShowsPrefix width options t
+        → OnErr result (IfSome (R.remaining reader.old) (λ t. ShowsPrefix output options t
         (O.contents out.old) (O.contents out.new))) }
 {
-    let mut last = Vec::new(alloc);
+    let mut last = Shown::new(alloc);
     let mut piece = [0; 4096];
     for _ in 0..u64::MAX {
         match reader.read(&mut piece) {
             Ok(0) => return Ok(()),
             Ok(count) => {
                 input.take(&piece[..count])?;
-                last = show(alloc, width, input, last, out)?;
+                last = show(alloc, output, input, last, out)?;
             }
             Err(error) if error.kind() == ErrorKind::Interrupted => {}
             Err(error) => return Err(error),
@@ -93,22 +110,23 @@ fn follow<R: Read, O: Write>(
     Err(io::Error::from(ErrorKind::Other))
 }
 
-// Returns the text that is shown now.
+// Returns what is shown now.
 fn show<O: Write>(
     alloc: Global,
-    width: Option<usize>,
+    output: Output,
     input: &Input,
-    last: Vec<u8>,
+    last: Shown,
     out: &mut O,
-) -> io::Result<Vec<u8>>
-    ensures whole { (options : Options) → (t : List ℕ) → HasArrived options input.now t → IfOk result (λ text.
-        WritesChange width options t last.items text.items (O.contents out.old) (O.contents out.new)) }
+) -> io::Result<Shown>
+    ensures whole { (options : Options) → (t : List ℕ) → HasArrived options input.now t → IfOk result (λ shown.
+        WritesChange output options t (look last) (look shown) (O.contents out.old) (O.contents out.new)) }
     ensures prefix { (options : Options) → (t : List ℕ) → HasArrived options input.now t → OnErr result
-        (BreaksOff width options t last.items (O.contents out.old) (O.contents out.new)) }
+        (BreaksOff output options t (look last) (O.contents out.old) (O.contents out.new)) }
 {
-    match width {
-        Some(width) => show_rows(alloc, width, input, last, out),
-        None => show_line(alloc, &input.document, last, out),
+    match output {
+        Output::Value => Ok(last),
+        Output::Lines => show_line(alloc, &input.document, last, out),
+        Output::Rows(width) => show_rows(alloc, width, input, last, out),
     }
 }
 
@@ -116,46 +134,62 @@ fn show<O: Write>(
 fn show_line<O: Write>(
     alloc: Global,
     document: &IncrementalParser,
-    last: Vec<u8>,
+    last: Shown,
     out: &mut O,
-) -> io::Result<Vec<u8>>
-    ensures last { (options : Options) → (t : List ℕ) → ReadsAs options document.now t → IfOk result (λ line. line.items
-        ≡ last_line last.items (value_line (answer_in options.inf_nan options.mode t))) }
+) -> io::Result<Shown>
+    ensures last { (options : Options) → (t : List ℕ) → ReadsAs options document.now t → IfOk result (λ line. line.text.items
+        ≡ last_line last.text.items (value_line (answer_in options.inf_nan options.mode t))) }
     ensures whole { (options : Options) → (t : List ℕ) → ReadsAs options document.now t
         → OnOk result (Appends (O.contents out.old) (O.contents out.new)
-        (new_line last.items (value_line (answer_in options.inf_nan options.mode t)))) }
+        (new_line last.text.items (value_line (answer_in options.inf_nan options.mode t)))) }
     ensures prefix { (options : Options) → (t : List ℕ) → ReadsAs options document.now t
         → OnErr result (AppendsPrefix (O.contents out.old) (O.contents out.new)
-        (new_line last.items (value_line (answer_in options.inf_nan options.mode t)))) }
+        (new_line last.text.items (value_line (answer_in options.inf_nan options.mode t)))) }
 {
     let mut line = match document.value() {
         Ok(value) => print(alloc, value)?,
         Err(_) => return Ok(last),
     };
     line.push(b'\n')?;
-    if line != last {
+    if line != last.text {
         write_line(out, line.as_slice())?;
     }
-    Ok(line)
+    Ok(Shown { text: line, ..last })
 }
 
 fn show_rows<O: Write>(
     alloc: Global,
     width: usize,
     input: &Input,
-    last: Vec<u8>,
+    last: Shown,
     out: &mut O,
-) -> io::Result<Vec<u8>>
-    ensures whole { (options : Options) → (t : List ℕ) → HasArrived options input.now t → IfOk result (λ text.
-        WritesChange (Some width) options t last.items text.items (O.contents out.old) (O.contents out.new)) }
+) -> io::Result<Shown>
+    ensures whole { (options : Options) → (t : List ℕ) → HasArrived options input.now t → IfOk result (λ shown.
+        WritesChange (Rows width) options t (look last) (look shown) (O.contents out.old) (O.contents out.new)) }
     ensures prefix { (options : Options) → (t : List ℕ) → HasArrived options input.now t → OnErr result
-        (BreaksOff (Some width) options t last.items (O.contents out.old) (O.contents out.new)) }
+        (BreaksOff (Rows width) options t (look last) (O.contents out.old) (O.contents out.new)) }
 {
-    let rows = rows_of(alloc, width, input)?;
-    let text = rows.text.into_bytes();
-    let drawn = redraw(alloc, last.as_slice(), text.as_slice(), rows.mark)?;
+    let shown = rows_of(alloc, width, input)?;
+    let drawn = redraw(alloc, &last, &shown)?;
     write_line(out, drawn.as_slice())?;
-    Ok(text)
+    Ok(shown)
+}
+
+fn write_value<O: Write>(
+    alloc: Global,
+    output: Output,
+    input: &Input,
+    out: &mut O,
+) -> io::Result<()>
+    ensures whole { (options : Options) → (t : List ℕ) → HasArrived options input.now t → OnOk result
+        (Appends (O.contents out.old) (O.contents out.new) (shown_at_end output options t)) }
+    ensures prefix { (options : Options) → (t : List ℕ) → HasArrived options input.now t → OnErr result
+        (AppendsPrefix (O.contents out.old) (O.contents out.new) (shown_at_end output options t)) }
+{
+    if let Output::Value = output {
+        show_line(alloc, &input.document, Shown::new(alloc), out)?;
+    }
+    Ok(())
 }
 
 fn finish<E: Write>(

@@ -28,7 +28,7 @@ returns-in_err-push-clause-prefix g c = λ options t h. if-err c.from_residual-i
 
 pub returns-in_err-write_line-clause-prefix : goal.returns-in_err-write_line-clause-prefix
 returns-in_err-write_line-clause-prefix g c = λ options t h.
-    let other = line-shown c.args.last.items c.push.new.self.items (sym c.ne.ensures ∙ c.if-ne.true) in
+    let other = line-shown c.args.last.text.items c.push.new.self.items (sym c.ne.ensures ∙ c.if-ne.true) in
     let written = rw c.as_slice.ensures.value at c.in_err-write_line.ensures.prefix in
     rw (told g (goal.at.returns-in_err-write_line-clause-prefix g c).In_ok-push options t h)
     (if-err c.from_residual-in_err-write_line.result (rw other written))
@@ -41,7 +41,7 @@ returns-clause-whole g c = λ options t h.
     rw (told g (goal.at.returns-clause-whole g c).In_ok-push options t h) (elim c.if-ne.branch [
       | then-ne+in_ok-write_line w ↦ (
           let written = rw w.as_slice.ensures.value at w.in_ok-write_line.ensures.whole in
-          rw w.out-is (rw (line-shown c.args.last.items c.push.new.self.items (sym c.ne.ensures ∙ w.if-ne.true)) written))
+          rw w.out-is (rw (line-shown c.args.last.text.items c.push.new.self.items (sym c.ne.ensures ∙ w.if-ne.true)) written))
       | else-ne w ↦ rw w.out-is
-          (rw (same-line c.args.last.items c.push.new.self.items (sym c.ne.ensures ∙ w.if-ne.false)) (Appends-nil _))
+          (rw (same-line c.args.last.text.items c.push.new.self.items (sym c.ne.ensures ∙ w.if-ne.false)) (Appends-nil _))
     ])
