@@ -7,6 +7,9 @@
  *   texts                 the members of an object of strings: where each key and each string lies
  *   number                the number, whichever it is, as a double, as an unsigned integer, and its cause and column
  *   other CONTENTS        each call over a handle that holds something else: nothing, a parser, a document or lines
+ *   refill                handles that are filled again, and what they then hold
+ *   cut                   each text with a capacity of one byte
+ *   constants             the version; each constant of the header by its name, with its number and its words
  *   causes                the words of every error, and of numbers that are none */
 #include "jiter_c.h"
 
@@ -17,13 +20,18 @@
 
 static char bytes[1 << 16], out[1 << 16];
 static size_t length;
-static JiterFault fault;
+static JiterFault fault = {0, 9, 9, SIZE_MAX}; /* a call that fails must write all of it */
 
 static bool failed(void) {
   char cause[200];
   size_t count = 0;
-  if (fault.kind == JITER_OUT_OF_MEMORY)
+  if (fault.kind == JITER_OUT_OF_MEMORY) {
+    if (fault.expected || fault.actual || fault.index > length)
+      exit(4);
     return false;
+  }
+  if (fault.kind == JITER_MISUSE)
+    return printf("misuse\n") > 0;
   jiter_cause(&fault, cause, sizeof cause, &count);
   printf("fault %" PRIu32 " at %zu: %.*s\n", fault.kind, fault.index, (int)count, cause);
   return true;
@@ -66,7 +74,7 @@ static bool document(uint32_t mode, const char *pointer, bool unique) {
            jiter_document_text(&held, NULL, 0, NULL, 0, out, sizeof out, &whole, &fault))
     printf("repeated %.*s at %zu\n", (int)whole, out, fault.index);
   else
-    ok = fault.kind == JITER_MISUSE ? printf("misuse\n") > 0 : failed();
+    ok = failed();
   jiter_document_free(&held);
   return ok;
 }
@@ -135,14 +143,17 @@ static bool number(void) {
   return true;
 }
 
-/* Shows a text and where it lies; asks again with more room where it was too small. */
+/* Shows a text and where it lies; asks again with more room where it was too small, and the reader is where it was. */
 static bool next_text(JiterReader *reader, bool *more, bool first, size_t *capacity, bool key) {
-  JiterText text = JITER_NO_TEXT;
+  JiterText text = {"?", 1};
+  size_t before = reader->index;
   while (!(!key ? jiter_next_text(reader, out, *capacity, &text, &fault)
                 : (first ? jiter_next_object_text : jiter_next_key_text)(reader, more, out, *capacity, &text, &fault))) {
     if (fault.kind != JITER_ROOM_TOO_SMALL)
       return failed() && false;
-    printf("(%zu is too small) ", (*capacity)++);
+    printf("(%zu is too small at %zu) ", (*capacity)++, fault.index);
+    if (reader->index != before || text.length || fault.expected || fault.actual)
+      printf("(written) ");
   }
   if (*more)
     printf("%s%.*s%s", text.bytes == out ? "decoded " : "", (int)text.length, text.bytes, key ? ": " : ", ");
@@ -229,6 +240,119 @@ static bool other(const char *contents) {
   return ok;
 }
 
+/* Handles that are filled again: what each held must be freed, and a call that fails says what it leaves. */
+static bool refill_parser(void) {
+  JiterParser parser = {0};
+  size_t whole = 0;
+  bool ok = jiter_parser_new(&parser, false, JITER_OFF) && push(&parser, bytes, length) &&
+            jiter_parser_new(&parser, false, JITER_ON) && push(&parser, bytes, length / 2);
+  if (ok && !jiter_parser_new(&parser, false, 7))
+    printf("no mode 7, ");
+  if (ok && (ok = jiter_parser_value(&parser, out, sizeof out, &whole, &fault)))
+    printf("position %zu: %.*s\n", jiter_parser_position(&parser), (int)whole, out);
+  jiter_parser_free(&parser);
+  return ok;
+}
+
+static bool parse(JiterDocument *held, size_t count, uint32_t mode, bool unique) {
+  return jiter_document_parse(held, bytes, count, false, mode, unique, &fault) || failed();
+}
+
+static bool parse_chunk(JiterDocument *held, size_t count) {
+  JiterParser parser = {0};
+  bool ok = jiter_parser_new(&parser, false, JITER_OFF) && push(&parser, bytes, count) &&
+            (jiter_parser_to_document(&parser, held, &fault) || failed());
+  jiter_parser_free(&parser);
+  return ok;
+}
+
+static bool refill_document(void) {
+  JiterDocument held = {0};
+  bool ok = parse(&held, length, JITER_OFF, false) && parse(&held, length, JITER_OFF, true) && show(&held, "", NULL, 0) &&
+            parse(&held, length, 7, false) && show(&held, "", NULL, 0) && parse_chunk(&held, length) &&
+            show(&held, "", NULL, 0) && parse_chunk(&held, length - 1) && show(&held, "", NULL, 0) &&
+            parse(&held, length - 1, JITER_OFF, false) && show(&held, "", NULL, 0) &&
+            parse(&held, length, JITER_OFF, false) && show(&held, "", NULL, 0);
+  jiter_document_free(&held);
+  return ok;
+}
+
+static bool refill_lines(void) {
+  JiterLines held = {0};
+  JiterPosition at = {0, 0};
+  bool ok = jiter_lines_new(&held) && jiter_lines_push(&held, bytes, length) && jiter_lines_new(&held);
+  if (ok && jiter_lines_position(&held, 99, &at))
+    printf("line %zu column %zu\n", at.line, at.column);
+  jiter_lines_free(&held);
+  return ok;
+}
+
+/* A text that was asked with a capacity of one byte: that byte, the one after it, and the complete length. */
+static bool first_byte(bool given, const size_t *whole) {
+  if (!given)
+    return failed();
+  printf("%.2s %zu\n", out, *whole);
+  out[0] = '?';
+  return true;
+}
+
+static bool cut(void) {
+  JiterDocument held = {0};
+  JiterParser parser = {0};
+  size_t whole = 0, step = 0;
+  memset(out, '?', 2);
+  bool ok = first_byte(jiter_print(bytes, length, false, JITER_OFF, out, 1, &whole, &fault), &whole) &&
+            parse(&held, length, JITER_OFF, false);
+  ok = ok && first_byte(jiter_document_print(&held, "", 0, NULL, 0, out, 1, &whole, &fault), &whole);
+  ok = ok && first_byte(jiter_document_key(&held, "", 0, NULL, 0, 0, out, 1, &whole, &fault), &whole);
+  ok = ok && first_byte(jiter_document_text(&held, "", 0, &step, 1, out, 1, &whole, &fault), &whole);
+  ok = ok && !jiter_document_text(&held, "/absent", 7, NULL, 0, out, 1, &whole, &fault) && fault.kind == JITER_ABSENT &&
+       printf("absent %" PRIu32 " %" PRIu32 " %zu\n", fault.expected, fault.actual, fault.index) > 0;
+  ok = ok && jiter_parser_new(&parser, false, JITER_ON) && push(&parser, bytes, length) &&
+       first_byte(jiter_parser_value(&parser, out, 1, &whole, &fault), &whole);
+  jiter_document_free(&held);
+  jiter_parser_free(&parser);
+  return ok;
+}
+
+/* Each constant of the header by its name. A type's words are those of an error that expects it. */
+#define NAMED(constant) {#constant, constant}
+static const struct {
+  const char *name;
+  uint32_t number;
+} kinds[] = {NAMED(JITER_FLOAT_EXPECTING_INT), NAMED(JITER_EOF_WHILE_PARSING_LIST), NAMED(JITER_EOF_WHILE_PARSING_OBJECT),
+             NAMED(JITER_EOF_WHILE_PARSING_STRING), NAMED(JITER_EOF_WHILE_PARSING_VALUE), NAMED(JITER_EXPECTED_COLON),
+             NAMED(JITER_EXPECTED_LIST_COMMA_OR_END), NAMED(JITER_EXPECTED_OBJECT_COMMA_OR_END),
+             NAMED(JITER_EXPECTED_SOME_IDENT), NAMED(JITER_EXPECTED_SOME_VALUE), NAMED(JITER_INVALID_ESCAPE),
+             NAMED(JITER_INVALID_NUMBER), NAMED(JITER_NUMBER_OUT_OF_RANGE), NAMED(JITER_INVALID_UNICODE_CODE_POINT),
+             NAMED(JITER_CONTROL_CHARACTER_WHILE_PARSING_STRING), NAMED(JITER_KEY_MUST_BE_A_STRING),
+             NAMED(JITER_LONE_LEADING_SURROGATE_IN_HEX_ESCAPE), NAMED(JITER_TRAILING_COMMA),
+             NAMED(JITER_TRAILING_CHARACTERS), NAMED(JITER_UNEXPECTED_END_OF_HEX_ESCAPE),
+             NAMED(JITER_RECURSION_LIMIT_EXCEEDED), NAMED(JITER_OUT_OF_MEMORY), NAMED(JITER_DUPLICATE_KEY),
+             NAMED(JITER_WRONG_TYPE), NAMED(JITER_MISUSE), NAMED(JITER_ABSENT), NAMED(JITER_ROOM_TOO_SMALL)},
+  types[] = {NAMED(JITER_NOTHING), NAMED(JITER_NULL), NAMED(JITER_BOOL), NAMED(JITER_INT), NAMED(JITER_FLOAT),
+             NAMED(JITER_STRING), NAMED(JITER_ARRAY), NAMED(JITER_OBJECT), NAMED(JITER_NUMBER), NAMED(JITER_BIG_INT)},
+  modes[] = {NAMED(JITER_OFF), NAMED(JITER_ON), NAMED(JITER_TRAILING_STRINGS)};
+
+static void name(const char *constant, uint32_t number, uint32_t kind, uint32_t expected) {
+  JiterFault any = {kind, expected, JITER_NULL, 0};
+  size_t whole = 0;
+  bool known = jiter_cause(&any, out, sizeof out, &whole);
+  printf("%s %" PRIu32 "%s%.*s\n", constant, number, known ? ": " : "", known ? (int)whole : 0, out);
+}
+
+static bool constants(void) {
+  size_t i;
+  printf("version %d %" PRIu32 " %s\n", JITER_VERSION, jiter_version(), JITER_VERSION_TEXT);
+  for (i = 0; i < sizeof kinds / sizeof *kinds; i++)
+    name(kinds[i].name, kinds[i].number, kinds[i].number, JITER_BOOL);
+  for (i = 0; i < sizeof types / sizeof *types; i++)
+    name(types[i].name, types[i].number, JITER_WRONG_TYPE, types[i].number);
+  for (i = 0; i < sizeof modes / sizeof *modes; i++)
+    name(modes[i].name, modes[i].number, 0, 0);
+  return true;
+}
+
 /* The words of every error, and which numbers have none. */
 static bool causes(void) {
   size_t whole = 0;
@@ -262,6 +386,12 @@ int main(int count, char **words) {
     ok = texts();
   else if (!strcmp(word, "other"))
     ok = other(more);
+  else if (!strcmp(word, "refill"))
+    ok = refill_parser() && refill_document() && refill_lines();
+  else if (!strcmp(word, "cut"))
+    ok = cut();
+  else if (!strcmp(word, "constants"))
+    ok = constants();
   else if (!strcmp(word, "causes"))
     ok = causes();
   else

@@ -19,12 +19,13 @@
  * jiter_next_key and their _text forms check that strings are UTF-8; jiter_member checks only keys. The calls whose names
  * end in _bytes, jiter_next_skip, jiter_count and jiter_item don't.
  *
- * Documents. To accept exactly the documents of RFC 8259 (at most 201 nested containers, integers of at most 4300
- * digits), call jiter_parse or jiter_document_parse with JITER_OFF, or the parser with jiter_parser_finish. A reader
- * keeps no record of open containers: call its steps in the order that their results give, check strings by the calls that
- * check UTF-8, and end with jiter_finish.
+ * Documents. To accept exactly documents, call jiter_parse or jiter_document_parse with JITER_OFF, or the parser with
+ * jiter_parser_finish. A document is a text of RFC 8259 without unpaired surrogate escapes, with at most 200 nested
+ * non-empty containers and at most 4300 digits in an integer part. A reader keeps no record of open containers: call its
+ * steps in the order that their results give, check strings by the calls that check UTF-8, and end with jiter_finish.
  *
- * Memory. Only a handle (JiterParser, JiterDocument, JiterLines) owns memory; free each. All memory is from malloc.
+ * Memory. Only a handle (JiterParser, JiterDocument, JiterLines) owns memory. Initialize it as `{0}`, fill it as often as
+ * you like, and free it once. All memory is from malloc.
  *
  * Threads. Nothing is shared between calls. A handle or a reader is used by one call at a time; different ones by any
  * number of threads. Don't call from a signal handler, nor in the forked child of a process with threads. */
@@ -131,7 +132,9 @@ typedef struct {
   size_t column;
 } JiterPosition;
 
-/* Handles. Each owns memory: free it once, and use no copy of it afterwards. */
+/* Handles. Initialize one as `{0}`. Until a call fills it (its _new call, jiter_document_parse, jiter_parser_to_document),
+ * only those calls and the one that frees it take it. A handle owns memory: free it once, and use no copy of it afterwards.
+ * The call that frees it sets it to `{0}` again. */
 typedef struct {
   void *pointer;
 } JiterParser;
@@ -307,7 +310,8 @@ void jiter_position(const char *bytes, size_t length, size_t index, JiterPositio
 size_t jiter_character_column(const char *bytes, size_t length, size_t index);
 
 /* ---- Handles: a new one holds nothing; the calls that fill one free what it held. A call over a handle that holds
- * something else changes nothing: it reports JITER_MISUSE, or returns false or 0 if it has no fault. */
+ * something else changes nothing: it reports JITER_MISUSE, or returns false or 0 if it has no fault. Call jiter_handle_new
+ * only for a pointer that is NULL, or what it led to leaks. */
 bool jiter_handle_new(void **pointer);
 void jiter_handle_free(void *pointer);
 
@@ -324,9 +328,9 @@ bool jiter_parser_value(JiterParser *parser, char *out, size_t room, size_t *who
 /* Returns whether the bytes so far are no complete document, and why. */
 bool jiter_parser_error(JiterParser *parser, JiterFault *fault);
 
+/* A new parser. If this fails, memory ran out or no mode has this number, and the handle holds what it held. */
 static inline bool jiter_parser_new(JiterParser *parser, bool allow_inf_nan, uint32_t mode) {
-  parser->pointer = NULL;
-  return jiter_handle_new(&parser->pointer) && jiter_parser_begin(parser, allow_inf_nan, mode);
+  return (parser->pointer || jiter_handle_new(&parser->pointer)) && jiter_parser_begin(parser, allow_inf_nan, mode);
 }
 static inline void jiter_parser_free(JiterParser *parser) {
   if (parser->pointer)
@@ -343,12 +347,13 @@ static inline void jiter_document_free(JiterDocument *document) {
 
 /* The export that jiter_parser_to_document calls: the handle then holds a document, or nothing. */
 bool jiter_parser_finish(JiterParser *parser, JiterFault *fault);
-/* Ends the document: if it is complete, `document` gets its value and the parser is used up; free both all the same.
- * Otherwise the parser holds nothing: call jiter_parser_error first to go on with it. */
+/* Ends the document: if it is complete, `document` gets its value, what it held is freed, and the parser is `{0}` again;
+ * free both all the same. Otherwise the parser holds nothing, and `document` what it held: call jiter_parser_error first
+ * to go on with the parser. */
 static inline bool jiter_parser_to_document(JiterParser *parser, JiterDocument *document, JiterFault *fault) {
-  document->pointer = NULL;
   if (!jiter_parser_finish(parser, fault))
     return false;
+  jiter_document_free(document);
   document->pointer = parser->pointer;
   parser->pointer = NULL;
   return true;
@@ -358,11 +363,11 @@ static inline bool jiter_parser_to_document(JiterParser *parser, JiterDocument *
 bool jiter_document_read(JiterDocument *document, const char *bytes, size_t length, bool allow_inf_nan, uint32_t mode,
                          bool unique, JiterFault *fault);
 /* Parses a document; the value borrows nothing of the bytes. With `unique`, a repeated key is JITER_DUPLICATE_KEY, and
- * the document is then that key, a string. Free the document in every case. */
+ * the document is then that key, a string. After JITER_MISUSE it holds what it held, after another error nothing. Free it
+ * in every case. */
 static inline bool jiter_document_parse(JiterDocument *document, const char *bytes, size_t length, bool allow_inf_nan,
                                         uint32_t mode, bool unique, JiterFault *fault) {
-  document->pointer = NULL;
-  if (jiter_handle_new(&document->pointer))
+  if (document->pointer || jiter_handle_new(&document->pointer))
     return jiter_document_read(document, bytes, length, allow_inf_nan, mode, unique, fault);
   fault->kind = JITER_OUT_OF_MEMORY;
   fault->expected = fault->actual = 0;
@@ -392,8 +397,7 @@ bool jiter_lines_push(JiterLines *lines, const char *chunk, size_t length);
 bool jiter_lines_position(JiterLines *lines, size_t index, JiterPosition *position);
 
 static inline bool jiter_lines_new(JiterLines *lines) {
-  lines->pointer = NULL;
-  if (!jiter_handle_new(&lines->pointer))
+  if (!lines->pointer && !jiter_handle_new(&lines->pointer))
     return false;
   jiter_lines_begin(lines);
   return true;

@@ -1,13 +1,20 @@
 //! Why a call failed.
-use crate::raw;
+use crate::raw::{self, Place};
 use std::fmt;
 
 /// Why a call failed: a kind of jiter_c.h, and the byte index.
+///
+/// ```
+/// let bytes = b"[1,\n 2,]";
+/// let error = jiter_c::Document::parse(bytes).err().unwrap();
+/// assert_eq!(error.to_string(), "trailing comma at index 7");
+/// assert_eq!(error.line_and_column(bytes), (2, 4));
+/// ```
 #[derive(Clone, Debug, PartialEq, Eq)]
 pub struct Error {
     /// The kind, by the numbers of jiter_c.h.
     pub kind: u32,
-    /// The byte index.
+    /// The byte index; 0 if the error is not about a byte.
     pub index: usize,
     cause: String,
 }
@@ -17,6 +24,8 @@ pub type Result<T> = std::result::Result<T, Error>;
 
 const OUT_OF_MEMORY: u32 = 22;
 pub(crate) const DUPLICATE_KEY: u32 = 23;
+const MISUSE: u32 = 101;
+pub(crate) const ABSENT: u32 = 102;
 
 pub(crate) fn told<T>(given: bool, value: T, fault: raw::Fault) -> Result<T> {
     if given { Ok(value) } else { Err(Error::of(fault)) }
@@ -39,6 +48,15 @@ impl Error {
         Error { cause: format!("Detected duplicate key {key:?}"), ..self }
     }
 
+    pub(crate) fn absent(Place(pointer, steps): Place<'_>) -> Error {
+        Error { kind: ABSENT, index: 0, cause: format!("the document has no such value at {pointer:?}, steps {steps:?}") }
+    }
+
+    /// Returns whether the document has nothing of the wanted type at a place.
+    pub fn is_absent(&self) -> bool {
+        self.kind == ABSENT
+    }
+
     /// Returns whether memory ran out. Such an error says nothing about the bytes.
     pub fn is_memory(&self) -> bool {
         self.kind == OUT_OF_MEMORY
@@ -54,7 +72,10 @@ impl Error {
 
 impl fmt::Display for Error {
     fn fmt(&self, f: &mut fmt::Formatter<'_>) -> fmt::Result {
-        write!(f, "{} at index {}", self.cause, self.index)
+        match self.kind {
+            OUT_OF_MEMORY | MISUSE | ABSENT => f.write_str(&self.cause),
+            _ => write!(f, "{} at index {}", self.cause, self.index),
+        }
     }
 }
 

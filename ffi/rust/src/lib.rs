@@ -1,4 +1,13 @@
 //! JSON by libjiter: [`Reader`], [`Document`] and [`Parser`]. The library is proved; this wrapper is not.
+//!
+//! ```
+//! use jiter_c::{Document, Type};
+//!
+//! let document = Document::parse(br#"{"server": {"ports": [80, 443]}}"#)?;
+//! let port = document.at("/server/ports/1", &[]).filter(|it| it.kind == Type::Int);
+//! assert_eq!(port.map(|it| it.integer), Some(443));
+//! # Ok::<(), jiter_c::Error>(())
+//! ```
 use std::borrow::Cow;
 use std::cell::RefCell;
 use std::marker::PhantomData;
@@ -79,11 +88,27 @@ pub enum Number<'j> {
 }
 
 /// A pull reader: it reads a document one value or one step at a time. A copy is another reader.
+///
+/// ```
+/// let mut reader = jiter_c::Reader::new(b"[1, 2.5]");
+/// let (mut sum, mut more) = (0.0, reader.array()?);
+/// while more {
+///     sum += reader.double()?;
+///     more = reader.item()?;
+/// }
+/// reader.finish()?;
+/// assert_eq!(sum, 3.5);
+/// # Ok::<(), jiter_c::Error>(())
+/// ```
 #[derive(Clone, Copy)]
 pub struct Reader<'j> {
     raw: raw::Reader,
     bytes: PhantomData<&'j [u8]>,
 }
+
+// SAFETY: the pointer is that of the borrowed slice, whose bytes are only read. So it moves and is shared as `&[u8]` is.
+unsafe impl Send for Reader<'_> {}
+unsafe impl Sync for Reader<'_> {}
 
 const NO_TEXT: raw::Text = raw::Text { bytes: b"".as_ptr(), length: 0 };
 
@@ -245,6 +270,10 @@ fn double_of(text: &str) -> f64 {
 /// Memory of the library, freed with it. Even a look needs the handle to itself: the cell sees to it.
 struct Handle(RefCell<raw::Handle>);
 
+// SAFETY: the memory is from malloc, this is its only owner, and the library keeps nothing else: no static, no thread's own
+// data. So another thread may call it and free it. It is not `Sync`: the library takes one call at a time of a handle.
+unsafe impl Send for Handle {}
+
 impl Handle {
     fn new() -> Result<Handle> {
         let mut pointer = std::ptr::null_mut();
@@ -275,7 +304,16 @@ pub struct Value {
     pub length: usize,
 }
 
-/// The value of a document. It borrows nothing.
+/// The value of a document. It borrows nothing, and may move to another thread.
+///
+/// ```
+/// let document = jiter_c::Document::parse(br#"{"a": [1, "b"]}"#)?;
+/// assert_eq!(document.text("/a/1", &[])?, "b");
+/// assert_eq!(document.print("/a", &[])?, r#"[1,"b"]"#);
+/// let error = document.text("/a/7", &[]).unwrap_err();
+/// assert_eq!(error.to_string(), r#"the document has no such value at "/a/7", steps []"#);
+/// # Ok::<(), jiter_c::Error>(())
+/// ```
 pub struct Document(Handle);
 
 impl Document {
@@ -285,6 +323,16 @@ impl Document {
     }
 
     /// Parses a document. With `unique` a repeated key is an error, which names the key.
+    ///
+    /// ```
+    /// use jiter_c::{Document, Mode};
+    ///
+    /// let error = Document::parse_with(br#"{"a": 1, "a": 2}"#, false, Mode::Off, true).err().unwrap();
+    /// assert_eq!(error.to_string(), r#"Detected duplicate key "a" at index 13"#);
+    /// let cut = Document::parse_with(br#"{"a": ["b"#, false, Mode::TrailingStrings, true)?;
+    /// assert_eq!(cut.print("", &[])?, r#"{"a":["b"]}"#);
+    /// # Ok::<(), jiter_c::Error>(())
+    /// ```
     pub fn parse_with(bytes: &[u8], allow_inf_nan: bool, mode: Mode, unique: bool) -> Result<Document> {
         let (mut document, mut fault) = (Document(Handle::new()?), raw::Fault::default());
         let (start, length, handle) = (bytes.as_ptr(), bytes.len(), document.0.0.get_mut());
@@ -315,43 +363,53 @@ impl Document {
         call: impl Fn(&mut raw::Handle, *const u8, usize, *const usize, usize, *mut u8, usize, &mut usize, &mut raw::Fault) -> bool,
     ) -> Result<String> {
         let (path, count, place, depth) = (pointer.as_ptr(), pointer.len(), steps.as_ptr(), steps.len());
-        text(64, |out, room, whole, fault| {
+        let found = text(64, |out, room, whole, fault| {
             call(&mut self.0.0.borrow_mut(), path, count, place, depth, out, room, whole, fault)
-        })
+        });
+        found.map_err(|error| if error.is_absent() { Error::absent(Place(pointer, steps)) } else { error })
     }
 
-    /// Returns the string at a place, or the text of a number that is no `Int`.
+    /// Returns the string at a place, or the text of a number that is no `Int`. It fails where there is neither.
     pub fn text(&self, pointer: &str, steps: &[usize]) -> Result<String> {
         self.text_by(Place(pointer, steps), |handle, path, count, place, depth, out, room, whole, fault| unsafe {
             raw::jiter_document_text(handle, path, count, place, depth, out, room, whole, fault)
         })
     }
 
-    /// Returns the key of a member of the object at a place.
+    /// Returns the key of a member of the object at a place. It fails where there is no such member.
     pub fn key(&self, pointer: &str, steps: &[usize], index: usize) -> Result<String> {
         self.text_by(Place(pointer, steps), |handle, path, count, place, depth, out, room, whole, fault| unsafe {
             raw::jiter_document_key(handle, path, count, place, depth, index, out, room, whole, fault)
         })
     }
 
-    /// Returns the compact JSON text of the value at a place.
+    /// Returns the compact JSON text of the value at a place. It fails where there is none.
     pub fn print(&self, pointer: &str, steps: &[usize]) -> Result<String> {
         self.text_by(Place(pointer, steps), |handle, path, count, place, depth, out, room, whole, fault| unsafe {
             raw::jiter_document_print(handle, path, count, place, depth, out, room, whole, fault)
         })
     }
 
-    /// Returns the double at a place, whichever number it is.
-    pub fn double(&self, pointer: &str, steps: &[usize]) -> Option<f64> {
-        match self.at(pointer, steps)? {
-            Value { kind: Type::Int, integer, .. } => Some(integer as f64),
-            Value { kind: Type::Float | Type::BigInt, .. } => Some(double_of(&self.text(pointer, steps).ok()?)),
-            _ => None,
+    /// Returns the double at a place, whichever number it is. It fails where there is no number.
+    pub fn double(&self, pointer: &str, steps: &[usize]) -> Result<f64> {
+        match self.at(pointer, steps) {
+            Some(Value { kind: Type::Int, integer, .. }) => Ok(integer as f64),
+            Some(Value { kind: Type::Float | Type::BigInt, .. }) => Ok(double_of(&self.text(pointer, steps)?)),
+            _ => Err(Error::absent(Place(pointer, steps))),
         }
     }
 }
 
-/// A document in chunks.
+/// A document in chunks. It may move to another thread.
+///
+/// ```
+/// let mut parser = jiter_c::Parser::new(false, jiter_c::Mode::TrailingStrings)?;
+/// parser.push(br#"{"answer": "It de"#)?;
+/// assert_eq!(parser.value()?, r#"{"answer":"It de"}"#);
+/// parser.push(br#"pends"}"#)?;
+/// assert_eq!(parser.finish()?.text("/answer", &[])?, "It depends");
+/// # Ok::<(), jiter_c::Error>(())
+/// ```
 pub struct Parser(Handle);
 
 impl Parser {
