@@ -44,7 +44,7 @@ BORROWED = {
     '""': "''",
 }
 # Documents that are truncated or have an error. Only the second ones may have a string in some mode.
-BROKEN = ("", "x", "nul", "[", "{", "{1", "[ ] x")
+BROKEN = ("", "x", "nul", "[", "[x", "{", "{1", "[ ] x")
 BROKEN_BORROWED = ("1.", '"ab')
 
 # A document of each kind of value, and that value: as it is read, and with all its strings owned.
@@ -90,18 +90,15 @@ def calls_that_do_not_allocate():
     plain_walk = r'{"a": "text", "bc": 1.5, "d": [null, [1, {"k\n": ["\u0061"]}], [], {}]} '
     yield Row("a plain walk does not allocate", "plain-walk", "off", plain_walk, "7", [NOTHING])
     yield Row("a skip does not allocate", "skip", "off", MANY, "null", [NOTHING])
-
-
-def arrays_with_a_broken_first_item():
-    claim = "an array asks for capacity once, before its first item is read"
-    once = Section(Most(1), Most(8 * VALUE), Most(1))
-    for call in "parse next-value known-value next-value-owned known-value-owned value-by-steps".split():
-        yield Row(claim, call, "off", "[x", None, [once])
-    for mode in MODES:
-        for call in "config unique turns owned".split():
-            yield Row(claim, call, mode, "[x", None, [once])
-        for call in "scratch scratch-owned".split():
-            yield Row(claim, call, mode, "[x", None, [NOTHING, once, NOTHING, NOTHING])
+    pointed = '{"k":' * 190 + "7" + "}" * 190
+    yield Row("a pointer does not allocate", "pointer", "off", f"[{pointed},1,{pointed}]", "2", [NOTHING])
+    for call, document, answer in (
+        ("raw-walk", r'{"k\n": true, "b": -12, "c": 1.50, "d": "x\ny"} ', "11"),
+        ("known-walk", r'[null, true, 12, 2.5, 3.50, "a\nb", [ ], { }, -7, false] ', "10"),
+    ):
+        for end in range(len(document) + 1):
+            whole = answer if end >= len(document.rstrip()) else None
+            yield Row("keys and strings as they are spelled, and scalars, do not allocate", call, "off", document[:end], whole, [NOTHING])
 
 
 def copies():
@@ -239,6 +236,6 @@ def values_that_are_dropped():
 
 
 def rows():
-    calls = (calls_that_do_not_allocate, arrays_with_a_broken_first_item, copies, scratches, tapes, calls_in_a_row)
+    calls = (calls_that_do_not_allocate, copies, scratches, tapes, calls_in_a_row)
     for some in (*calls, values_that_are_dropped):
         yield from some()

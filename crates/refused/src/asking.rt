@@ -46,6 +46,10 @@ pub enum Reading {
 pub enum Steps {
     /// Calls that do not allocate.
     Plain,
+    /// Those that return the bytes of keys and strings, and those that read one type.
+    Raw,
+    /// Those of a caller that has looked.
+    Known,
     /// Calls that share a tape.
     KeptTape,
     /// `Jiter::with_tape` and `into_tape`, with three tapes.
@@ -59,8 +63,8 @@ pub enum Repeated {
     Lines,
     /// `JsonValueScratch::parse_owned` of each line.
     OwnedLines,
-    /// `IncrementalParser::push` of each chunk, then `value`, `error` and `finish`.
-    Chunks,
+    /// `IncrementalParser::push` of each chunk of so many bytes, then `value`, `error` and `finish`.
+    Chunks(usize),
     /// `parse_chunks`
     ParseChunks,
     /// `LineIndex::push` of each chunk, then `position`.
@@ -86,6 +90,8 @@ pub enum Copying {
     DescribeUnique,
     /// `LinePosition::short`
     Short,
+    /// `JsonValue::pointer`
+    Pointer,
 }
 
 /// A call.
@@ -96,7 +102,7 @@ pub enum Call {
     /// One that reads a whole value where a reader stands.
     Reading(Reading),
     /// The text and key reads of a reader: those of a caller that has looked, or the others.
-    StringStorage(bool),
+    Strings(bool),
     /// A reader's walk through a document of one form.
     Steps(Steps),
     /// Calls in a row.
@@ -138,11 +144,13 @@ fn call_named(word: &str) -> Option<Call> {
         "scratch-owned" => Some(Call::Whole(Whole::OwnedByScratch)),
         "two-prefixes" => Some(Call::Whole(Whole::TwoPrefixes)),
         "half-prefix" => Some(Call::Whole(Whole::HalfPrefix)),
-        "next-str" => Some(Call::StringStorage(false)),
-        "known-str" => Some(Call::StringStorage(true)),
+        "next-str" => Some(Call::Strings(false)),
+        "known-str" => Some(Call::Strings(true)),
         "pieces" => Some(Call::Pieces(5)),
         "one-piece" => Some(Call::Pieces(usize::MAX)),
         "plain-walk" => Some(Call::Steps(Steps::Plain)),
+        "raw-walk" => Some(Call::Steps(Steps::Raw)),
+        "known-walk" => Some(Call::Steps(Steps::Known)),
         "kept-tape" => Some(Call::Steps(Steps::KeptTape)),
         "tapes" => Some(Call::Steps(Steps::Tapes)),
         _ => match (reading_named(word), repeated_named(word)) {
@@ -157,7 +165,8 @@ fn repeated_named(word: &str) -> Option<Repeated> {
     match word {
         "lines" => Some(Repeated::Lines),
         "lines-owned" => Some(Repeated::OwnedLines),
-        "chunks" => Some(Repeated::Chunks),
+        "chunks" => Some(Repeated::Chunks(5)),
+        "large-chunks" => Some(Repeated::Chunks(4096)),
         "parse-chunks" => Some(Repeated::ParseChunks),
         "line-index" => Some(Repeated::LineIndex),
         _ => None,
@@ -186,6 +195,7 @@ fn copying_named(word: &str) -> Option<Copying> {
         "unique-clone" => Some(Copying::CloneUnique),
         "unique-description" => Some(Copying::DescribeUnique),
         "short" => Some(Copying::Short),
+        "pointer" => Some(Copying::Pointer),
         _ => None,
     }
 }

@@ -6,7 +6,7 @@ use jiter::{Jiter, JsonError, JsonErrorType as Kind, JsonValue, PartialMode, Uni
 use std::alloc::{AllocError, Global};
 use test_support::told::text_of;
 
-/// What a copy of the text's value comes to, or of its fault a description, or the place's text.
+/// What a copy of the text's value comes to, or a pointer into it, or of its fault a description, or the place's text.
 pub fn outcome(
     alloc: Global,
     bytes: &[u8],
@@ -50,6 +50,7 @@ fn copied(alloc: Global, value: JsonValue<'_>, call: Copying) -> Result<Outcome,
     let copy = match call {
         Copying::Clone => cloned(alloc, &value)?,
         Copying::ToStatic => owned(alloc, &value)?,
+        Copying::Pointer => return pointed(alloc, &value),
         _ => return moved(alloc, value),
     };
     let after = text_of(alloc, &value)?;
@@ -72,6 +73,22 @@ fn owned(alloc: Global, value: &JsonValue<'_>) -> Result<Outcome, AllocError> {
     let copy = value.to_static(alloc);
     let _ = mark(alloc);
     copy_told(alloc, copy)
+}
+
+// Returns in how many items a pointer of 190 steps leads somewhere.
+fn pointed(alloc: Global, value: &JsonValue<'_>) -> Result<Outcome, AllocError> {
+    let path = "/k".repeat(alloc, 190)?;
+    let _ = mark(alloc);
+    let mut count: usize = 0;
+    if let Some(items) = value.as_array() {
+        for item in items.iter() {
+            if item.pointer(path.as_str()).is_some() {
+                count = count.saturating_add(1);
+            }
+        }
+    }
+    let _ = mark(alloc);
+    Ok(Outcome::Answered(count.to_string(alloc)?))
 }
 
 fn moved(alloc: Global, value: JsonValue<'_>) -> Result<Outcome, AllocError> {

@@ -63,7 +63,7 @@ fn outcome_of(alloc: Global, bytes: &[u8], asked: Asked) -> Result<Outcome, Allo
     match asked.call {
         Call::Whole(call) => whole::outcome(alloc, bytes, asked.mode, call),
         Call::Reading(call) => reading::outcome(alloc, bytes, call),
-        Call::StringStorage(known) => walk::outcome(alloc, bytes, asked.mode, known),
+        Call::Strings(known) => walk::outcome(alloc, bytes, asked.mode, known),
         Call::Steps(call) => steps::outcome(alloc, bytes, call),
         Call::Repeated(call) => repeated::outcome(alloc, bytes, asked.mode, call),
         Call::Copy(call) => copies::outcome(alloc, bytes, asked.mode, call),

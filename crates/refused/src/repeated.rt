@@ -6,7 +6,7 @@ use jiter::{JsonError, JsonErrorType as Kind, JsonValue, JsonValueScratch, Parti
 use jiter_incremental::{IncrementalParser, LineIndex, parse_chunks};
 use std::alloc::{AllocError, Global};
 
-// The bytes of each chunk but the last.
+// The bytes of each chunk but the last, where the call does not say them.
 const CHUNK: usize = 5;
 
 /// Returns what the calls come to. Sections begin and end with the marks.
@@ -19,7 +19,7 @@ pub fn outcome(
     match call {
         Repeated::Lines => lines(alloc, bytes, mode),
         Repeated::OwnedLines => owned_lines(alloc, bytes, mode),
-        Repeated::Chunks => chunks(alloc, bytes, mode),
+        Repeated::Chunks(size) => chunks(alloc, bytes, mode, size),
         Repeated::ParseChunks => all_chunks(alloc, bytes),
         Repeated::LineIndex => line_index(alloc, bytes),
     }
@@ -70,13 +70,18 @@ fn owned_lines(alloc: Global, bytes: &[u8], mode: PartialMode) -> Result<Outcome
 }
 
 // Four sections: `new`; each push; `value` and `error` after the last; `finish`.
-fn chunks(alloc: Global, bytes: &[u8], mode: PartialMode) -> Result<Outcome, AllocError> {
+fn chunks(
+    alloc: Global,
+    bytes: &[u8],
+    mode: PartialMode,
+    size: usize,
+) -> Result<Outcome, AllocError> {
     let _ = mark(alloc);
     let mut parser = IncrementalParser::new(alloc, true, mode);
     let _ = mark(alloc);
     let _ = mark(alloc);
     let mut is_taken = true;
-    for chunk in bytes.chunks(CHUNK) {
+    for chunk in bytes.chunks(size.max(1)) {
         is_taken = is_taken && parser.push(chunk).is_ok();
     }
     let _ = mark(alloc);

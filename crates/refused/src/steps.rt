@@ -1,4 +1,4 @@
-//! Walks of a reader, each through a document of one form: one that does not allocate, and two that reuse a tape.
+//! Walks of a reader, each through a document of one form: three that do not allocate, and two that reuse a tape.
 use crate::asking::Steps;
 use crate::mark::mark;
 use crate::outcome::Outcome;
@@ -12,7 +12,7 @@ const CAPACITY: usize = 50_000;
 /// Returns the length of the strings that a walk reads, or its error.
 pub fn outcome(alloc: Global, bytes: &[u8], call: Steps) -> Result<Outcome, AllocError> {
     let walked = match call {
-        Steps::Plain => plain(alloc, bytes),
+        Steps::Plain | Steps::Raw | Steps::Known => plain(alloc, bytes, call),
         Steps::KeptTape => kept_tape(alloc, bytes),
         Steps::Tapes => tapes(alloc, bytes),
     };
@@ -23,10 +23,14 @@ pub fn outcome(alloc: Global, bytes: &[u8], call: Steps) -> Result<Outcome, Allo
 }
 
 // One section: a walk that does not allocate. The tape has no capacity after it.
-fn plain(alloc: Global, bytes: &[u8]) -> Result<usize, Stop> {
+fn plain(alloc: Global, bytes: &[u8], call: Steps) -> Result<usize, Stop> {
     let _ = mark(alloc);
     let mut jiter = Jiter::new(bytes);
-    let reply = walk_plainly(alloc, &mut jiter);
+    let reply = match call {
+        Steps::Raw => walk_raw(&mut jiter),
+        Steps::Known => walk_known(alloc, &mut jiter),
+        _ => walk_plainly(alloc, &mut jiter),
+    };
     let _ = mark(alloc);
     let length = reply?;
     if jiter.into_tape(alloc).capacity() > 0 {
@@ -54,6 +58,52 @@ fn walk_plainly(alloc: Global, jiter: &mut Jiter<'_>) -> JiterResult<usize> {
     let _ = jiter.next_key(alloc)?;
     jiter.finish()?;
     Ok(key.saturating_add(text).saturating_add(second))
+}
+
+// Reads an object of a bool, an integer, a number and a string, with its keys and its string as they are spelled.
+fn walk_raw(jiter: &mut Jiter<'_>) -> JiterResult<usize> {
+    let key = jiter.next_object_bytes()?.map_or(0, |key| key.len());
+    let _ = jiter.next_bool()?;
+    let _ = jiter.next_key_bytes()?;
+    let _ = jiter.next_int()?;
+    let _ = jiter.next_key_bytes()?;
+    let number = jiter.next_number_bytes()?.len();
+    let _ = jiter.next_key_bytes()?;
+    let text = jiter.next_bytes()?.len();
+    let _ = jiter.next_key_bytes()?;
+    jiter.finish()?;
+    Ok(key.saturating_add(number).saturating_add(text))
+}
+
+// Reads the items of an array, by calls of a caller that has looked. Returns how many there are.
+fn walk_known(alloc: Global, jiter: &mut Jiter<'_>) -> JiterResult<usize> {
+    let mut next = jiter.next_array()?;
+    for count in 0..20 {
+        if next.is_none() {
+            jiter.finish()?;
+            return Ok(count);
+        }
+        read_known(alloc, jiter)?;
+        next = jiter.array_step()?;
+    }
+    Ok(0)
+}
+
+// Reads what begins with the next byte, which says by which call. Containers are empty.
+fn read_known(alloc: Global, jiter: &mut Jiter<'_>) -> JiterResult<()> {
+    let peek = jiter.peek()?;
+    match peek.into_inner() {
+        b'n' => jiter.known_null()?,
+        b't' => drop(jiter.known_bool(peek)?),
+        b'1' => drop(jiter.known_int(peek)?),
+        b'2' => drop(jiter.known_number(peek)?),
+        b'3' => drop(jiter.known_number_bytes(peek)?),
+        b'"' => drop(jiter.known_bytes()?),
+        b'[' => drop(jiter.known_array()?),
+        b'{' => drop(jiter.known_object(alloc)?),
+        _ => jiter.known_skip(peek)?,
+    }
+    Ok(())
 }
 
 // One section: the last string of an array, read with the tape that the first one has allocated.

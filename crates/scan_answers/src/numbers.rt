@@ -119,14 +119,14 @@ pub fn answer_integer_at(rt: &HostRuntime, bytes: &[u8], at: usize) -> io::Resul
     tell(rt, int_at(bytes, at))
 }
 
-pub fn answer_plain(rt: &HostRuntime, bytes: &[u8], at: usize) -> io::Result<()>
+pub fn answer_fast(rt: &HostRuntime, bytes: &[u8], at: usize) -> io::Result<()>
     requires { at ≤ length bytes.now }
 {
     println!(rt; "{:?}", fast_number_at(bytes, at))
 }
 
 // The short number that the bytes begin with, before each byte that may end it, far from the end of the input.
-pub fn answer_plain_before(rt: &HostRuntime, alloc: Global, text: &[u8]) -> io::Result<()> {
+pub fn answer_fast_before(rt: &HostRuntime, alloc: Global, text: &[u8]) -> io::Result<()> {
     let far = followed(alloc, text, true, 64)?;
     let wanted = fast_number_at(far.as_slice(), 0);
     for end in [b',', b']', b'}', b' ', b'\n', 0x7f] {
