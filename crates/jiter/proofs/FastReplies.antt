@@ -106,29 +106,40 @@ next-string s i place quote =
     ap (λ o. if_byte (value_place s) o (λ c. str_read s (value_place s) (start_of c))) here
     ∙ ap (λ j. scalar_reply j (string_at (text_form s.partial_strings) s.text j)) (sym place)
 
--- It is returned, borrowed from somewhere.
-pub decoded : (v s : ReaderState) (i e : ℕ) (x : Text) (text : Bor (List ℕ)) → v ≡ s → i ≡ value_place s
-    → slice_get s.text i ≡ Some 34 → string_at (text_form v.partial_strings) v.text i ≡ taken x e → text.now ≡ x.bytes
-    → Reads (string_memory s.text (value_place s)) (λ (b : Bor (List ℕ)). b.now)
-    (reply_seen text_bytes (next s (str_read s))) (Ok text) s (with_position v e)
-decoded v s i e x text is place quote = subst P (sym is) here where
+-- It is returned.
+pub string-given : {X : Type 0} (view : X → Text) (a : X) (v s : ReaderState) (i e : ℕ) → v ≡ s → i ≡ value_place s
+    → slice_get s.text i ≡ Some 34 → string_at (text_form v.partial_strings) v.text i ≡ taken (view a) e
+    → Reads (string_memory s.text (value_place s)) view (next s (str_read s)) (Ok a) s (with_position v e)
+string-given view a v s i e is place quote = subst P (sym is) here where
   P : ReaderState → Type 0
-  P v = string_at (text_form v.partial_strings) v.text i ≡ taken x e → text.now ≡ x.bytes
-      → Reads (string_memory s.text (value_place s)) (λ (b : Bor (List ℕ)). b.now)
-      (reply_seen text_bytes (next s (str_read s))) (Ok text) s (with_position v e)
+  P v = string_at (text_form v.partial_strings) v.text i ≡ taken (view a) e
+      → Reads (string_memory s.text (value_place s)) view (next s (str_read s)) (Ok a) s (with_position v e)
 
   here : P s
-  here h bytes =
+  here h =
       let inside = slice_get_within s.text i 34 quote in
       let at = subst (ScalarWithin s.text i) h (string_at-within (text_form s.partial_strings) s.text i inside) in
       let ahead = past_blanks-after s.text s.position in
       record {
         moves = record { same = refl; forward = omega (arith, ahead, place, at.0); within = at.1 };
-        value = ap (reply_seen text_bytes) (next-string s i place quote ∙ ap (scalar_reply i) h)
-            ∙ ap (λ b. gave b e) (sym bytes);
+        value = next-string s i place quote ∙ ap (scalar_reply i) h;
         index = tt;
         memory = tt;
       }
+
+-- Its bytes are, borrowed from somewhere.
+pub decoded : (v s : ReaderState) (i e : ℕ) (x : Text) (text : Bor (List ℕ)) → v ≡ s → i ≡ value_place s
+    → slice_get s.text i ≡ Some 34 → string_at (text_form v.partial_strings) v.text i ≡ taken x e → text.now ≡ x.bytes
+    → Reads (string_memory s.text (value_place s)) (λ (b : Bor (List ℕ)). b.now)
+    (reply_seen text_bytes (next s (str_read s))) (Ok text) s (with_position v e)
+decoded v s i e x text is place quote h bytes =
+    let read = string-given (λ y. y) x v s i e is place quote h in
+    record {
+      moves = read.moves;
+      value = ap (reply_seen text_bytes) read.value ∙ ap (λ b. gave b e) (sym bytes);
+      index = tt;
+      memory = tt;
+    }
 
 -- It has a backslash and is not decoded: its error, or no memory.
 pub undecoded : {X A : Type 0} (view : X → List ℕ) (seen : A → Scanned Text) (v s : ReaderState) (i : ℕ) (x : ReadError)

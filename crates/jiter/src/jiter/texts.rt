@@ -172,6 +172,39 @@ impl<'j> Jiter<'j> {
         self.slow_str(alloc)
     }
 
+    /// Reads a string and returns it decoded, borrowed from the document if it has no escape (RFC 8259, 7).
+    ///
+    /// The string borrows from the document, not from the reader, so you can keep it while you read on. Only a string
+    /// with an escape is copied. Otherwise this is [`Jiter::next_str`].
+    ///
+    /// # Errors
+    ///
+    /// - the errors of [`Jiter::next_str`]; they leave the reader at the same position
+    ///
+    /// # Examples
+    ///
+    /// ```rust
+    /// let mut jiter = Jiter::new(br#"["plain", "tab\t"]"#);
+    /// jiter.next_array()?;
+    /// let plain = jiter.next_str_cow(alloc)?;
+    /// jiter.array_step()?;
+    /// let escaped = jiter.next_str_cow(alloc)?;
+    /// assert!(rt; matches!(&plain, CowStr::Borrowed(text) if *text == "plain"));
+    /// assert!(rt; matches!(&escaped, CowStr::Owned(text) if text.as_str() == "tab\t"));
+    /// ```
+    pub fn next_str_cow(&mut self, alloc: Global) -> JiterResult<CowStr<'j>>
+        ensures reads { Reads (string_memory self.old.text (value_place self.old)) text_view
+            (next self.old (str_read self.old)) result self.old self.new }
+    {
+        if let (at, Some(b'"')) = peek_for(self.parser.bytes, self.parser.index, b'"') {
+            if let Ok(plain) = fast_text(self.parser.bytes, at) {
+                self.parser.index = at + plain.len() + 2;
+                return Ok(CowStr::Borrowed(plain));
+            }
+        }
+        self.take_str(alloc)
+    }
+
     /// Reads the string that you peeked and returns it decoded, as [`Jiter::next_str`] does.
     ///
     /// The string is borrowed from the reader: use it before the reader's next call.
