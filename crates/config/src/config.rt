@@ -1,19 +1,16 @@
 //! A configuration, read from the members of a JSON object.
-ghost use Rattle.std.specs.Prelude.{◌≡◌, ◌≤◌, IfErr, IfOk, Some, false, length, string_bytes};
-ghost use Rattle.jiter.specs.Caller.{IsDocument, Node, position_of, value_of};
-ghost use Rattle.jiter_walk.specs.Table.{Finals, Holds, object_in, table};
-ghost use Rattle.jiter_walk.specs.Walk.{IsReadable, Returns, index_of, reason};
-ghost use Rattle.json_lines.specs.Line.{cause_in, refusal_text};
-ghost use Rattle.config.specs.Settings.{config, config_view, fields, reason_text, settings_slots, unfit_text};
+ghost use Rattle.std.specs.Prelude.{◌≤◌, IfErr, IfOk, Some, false, length};
+ghost use Rattle.jiter.specs.Caller.{IsDocument, Node, value_of};
+ghost use Rattle.jiter_walk.specs.Table.{Holds, object_in, table};
+ghost use Rattle.jiter_walk.specs.Walk.{IsReadable, Returns, index_of};
+ghost use Rattle.config.specs.Settings.{config_view, fields, name, settings_slots, unfit_text};
 
 use crate::port::Port;
 use jiter::Jiter;
 use jiter_walk::{
-    Object, Value, WalkError, next_flag, next_integer_in, next_text, read_document, read_object,
-    skip,
+    Object, WalkError, next_flag, next_integer_in, next_text, read_object_document, skip,
 };
-use json_lines::refusal_line;
-use std::alloc::{AllocError, Global};
+use std::alloc::Global;
 use std::fmt;
 
 /// The settings of a program.
@@ -50,94 +47,68 @@ impl fmt::Display for Unfit {
     }
 }
 
+#[derive(Clone, Copy)]
+enum Key {
+    Host,
+    Port,
+    Debug,
+}
+
 // What is set so far.
-#[derive(Drop)]
+#[derive(Default, Drop)]
 struct Settings {
     host: Option<String>,
     port: Option<Port>,
     debug: Option<bool>,
 }
 
-/// Returns `NAME:LINE:COLUMN: what is wrong` and a line feed.
-pub fn report_of(
-    alloc: Global,
-    name: &str,
-    bytes: &[u8],
-    error: &WalkError<Unfit>,
-) -> Result<String, AllocError>
-    ensures { IfOk result (λ text. string_bytes text
-        ≡ refusal_text name.now (position_of bytes.now (index_of error.now)).line
-        (position_of bytes.now (index_of error.now)).column (cause_in bytes.now (reason_text (reason error.now)))) }
-{
-    let cause = cause_of(alloc, error)?;
-    refusal_line(alloc, name, &error.position(bytes), bytes, cause.as_str())
-}
-
-fn cause_of(alloc: Global, error: &WalkError<Unfit>) -> Result<String, AllocError>
-    ensures { IfOk result (λ text. string_bytes text ≡ reason_text (reason error.now)) }
-{
-    match error {
-        WalkError::Reader(error) => format!(in alloc; "{}", error.error_type),
-        WalkError::Custom(cause, _) => format!(in alloc; "{cause}"),
-    }
-}
-
 impl<'j> Object<'j, Unfit> for Settings {
+    type Key = Key;
+
     type Whole = Config;
 
     ghost table = { table fields };
+
+    ghost name = { name };
 
     ghost state = { settings_slots };
 
     ghost view = { config_view };
 
+    fn key(&self, text: &str) -> Option<Key> {
+        match text {
+            "host" => Some(Key::Host),
+            "port" => Some(Key::Port),
+            "debug" => Some(Key::Debug),
+            _ => None,
+        }
+    }
+
     fn member(
         &mut self,
         alloc: Global,
-        key: &str,
+        key: &Option<Key>,
         _at: usize,
         jiter: &mut Jiter<'j>,
     ) -> Result<(), WalkError<Unfit>> {
         match key {
-            "host" => self.host = Some(next_text(alloc, jiter)?),
-            "port" => {
+            Some(Key::Host) => self.host = Some(next_text(alloc, jiter)?),
+            Some(Key::Port) => {
                 let number = next_integer_in(jiter, 1, 65535, Unfit::Port)? as u16;
                 self.port = Some(Port { number });
             }
-            "debug" => self.debug = Some(next_flag(jiter)?),
-            _ => skip(jiter)?,
+            Some(Key::Debug) => self.debug = Some(next_flag(jiter)?),
+            None => skip(jiter)?,
         }
         Ok(())
     }
 
     fn finish(self, _alloc: Global) -> Result<Config, Unfit> {
-        let Settings { host, port, debug } = self;
-        match (host, port) {
-            (Some(host), Some(port)) => Ok(Config {
-                host,
-                port,
-                debug: debug.unwrap_or(false),
-            }),
-            (None, _) => Err(Unfit::NoHost),
-            (_, None) => Err(Unfit::NoPort),
-        }
-    }
-}
-
-impl<'j> Value<'j, Unfit> for Config {
-    ghost View = { Finals fields };
-
-    ghost view = { config_view };
-
-    ghost meaning = { config };
-
-    fn read(alloc: Global, jiter: &mut Jiter<'j>) -> Result<Config, WalkError<Unfit>> {
-        let start = Settings {
-            host: None,
-            port: None,
-            debug: None,
-        };
-        read_object(alloc, jiter, start)
+        Ok(Config {
+            host: self.host.ok_or(Unfit::NoHost)?,
+            port: self.port.ok_or(Unfit::NoPort)?,
+            debug: self.debug.unwrap_or(false),
+        })
     }
 }
 
@@ -159,5 +130,5 @@ pub fn read_config(alloc: Global, bytes: &[u8]) -> Result<Config, WalkError<Unfi
     ensures readable { IfOk result (λ _. IsReadable bytes.now) }
     ensures index { IfErr result (λ e. index_of e ≤ length bytes.now) }
 {
-    read_document(alloc, bytes)
+    read_object_document(alloc, bytes, Settings::default())
 }

@@ -7,8 +7,8 @@ mod port;
 mod tests;
 
 use clap::{ArgMatches, Command};
-use config::{Config, read_config, report_of};
-use json_lines::{Program, ReadInput, base_command, main_of, read_each};
+use config::{Config, read_config};
+use json_lines::{Program, ReadInput, base_command, main_of, read_each, refusal_of};
 use std::alloc::{AllocError, Global};
 use std::io;
 use std::io::{ErrorKind, Read, Write};
@@ -38,7 +38,8 @@ impl ReadInput for Show {
             }
             Err(error) if error.is_memory() => Err(io::Error::from(ErrorKind::OutOfMemory)),
             Err(error) => {
-                let report = report_of(rt.alloc(), name, bytes.as_slice(), &error)?;
+                let position = error.position(bytes.as_slice());
+                let report = refusal_of(rt.alloc(), name, &position, bytes.as_slice(), &error)?;
                 rt.stderr().write_all(report.as_bytes())?;
                 Ok(false)
             }

@@ -5,7 +5,8 @@ use Rattle.jiter.specs.Caller.{IsMemory, MovesOn, Node, ReaderState, cause_of}
 use Rattle.jiter.specs.declared.errors.JiterError.{JiterError}
 use Rattle.jiter_walk.specs.declared.walk_error.WalkError.{WalkError}
 use Rattle.jiter_walk.specs.declared.walk_error.WalkError.TheVariants as variant
-use Rattle.jiter_walk.specs.Walk.{Comes, IsOutOfMemory, Outcome, Returns, Walks, fails, index_of, of_reader, reason}
+use Rattle.jiter_walk.specs.Walk.{Comes, IsOutOfMemory, NeverOutOfMemory, Outcome, Returns, Walks, fails, index_of}
+use Rattle.jiter_walk.specs.Walk.{of_reader, reason}
 
 module _ {C X A : Type 0} (view : X → A) where
   pub error-returned : (x : Result X (WalkError C)) (e : WalkError C) (o : Outcome C A) → IsErrAnd x (λ d. d ≡ e)
@@ -44,3 +45,11 @@ module _ {C X A : Type 0} (view : X → A) where
       reader-fails e is h index memory =
           walk-fails (variant.Reader e) is (λ n comes bytes. h n comes (λ m. bytes (ap of_reader m))) index
           (λ m. sym (memory (cc)))
+
+-- An error of the reader that isn't out of memory.
+pub never-fails : {C X : Type 0} (x : Result X (WalkError C)) (e : JiterError) → IsErrAnd x (λ d. d ≡ variant.Reader e)
+    → (IsMemory e → ⊥) → NeverOutOfMemory x
+never-fails (Ok a) e is h = absurd is
+never-fails (Err d) e is h = λ m. h (memory-of e (subst IsOutOfMemory is m)) where
+  memory-of : {C : Type 0} (e : JiterError) → IsOutOfMemory {C = C} (variant.Reader e) → IsMemory e
+  memory-of e m = cc

@@ -3,6 +3,8 @@ pub mod Floats
 pub mod Integers
 pub mod ListShown
 pub mod Meanings
+pub mod Path
+pub mod Search
 pub mod Shown
 pub mod Table
 pub mod TableLaw

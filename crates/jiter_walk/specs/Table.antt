@@ -3,7 +3,7 @@ use Prim.Native.String.{String}
 use Rattle.std.specs.Prelude.{◌≡◌, ◌⊎◌, ◌&&◌, ℕ, Bool, true, not, if◌then◌else◌, List, [], ◌∷◌, Option, Some, None, codes}
 use Rattle.std.specs.Prelude.{unwrap_or}
 use Rattle.std.specs.Str.{bytes_eq}
-use Rattle.jiter.specs.Caller.{Node, Tree, member_named, value_of}
+use Rattle.jiter.specs.Caller.{Members, Node, Tree, member_named, value_of}
 use Rattle.jiter_walk.specs.Walk.{Finished, Outcome, and_then, complete, custom, fails, gives, missing, object_meaning}
 
 -- What a value means; and what this says of its tree.
@@ -18,9 +18,10 @@ pub data Absent (C A : Type 0) : Type 0 where
   nothing : Absent C A
   default : A → Absent C A
 
--- A second member of the name counts in place of the first, or is an error with this cause at its key.
+-- A second member of the name counts in place of the first, or is skipped, or is an error with this cause at its key.
 pub data Repeated (C : Type 0) : Type 0 where
   last_counts : Repeated C
+  first_counts : Repeated C
   error : C → Repeated C
 
 -- A member of another name is skipped, or is an error with this cause at its key.
@@ -80,6 +81,16 @@ once c f = record {
   repeated = Repeated.error c;
 }
 
+-- this field by its first member; a second one is skipped
+abbrev pub first : {C : Type 0} → Field C → Field C
+first f = record {
+  Value = f.Value;
+  key = f.key;
+  meaning = f.meaning;
+  absent = f.absent;
+  repeated = Repeated.first_counts;
+}
+
 -- these fields; other members are skipped
 abbrev pub table : {C : Type 0} → List (Field C) → Table C
 table fs = record { fields = fs; unknown = Unknown.skipped }
@@ -100,6 +111,8 @@ all_empty (f ∷ fs) = (None, all_empty fs)
 -- a value for this slot, unless the field is repeated; its key is at this index
 abbrev pub unless_repeated : {C A : Type 0} → Repeated C → ℕ → Option A → Outcome C A → Outcome C A
 unless_repeated Repeated.last_counts i s o = o
+unless_repeated Repeated.first_counts i None o = o
+unless_repeated Repeated.first_counts i (Some a) o = gives a
 unless_repeated (Repeated.error c) i None o = o
 unless_repeated (Repeated.error c) i (Some a) o = fails (custom c) i
 
@@ -118,6 +131,23 @@ set_among u (f ∷ fs) put t key i n s =
 
 abbrev pub set : {C : Type 0} (x : Table C) → List ℕ → List ℕ → ℕ → Node → Slots x.fields → Outcome C (Slots x.fields)
 set x t key i n s = set_among x.unknown x.fields (λ r. r) t key i n s
+
+-- ---- the keys of the fields
+-- no field has this key
+abbrev pub differs : {C : Type 0} → List ℕ → List (Field C) → Bool
+differs key [] = true
+differs key (f ∷ fs) = not (bytes_eq key f.key) && differs key fs
+
+-- The name that a key was found to be: this one, or none of the fields'.
+abbrev pub IsNameIn : {C : Type 0} → List (Field C) → List ℕ → Option (List ℕ) → Type 0
+IsNameIn fs key (Some name) = bytes_eq key name ≡ true
+IsNameIn fs key None = differs key fs ≡ true
+
+-- After a member with the key of this name; or with a name that no field has.
+abbrev pub set_named : {C : Type 0} (x : Table C) → List ℕ → Option (List ℕ) → ℕ → Node → Slots x.fields
+    → Outcome C (Slots x.fields)
+set_named x t (Some name) i n s = set x t name i n s
+set_named x t None i n s = unless_unknown x.unknown i s
 
 -- ---- what all members come to
 abbrev pub Final : {C A : Type 0} → Absent C A → Type 0
@@ -149,32 +179,50 @@ abbrev pub object_in : {C : Type 0} (x : Table C) → List ℕ → Node → Outc
 object_in x t n = object_meaning (set x) (all_final x.fields) (all_empty x.fields) t n
 
 -- no two fields have one key
-abbrev pub differs : {C : Type 0} → List ℕ → List (Field C) → Bool
-differs key [] = true
-differs key (f ∷ fs) = not (bytes_eq key f.key) && differs key fs
-
 abbrev pub distinct : {C : Type 0} → List (Field C) → Bool
 distinct [] = true
 distinct (f ∷ fs) = differs f.key fs && distinct fs
 
 -- ---- what the struct says of the tree
+-- the value of the first member of this name (RFC 8259, 4: names should be unique, and readers differ where they aren't)
+abbrev pub first_among : List ℕ → Members → Option Tree
+first_among key Members.no_members = None
+first_among key (Members.member k v ms) = if bytes_eq k.bytes key then Some v else first_among key ms
+
+abbrev pub first_named : List ℕ → Tree → Option Tree
+first_named key (Tree.object ms) = first_among key ms
+first_named key v = None
+
 -- the last member of this name has a value of which this holds
 pub record LastIs {A : Type 0} (Is : Tree → A → Type 0) (v : Tree) (key : List ℕ) (a : A) : Type 0 where
   pub value : Tree
   pub last : member_named key v ≡ Some value
   pub is : Is value a
 
+-- the first member of this name has a value of which this holds
+pub record FirstIs {A : Type 0} (Is : Tree → A → Type 0) (v : Tree) (key : List ℕ) (a : A) : Type 0 where
+  pub value : Tree
+  pub first : first_named key v ≡ Some value
+  pub is : Is value a
+
+-- the member of this name that counts; where a second one is an error there is only one
+abbrev pub CountedIs : {C A : Type 0} → Repeated C → (Is : Tree → A → Type 0) → Tree → List ℕ → A → Type 0
+CountedIs Repeated.last_counts Is v key a = LastIs Is v key a
+CountedIs Repeated.first_counts Is v key a = FirstIs Is v key a
+CountedIs (Repeated.error c) Is v key a = LastIs Is v key a
+
 -- no member has this name
 abbrev pub HasNo : Tree → List ℕ → Type 0
 HasNo v key = member_named key v ≡ None
 
-abbrev pub FieldHolds : {C A : Type 0} (Is : Tree → A → Type 0) (w : Absent C A) → List ℕ → Tree → Final w → Type 0
-FieldHolds Is (Absent.error c) key v x = LastIs Is v key x
-FieldHolds Is Absent.nothing key v None = HasNo v key
-FieldHolds Is Absent.nothing key v (Some x) = LastIs Is v key x
-FieldHolds Is (Absent.default d) key v x = LastIs Is v key x ⊎ (HasNo v key × (x ≡ d))
+abbrev pub FieldHolds : {C A : Type 0} (Is : Tree → A → Type 0) (w : Absent C A) → Repeated C → List ℕ → Tree → Final w
+    → Type 0
+FieldHolds Is (Absent.error c) r key v x = CountedIs r Is v key x
+FieldHolds Is Absent.nothing r key v None = HasNo v key
+FieldHolds Is Absent.nothing r key v (Some x) = CountedIs r Is v key x
+FieldHolds Is (Absent.default d) r key v x = CountedIs r Is v key x ⊎ (HasNo v key × (x ≡ d))
 
--- Each field is what the last member of its name is.
+-- Each field is what the last member of its name is, or the first one where that counts.
 abbrev pub Holds : {C : Type 0} (fs : List (Field C)) → Tree → Finals fs → Type 0
 Holds [] v x = Unit {0}
-Holds (f ∷ fs) v x = FieldHolds f.meaning.Is f.absent f.key v x.0 × Holds fs v x.1
+Holds (f ∷ fs) v x = FieldHolds f.meaning.Is f.absent f.repeated f.key v x.0 × Holds fs v x.1

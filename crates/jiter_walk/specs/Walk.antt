@@ -53,6 +53,10 @@ reason_output output (custom c) = output c
 abbrev pub IsOutOfMemory : {C : Type 0} → WalkError C → Type 0
 IsOutOfMemory e = reason e ≡ of_reader (json_error Kind.out_of_memory)
 
+-- no allocation failed
+abbrev pub NeverOutOfMemory : {C X : Type 0} → Result X (WalkError C) → Type 0
+NeverOutOfMemory result = IfErr result (λ e. IsOutOfMemory e → ⊥)
+
 -- What was returned is this outcome, unless an allocation failed.
 abbrev pub Returns : {C X A : Type 0} → (X → A) → Result X (WalkError C) → Outcome C A → Type 0
 Returns view (Ok x) o = o ≡ gives (view x)

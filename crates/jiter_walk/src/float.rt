@@ -5,7 +5,7 @@ ghost use Rattle.std.specs.Float.Parse.{parse_float};
 ghost use Rattle.jiter.specs.Caller.{number_view};
 ghost use Rattle.jiter_walk.specs.Floats.{double, double_in, finite};
 ghost use Rattle.jiter_walk.specs.Meanings.{nearest_double};
-ghost use Rattle.jiter_walk.specs.Walk.{Walks};
+ghost use Rattle.jiter_walk.specs.Walk.{NeverOutOfMemory, Walks};
 
 use crate::integer::OutOfRange;
 use crate::scalars::{next_number, next_place};
@@ -43,7 +43,8 @@ fn double(number: NumberAny<'_>) -> Option<f64>
 /// - `Reader` for an error in the bytes, and for a value of another type at its first byte
 /// - `Custom` with `cause` if there is no finite double, as for `1e999`, at the number's first byte
 pub fn next_f64<C: Drop>(jiter: &mut Jiter<'_>, cause: C) -> Result<f64, WalkError<C>>
-    ensures { Walks (λ x. x) (double_in cause) result jiter.old jiter.new }
+    ensures walks { Walks (λ x. x) (double_in cause) result jiter.old jiter.new }
+    ensures never { NeverOutOfMemory result }
 {
     let at = next_place(jiter)?;
     match double(next_number(jiter)?) {

@@ -4,7 +4,7 @@ ghost use Rattle.jiter.specs.Caller.{Number, int_view};
 ghost use Rattle.jiter_walk.specs.Integers.{signed, signed_bounded, unsigned};
 ghost use Rattle.jiter_walk.specs.Meanings.{integer_by};
 ghost use Rattle.jiter_walk.specs.Values.{bounded, fitting};
-ghost use Rattle.jiter_walk.specs.Walk.{Walks};
+ghost use Rattle.jiter_walk.specs.Walk.{NeverOutOfMemory, Walks};
 
 use crate::scalars::{bounded, next_integer, next_place};
 use crate::value::Value;
@@ -38,7 +38,8 @@ pub fn next_integer_as<T: Integer, C: Drop>(
     jiter: &mut Jiter<'_>,
     cause: C,
 ) -> Result<T, WalkError<C>>
-    ensures { Walks (λ x. x) (fitting T.fit cause) result jiter.old jiter.new }
+    ensures walks { Walks (λ x. x) (fitting T.fit cause) result jiter.old jiter.new }
+    ensures never { NeverOutOfMemory result }
 {
     let at = next_place(jiter)?;
     match T::of_number(next_integer(jiter)?) {

@@ -2,7 +2,7 @@
 ghost use Rattle.std.specs.Prelude.{◌≡◌, ◌≤◌, IfErr, IfOk, IsOkAnd, length, string_bytes};
 ghost use Rattle.jiter.specs.Caller.{IsMemory, MovesOn, Node, Reads, anywhere, begin, int_view, next, number_view, reply_seen, str_read};
 ghost use Rattle.jiter.specs.Caller.{text_bytes, value_place, view};
-ghost use Rattle.jiter_walk.specs.Walk.{Comes, Walks};
+ghost use Rattle.jiter_walk.specs.Walk.{Comes, NeverOutOfMemory, Walks};
 ghost use Rattle.jiter_walk.specs.Values.{bounded, flag_in, integer_between, integer_in, null_in};
 ghost use Rattle.jiter_walk.specs.Values.{number_in, number_source_in, passed_in, source_in, text_in, tree_in};
 
@@ -38,7 +38,8 @@ pub fn next_text<C>(alloc: Global, jiter: &mut Jiter<'_>) -> Result<String, Walk
 ///
 /// - `Reader` for an error in the bytes, and for a value of another type at its first byte
 pub fn next_flag<C>(jiter: &mut Jiter<'_>) -> Result<bool, WalkError<C>>
-    ensures { Walks (λ b. b) flag_in result jiter.old jiter.new }
+    ensures walks { Walks (λ b. b) flag_in result jiter.old jiter.new }
+    ensures never { NeverOutOfMemory result }
 {
     Ok(jiter.next_bool()?)
 }
@@ -49,7 +50,8 @@ pub fn next_flag<C>(jiter: &mut Jiter<'_>) -> Result<bool, WalkError<C>>
 ///
 /// - `Reader` for an error in the bytes, and for a value of another type at its first byte
 pub fn next_integer<'j, C>(jiter: &mut Jiter<'j>) -> Result<NumberInt<'j>, WalkError<C>>
-    ensures { Walks int_view integer_in result jiter.old jiter.new }
+    ensures walks { Walks int_view integer_in result jiter.old jiter.new }
+    ensures never { NeverOutOfMemory result }
 {
     Ok(jiter.next_int()?)
 }
@@ -60,7 +62,8 @@ pub fn next_integer<'j, C>(jiter: &mut Jiter<'j>) -> Result<NumberInt<'j>, WalkE
 ///
 /// - `Reader` for an error in the bytes, and for a value of another type at its first byte
 pub fn next_number<'j, C>(jiter: &mut Jiter<'j>) -> Result<NumberAny<'j>, WalkError<C>>
-    ensures { Walks number_view number_in result jiter.old jiter.new }
+    ensures walks { Walks number_view number_in result jiter.old jiter.new }
+    ensures never { NeverOutOfMemory result }
 {
     Ok(jiter.next_number()?)
 }
@@ -71,7 +74,8 @@ pub fn next_number<'j, C>(jiter: &mut Jiter<'j>) -> Result<NumberAny<'j>, WalkEr
 ///
 /// - `Reader` for an error in the bytes, and for a value of another type at its first byte
 pub fn next_number_source<'j, C>(jiter: &mut Jiter<'j>) -> Result<&'j [u8], WalkError<C>>
-    ensures { Walks (λ x. x.now) number_source_in result jiter.old jiter.new }
+    ensures walks { Walks (λ x. x.now) number_source_in result jiter.old jiter.new }
+    ensures never { NeverOutOfMemory result }
 {
     Ok(jiter.next_number_bytes()?)
 }
@@ -83,7 +87,8 @@ pub fn next_number_source<'j, C>(jiter: &mut Jiter<'j>) -> Result<&'j [u8], Walk
 ///
 /// - `Reader` for an error in the bytes
 pub fn next_source<'j, C>(jiter: &mut Jiter<'j>) -> Result<&'j [u8], WalkError<C>>
-    ensures { Walks (λ x. x.now) source_in result jiter.old jiter.new }
+    ensures walks { Walks (λ x. x.now) source_in result jiter.old jiter.new }
+    ensures never { NeverOutOfMemory result }
 {
     let at = next_place(jiter)?;
     skip(jiter)?;
@@ -107,7 +112,8 @@ pub fn next_tree<'j, C>(alloc: Global, jiter: &mut Jiter<'j>) -> Result<JsonValu
 ///
 /// - `Reader` for an error in the bytes, and for a value of another type at its first byte
 pub fn next_null<C>(jiter: &mut Jiter<'_>) -> Result<(), WalkError<C>>
-    ensures { Walks (λ u. u) null_in result jiter.old jiter.new }
+    ensures walks { Walks (λ u. u) null_in result jiter.old jiter.new }
+    ensures never { NeverOutOfMemory result }
 {
     Ok(jiter.next_null()?)
 }
@@ -118,7 +124,8 @@ pub fn next_null<C>(jiter: &mut Jiter<'_>) -> Result<(), WalkError<C>>
 ///
 /// - `Reader` for an error in the bytes
 pub fn skip<C>(jiter: &mut Jiter<'_>) -> Result<(), WalkError<C>>
-    ensures { Walks (λ u. u) passed_in result jiter.old jiter.new }
+    ensures walks { Walks (λ u. u) passed_in result jiter.old jiter.new }
+    ensures never { NeverOutOfMemory result }
 {
     Ok(jiter.next_skip()?)
 }
@@ -172,6 +179,7 @@ pub fn next_integer_in<C: Drop>(
 ) -> Result<u64, WalkError<C>>
     ensures walks { Walks (λ x. x) (integer_between low high cause) result jiter.old jiter.new }
     ensures range { IfOk result (λ x. (low ≤ x) × (x ≤ high)) }
+    ensures never { NeverOutOfMemory result }
 {
     let at = next_place(jiter)?;
     match bounded(next_integer(jiter)?, low, high) {

@@ -2,7 +2,7 @@
 ghost use Rattle.std.specs.Prelude.{◌≡◌, ◌≤◌, length};
 ghost use Rattle.jiter.specs.Caller.{position_of};
 ghost use Rattle.jiter_walk.specs.declared.walk_error.WalkError.TheVariants as variant;
-ghost use Rattle.jiter_walk.specs.Walk.{Walks, custom, fails, index_of, is_memory_reason, reason, reason_output};
+ghost use Rattle.jiter_walk.specs.Walk.{NeverOutOfMemory, Walks, custom, fails, index_of, is_memory_reason, reason, reason_output};
 
 use jiter::{Jiter, JiterError, LinePosition};
 use std::fmt;
@@ -71,7 +71,8 @@ impl<C: fmt::Display> fmt::Display for WalkError<C> {
 /// ```
 pub fn fail_at<C: Drop>(jiter: &Jiter<'_>, cause: C, at: usize) -> Result<(), WalkError<C>>
     requires { at ≤ length jiter.now.text }
-    ensures { Walks (λ u. u) (λ t n. fails (custom cause) at) result jiter.now jiter.now }
+    ensures walks { Walks (λ u. u) (λ t n. fails (custom cause) at) result jiter.now jiter.now }
+    ensures never { NeverOutOfMemory result }
 {
     // (so that the reader's position is known to be within its bytes)
     let _ = jiter.current_index();

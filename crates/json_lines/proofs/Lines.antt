@@ -10,7 +10,7 @@ use Rattle.std.proofs.lemmas.List.Elements.{All-nil, All-push}
 use Rattle.std.proofs.Math.Seq.{take-append_seam, take-length}
 use Rattle.jiter_print.specs.Written.{AppendsPrefix}
 use Rattle.json_lines.specs.Line.{Seen}
-use Rattle.json_lines.specs.Log.{Answer, IsRight, WritesAll, WritesPart, chomp, raw_lines, refusal_of, refusals_among}
+use Rattle.json_lines.specs.Log.{Answer, IsRight, WritesAll, WritesPart, chomp, kept_from, kept_of, raw_lines, refusal_of, refusals_among}
 use Rattle.json_lines.specs.Log.{refusals_from, refusals_in, text_of, texts_among, texts_in, texts_of, with_first}
 use Rattle.json_lines.specs.declared.log.Counts.{Counts}
 
@@ -67,6 +67,12 @@ refusals-more name number (b ∷ xs) a =
     ∙ ap (λ n. refusals_from name (number + 1) xs ++ refusal_of name n (chomp a.line) a.outcome) same)
     ∙ sym (append_assoc (refusal_of name number (chomp b.line) b.outcome) (refusals_from name (number + 1) xs) _)
 
+kept-more : (xs : List Answer) (a : Answer) → kept_from (xs ++ (a ∷ [])) ≡ kept_from xs ++ kept_of a.line a.outcome
+kept-more [] a = append-nil (kept_of a.line a.outcome)
+kept-more (b ∷ xs) a =
+    ap (λ l. kept_of b.line b.outcome ++ l) (kept-more xs a)
+    ∙ sym (append_assoc (kept_of b.line b.outcome) (kept_from xs) (kept_of a.line a.outcome))
+
 texts-among-more : (xs : List Answer) (a : Answer)
     → texts_among (xs ++ (a ∷ [])) ≡ texts_among xs + texts_in a.outcome
 texts-among-more [] a = omega (arith)
@@ -82,19 +88,20 @@ length-more [] a = refl
 length-more (b ∷ xs) a = omega (arith, length-more xs a)
 
 -- The lines up to those of the rest are written; the next one has this number.
-pub record SoFar (becomes : List ℕ → Seen → Type 0) (name t rest : List ℕ) (number : ℕ) (counts : Counts)
-    (out out' err err' : Option (List ℕ)) : Type 0 where
+pub record SoFar (becomes : List ℕ → Seen → Type 0) (name : List ℕ) (first : ℕ) (t rest : List ℕ) (number : ℕ) (counts : Counts)
+    (out out' err err' bad bad' : Option (List ℕ)) : Type 0 where
   pub answers : List Answer
   pub lines : map (λ a. a.line) answers ++ raw_lines rest ≡ raw_lines t
   pub right : All (λ a. IsRight becomes (chomp a.line) a.outcome) answers
   pub texts : Appends out out' (texts_of answers)
-  pub refusals : Appends err err' (refusals_from name 1 answers)
+  pub refusals : Appends err err' (refusals_from name first answers)
+  pub kept : Appends bad bad' (kept_from answers)
   pub texts_counted : counts.texts ≡ texts_among answers
   pub refusals_counted : counts.refused ≡ refusals_among answers
-  pub numbered : 1 + length answers ≡ number
+  pub numbered : first + length answers ≡ number
 
 -- all of some bytes is a prefix of them
-whole-part : (a b : Option (List ℕ)) (bs : List ℕ) → Appends a b bs → AppendsPrefix a b bs
+pub whole-part : (a b : Option (List ℕ)) (bs : List ℕ) → Appends a b bs → AppendsPrefix a b bs
 whole-part a b bs h = (length bs, subst (Appends a b) (sym (take-length bs)) h)
 
 -- bytes that are appended, and a prefix of more of them
@@ -110,24 +117,25 @@ prefix-more a b c xs ys all more prefix is =
     ap (take (length written)) whole ∙ take-append_seam written left in
     (length written, subst (Appends a c) (sym front) (Appends-trans a b c xs (take prefix.0 ys) more prefix.1))
 
-module _ (becomes : List ℕ → Seen → Type 0) (name t : List ℕ) (out err : Option (List ℕ)) where
+module _ (becomes : List ℕ → Seen → Type 0) (name : List ℕ) (first : ℕ) (t : List ℕ) (out err bad : Option (List ℕ)) where
   -- before the first line
-  pub begun : (counts : Counts) → counts.texts ≡ 0 → counts.refused ≡ 0 → SoFar becomes name t t 1 counts out out err err
+  pub begun : (counts : Counts) → counts.texts ≡ 0 → counts.refused ≡ 0 → SoFar becomes name first t t first counts out out err err bad bad
   begun counts no-texts none-refused = record {
     answers = [];
     lines = refl;
     right = All-nil (λ a. IsRight becomes (chomp a.line) a.outcome);
     texts = Appends-nil out;
     refusals = Appends-nil err;
+    kept = Appends-nil bad;
     texts_counted = no-texts;
     refusals_counted = none-refused;
-    numbered = refl;
+    numbered = omega (arith);
   }
 
-  module _ (rest : List ℕ) (number : ℕ) (counts : Counts) (out' err' : Option (List ℕ))
-      (h : SoFar becomes name t rest number counts out out' err err') where
+  module _ (rest : List ℕ) (number : ℕ) (counts : Counts) (out' err' bad' : Option (List ℕ))
+      (h : SoFar becomes name first t rest number counts out out' err err' bad bad') where
     -- nothing more is written
-    pub stopped : WritesPart becomes name t out out' err err'
+    pub stopped : WritesPart becomes name first t out out' err err' bad bad'
     stopped = record {
       answers = h.answers;
       others = raw_lines rest;
@@ -135,10 +143,11 @@ module _ (becomes : List ℕ → Seen → Type 0) (name t : List ℕ) (out err :
       right = h.right;
       texts = whole-part out out' _ h.texts;
       refusals = whole-part err err' _ h.refusals;
+      kept = whole-part bad bad' _ h.kept;
     }
 
     -- no line is left
-    pub all-done : rest ≡ [] → WritesAll becomes name t counts out out' err err'
+    pub all-done : rest ≡ [] → WritesAll becomes name first t counts out out' err err' bad bad'
     all-done none = record {
       answers = h.answers;
       lines = sym (append-nil (map (λ a. a.line) h.answers))
@@ -146,6 +155,7 @@ module _ (becomes : List ℕ → Seen → Type 0) (name t : List ℕ) (out err :
       right = h.right;
       texts = h.texts;
       refusals = h.refusals;
+      kept = h.kept;
       texts_counted = h.texts_counted;
       refusals_counted = h.refusals_counted;
     }
@@ -173,35 +183,41 @@ module _ (becomes : List ℕ → Seen → Type 0) (name t : List ℕ) (out err :
       texts-are : texts_of h.answers ++ text_of o ≡ texts_of more
       texts-are = sym (texts-more h.answers next)
 
-      refusals-are : refusals_from name 1 h.answers ++ report ≡ refusals_from name 1 more
+      refusals-are : refusals_from name first h.answers ++ report ≡ refusals_from name first more
       refusals-are =
-          ap (λ n. refusals_from name 1 h.answers ++ refusal_of name n (chomp line) o) (sym h.numbered)
-          ∙ sym (refusals-more name 1 h.answers next)
+          ap (λ n. refusals_from name first h.answers ++ refusal_of name n (chomp line) o) (sym h.numbered)
+          ∙ sym (refusals-more name first h.answers next)
+
+      kept-is : kept_from h.answers ++ kept_of line o ≡ kept_from more
+      kept-is = sym (kept-more h.answers next)
 
       -- it is written
-      pub one-more : (out'' err'' : Option (List ℕ)) (counts' : Counts) → Appends out' out'' (text_of o)
-          → Appends err' err'' report → counts'.texts ≡ counts.texts + texts_in o
+      pub one-more : (out'' err'' bad'' : Option (List ℕ)) (counts' : Counts) → Appends out' out'' (text_of o)
+          → Appends err' err'' report → Appends bad' bad'' (kept_of line o) → counts'.texts ≡ counts.texts + texts_in o
           → counts'.refused ≡ counts.refused + refusals_in o
-          → SoFar becomes name t (drop_through 10 rest) (number + 1) counts' out out'' err err''
-      one-more out'' err'' counts' text refusal texts refusals = record {
+          → SoFar becomes name first t (drop_through 10 rest) (number + 1) counts' out out'' err err'' bad bad''
+      one-more out'' err'' bad'' counts' text refusal kept texts refusals = record {
         answers = more;
         lines = lines-are;
         right = All-push (λ a. IsRight becomes (chomp a.line) a.outcome) h.answers next h.right right;
         texts = subst (Appends out out'') texts-are (Appends-trans out out' out'' _ _ h.texts text);
         refusals = subst (Appends err err'') refusals-are (Appends-trans err err' err'' _ _ h.refusals refusal);
+        kept = subst (Appends bad bad'') kept-is (Appends-trans bad bad' bad'' _ _ h.kept kept);
         texts_counted = omega (arith, texts, h.texts_counted, texts-among-more h.answers next);
         refusals_counted = omega (arith, refusals, h.refusals_counted, refusals-among-more h.answers next);
         numbered = omega (arith, h.numbered, length-more h.answers next);
       }
 
       -- a prefix of it is
-      pub part-more : (out'' err'' : Option (List ℕ)) → AppendsPrefix out' out'' (text_of o)
-          → AppendsPrefix err' err'' report → WritesPart becomes name t out out'' err err''
-      part-more out'' err'' text refusal = record {
+      pub part-more : (out'' err'' bad'' : Option (List ℕ)) → AppendsPrefix out' out'' (text_of o)
+          → AppendsPrefix err' err'' report → AppendsPrefix bad' bad'' (kept_of line o)
+          → WritesPart becomes name first t out out'' err err'' bad bad''
+      part-more out'' err'' bad'' text refusal kept = record {
         answers = more;
         others = raw_lines (drop_through 10 rest);
         lines = lines-are;
         right = All-push (λ a. IsRight becomes (chomp a.line) a.outcome) h.answers next h.right right;
         texts = prefix-more out out' out'' _ _ _ h.texts text texts-are;
         refusals = prefix-more err err' err'' _ _ _ h.refusals refusal refusals-are;
+        kept = prefix-more bad bad' bad'' _ _ _ h.kept kept kept-is;
       }

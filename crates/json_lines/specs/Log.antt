@@ -3,6 +3,7 @@ use Rattle.std.specs.Prelude.{◌≡◌, ℕ, ◌+◌, ◌==◌, ◌⊎◌, List
 use Rattle.std.specs.List.{All}
 use Rattle.std.specs.Io.BufRead.{strip_last}
 use Rattle.std.specs.Io.KnownBytes.{Appends}
+use Rattle.jiter_print.specs.Print.{with_line_feed}
 use Rattle.jiter_print.specs.Written.{AppendsPrefix}
 use Rattle.json_lines.specs.Line.{Seen, cause_in, refusal_text, refused, written}
 use Rattle.json_lines.specs.declared.log.Counts.{Counts}
@@ -40,6 +41,15 @@ abbrev pub text_of : Option Seen → List ℕ
 text_of (Some (written text)) = text
 text_of o = []
 
+-- a line with a line feed at its end
+abbrev pub ended : List ℕ → List ℕ
+ended line = with_line_feed (strip_last 10 line)
+
+-- what is kept of a line: all of it, if it has an error
+abbrev pub kept_of : List ℕ → Option Seen → List ℕ
+kept_of line (Some (refused column cause)) = ended line
+kept_of line o = []
+
 -- what is reported of a line
 abbrev pub refusal_of : List ℕ → ℕ → List ℕ → Option Seen → List ℕ
 refusal_of name number line (Some (refused column cause)) = refusal_text name number column (cause_in line cause)
@@ -64,6 +74,11 @@ refusals_from name number [] = []
 refusals_from name number (a ∷ more) =
     refusal_of name number (chomp a.line) a.outcome ++ refusals_from name (number + 1) more
 
+-- the lines with an error, in their order
+abbrev pub kept_from : List Answer → List ℕ
+kept_from [] = []
+kept_from (a ∷ more) = kept_of a.line a.outcome ++ kept_from more
+
 -- how many of these lines have a text
 abbrev pub texts_among : List Answer → ℕ
 texts_among [] = 0
@@ -74,23 +89,25 @@ abbrev pub refusals_among : List Answer → ℕ
 refusals_among [] = 0
 refusals_among (a ∷ more) = refusals_in a.outcome + refusals_among more
 
--- What is written of a whole log: what became of each of its lines, in their order.
-pub record WritesAll (becomes : List ℕ → Seen → Type 0) (name t : List ℕ) (counts : Counts)
-    (out out' err err' : Option (List ℕ)) : Type 0 where
+-- What is written of a whole log, whose first line has this number: what became of each of its lines, in their order.
+pub record WritesAll (becomes : List ℕ → Seen → Type 0) (name : List ℕ) (first : ℕ) (t : List ℕ) (counts : Counts)
+    (out out' err err' bad bad' : Option (List ℕ)) : Type 0 where
   pub answers : List Answer
   pub lines : map (λ a. a.line) answers ≡ raw_lines t
   pub right : All (λ a. IsRight becomes (chomp a.line) a.outcome) answers
   pub texts : Appends out out' (texts_of answers)
-  pub refusals : Appends err err' (refusals_from name 1 answers)
+  pub refusals : Appends err err' (refusals_from name first answers)
+  pub kept : Appends bad bad' (kept_from answers)
   pub texts_counted : counts.texts ≡ texts_among answers
   pub refusals_counted : counts.refused ≡ refusals_among answers
 
 -- a prefix of what is written of its first lines
-pub record WritesPart (becomes : List ℕ → Seen → Type 0) (name t : List ℕ)
-    (out out' err err' : Option (List ℕ)) : Type 0 where
+pub record WritesPart (becomes : List ℕ → Seen → Type 0) (name : List ℕ) (first : ℕ) (t : List ℕ)
+    (out out' err err' bad bad' : Option (List ℕ)) : Type 0 where
   pub answers : List Answer
   pub others : List (List ℕ)
   pub lines : map (λ a. a.line) answers ++ others ≡ raw_lines t
   pub right : All (λ a. IsRight becomes (chomp a.line) a.outcome) answers
   pub texts : AppendsPrefix out out' (texts_of answers)
-  pub refusals : AppendsPrefix err err' (refusals_from name 1 answers)
+  pub refusals : AppendsPrefix err err' (refusals_from name first answers)
+  pub kept : AppendsPrefix bad bad' (kept_from answers)

@@ -6,6 +6,8 @@ mod line;
 mod log;
 mod program;
 
-pub use line::{Convert, Outcome, refusal_line};
-pub use log::{Counts, convert_log};
-pub use program::{Program, ReadInput, base_command, convert_logs, main_of, read_each};
+pub use line::{Convert, Outcome, refusal_line, refusal_of};
+pub use log::{Counts, Origin, convert_log};
+pub use program::{
+    Program, ReadInput, base_command, convert_logs, log_command, main_of, read_each,
+};

@@ -1,9 +1,10 @@
 //! What becomes of a line.
-ghost use Rattle.std.specs.Prelude.{◌≡◌, ℕ, List, IfOk, string_bytes};
+ghost use Rattle.std.specs.Prelude.{◌≡◌, ℕ, List, IfOk, IfSome, string_bytes};
 ghost use Rattle.json_lines.specs.Line.{Seen, cause_in, refusal_text, seen};
 
 use jiter_scan::LinePosition;
 use std::alloc::{AllocError, Global};
+use std::fmt;
 
 const BYTE_ORDER_MARK: [u8; 3] = [0xef, 0xbb, 0xbf];
 
@@ -74,4 +75,23 @@ pub fn refusal_line(
         return format!(in alloc; "{name}:{line}:{column}: byte order mark\n");
     }
     format!(in alloc; "{name}:{line}:{column}: {cause}\n")
+}
+
+/// Returns the line of [`refusal_line`] for an error: its cause is what the error prints.
+///
+/// # Errors
+///
+/// - `AllocError` if an allocation fails
+pub fn refusal_of<E: fmt::Display>(
+    alloc: Global,
+    name: &str,
+    position: &LinePosition,
+    text: &[u8],
+    error: &E,
+) -> Result<String, AllocError>
+    ensures { IfSome (E.output error.now) (λ cause. IfOk result (λ line. string_bytes line
+        ≡ refusal_text name.now position.now.line position.now.column (cause_in text.now cause))) }
+{
+    let cause = format!(in alloc; "{error}")?;
+    refusal_line(alloc, name, position, text, cause.as_str())
 }

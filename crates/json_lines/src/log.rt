@@ -1,12 +1,15 @@
 //! Logs, read line by line.
-ghost use Rattle.std.specs.Prelude.{◌≡◌, ◌↔◌, IfOk, IfSome, IsTrue, OnErr};
+ghost use Rattle.std.specs.Prelude.{◌≡◌, ◌↔◌, IfOk, IfSome, IsTrue, OnErr, OnOk, Some};
 ghost use Rattle.std.specs.Io.Buffered.{reader_remaining};
-ghost use Rattle.json_lines.specs.Log.{IsBlankLine, WritesAll, WritesPart, chomp};
+ghost use Rattle.std.specs.Io.KnownBytes.{Appends};
+ghost use Rattle.jiter_print.specs.Written.{AppendsPrefix};
+ghost use Rattle.json_lines.specs.Line.{refused};
+ghost use Rattle.json_lines.specs.Log.{IsBlankLine, WritesAll, WritesPart, chomp, ended, kept_of, refusal_of};
 
 use crate::line::{Convert, Outcome, refusal_line};
 use jiter_print::write_line;
 use jiter_scan::LinePosition;
-use std::alloc::Global;
+use std::alloc::{AllocError, Global};
 use std::io;
 use std::io::{BufRead, BufReader, ErrorKind, Read, Write};
 
@@ -17,6 +20,16 @@ pub struct Counts {
     pub texts: usize,
     /// The lines with an error.
     pub refused: usize,
+}
+
+/// What the reports of a log name: where it comes from, and the number of its first line.
+#[derive(Debug, Clone, Copy)]
+pub struct Origin<'n> {
+    /// The name of the log.
+    pub name: &'n str,
+    /// The number of its first line: 1 for a complete log. For the rest of a log that was cut between two lines, it is 1 and
+    /// the number of lines before the cut.
+    pub first_line: usize,
 }
 
 // A line without its `\n` or `\r\n`.
@@ -34,40 +47,79 @@ fn is_blank(line: &[u8]) -> bool
     line.iter().all(|byte| *byte == b' ' || *byte == b'\t' || *byte == b'\n' || *byte == b'\r')
 }
 
+// A line with a line feed at its end.
+fn ended(alloc: Global, line: &[u8]) -> Result<Vec<u8>, AllocError>
+    ensures { IfOk result (λ text. text.items ≡ ended line.now) }
+{
+    let mut text = Vec::from_slice(alloc, line.strip_suffix(b"\n").unwrap_or(line))?;
+    text.push(b'\n')?;
+    Ok(text)
+}
+
+// Reports a line with an error to `err`, and keeps it in `bad`.
+fn write_refused<E: Write, B: Write>(
+    alloc: Global,
+    name: &str,
+    position: &LinePosition,
+    line: &[u8],
+    cause: &str,
+    err: &mut E,
+    bad: &mut B,
+) -> io::Result<()>
+    ensures whole { OnOk result (let o = Some (refused position.now.column cause.now) in
+        Appends (E.contents err.old) (E.contents err.new)
+        (refusal_of name.now position.now.line (chomp line.now) o)
+        × Appends (B.contents bad.old) (B.contents bad.new) (kept_of line.now o)) }
+    ensures part { OnErr result (let o = Some (refused position.now.column cause.now) in
+        AppendsPrefix (E.contents err.old) (E.contents err.new)
+        (refusal_of name.now position.now.line (chomp line.now) o)
+        × AppendsPrefix (B.contents bad.old) (B.contents bad.new) (kept_of line.now o)) }
+{
+    let report = refusal_line(alloc, name, position, without_end(line), cause)?;
+    let kept = ended(alloc, line)?;
+    write_line(err, report.as_bytes())?;
+    write_line(bad, kept.as_slice())
+}
+
 /// Reads a log to its end. Writes what each line becomes: its text to `out`, and for an error `NAME:LINE:COLUMN: CAUSE` to
-/// `err`, in the order of the lines. Returns how many there are of each.
+/// `err` and the line itself to `bad`, in the order of the lines. Returns how many texts and errors there are.
 ///
 /// A line ends at `\n` or `\r\n`; the last one may have no end. A line of whitespace only is passed over, and counted as a
-/// line. Lines and columns count from 1, columns in bytes. The memory in use doesn't grow with the number of lines: what a
-/// line becomes is written before the next one is read.
+/// line. Lines count from the origin's first line, and columns from 1, in bytes. What is written to `bad` has the line's own
+/// end; a last line without one gets `\n`. The memory in use doesn't grow with the number of lines: what a line becomes is
+/// written before the next one is read.
 ///
 /// # Errors
 ///
 /// - the error of a failed read or write; an interrupted read or write is repeated
+/// - `Other` before a line with the number `usize::MAX`
 /// - `OutOfMemory` if an allocation fails
 ///
 /// After an error, prefixes of these outputs are written.
-pub fn convert_log<C: Convert, R: Read, O: Write, E: Write>(
+pub fn convert_log<C: Convert, R: Read, O: Write, E: Write, B: Write>(
     alloc: Global,
     converter: &C,
-    name: &str,
+    origin: &Origin<'_>,
     reader: &mut BufReader<R>,
     out: &mut O,
     err: &mut E,
+    bad: &mut B,
 ) -> io::Result<Counts>
     ensures all { IfOk result (λ counts. IfSome (reader_remaining R.remaining reader.old)
-        (λ t. WritesAll (C.becomes converter.now) name.now t counts
-        (O.contents out.old) (O.contents out.new) (E.contents err.old) (E.contents err.new))) }
+        (λ t. WritesAll (C.becomes converter.now) origin.now.name.now origin.now.first_line t counts
+        (O.contents out.old) (O.contents out.new) (E.contents err.old) (E.contents err.new)
+        (B.contents bad.old) (B.contents bad.new))) }
     ensures part { OnErr result (IfSome (reader_remaining R.remaining reader.old)
-        (λ t. WritesPart (C.becomes converter.now) name.now t
-        (O.contents out.old) (O.contents out.new) (E.contents err.old) (E.contents err.new))) }
+        (λ t. WritesPart (C.becomes converter.now) origin.now.name.now origin.now.first_line t
+        (O.contents out.old) (O.contents out.new) (E.contents err.old) (E.contents err.new)
+        (B.contents bad.old) (B.contents bad.new))) }
 {
     let mut counts = Counts {
         texts: 0,
         refused: 0,
     };
     let mut buffer = Vec::new(alloc);
-    for line in 1..usize::MAX {
+    for line in origin.first_line..usize::MAX {
         buffer.clear();
         if reader.read_until(b'\n', &mut buffer)? == 0 {
             return Ok(counts);
@@ -83,8 +135,16 @@ pub fn convert_log<C: Convert, R: Read, O: Write, E: Write>(
             }
             Outcome::Refused(column, cause) => {
                 let position = LinePosition { line, column };
-                let refusal = refusal_line(alloc, name, &position, bytes, cause.as_str())?;
-                write_line(err, refusal.as_bytes())?;
+                let line = buffer.as_slice();
+                write_refused(
+                    alloc,
+                    origin.name,
+                    &position,
+                    line,
+                    cause.as_str(),
+                    err,
+                    bad,
+                )?;
                 counts.refused += 1;
             }
         }

@@ -1,10 +1,10 @@
 //! How a program takes its words, reads its inputs and ends.
 use crate::line::Convert;
-use crate::log::{Counts, convert_log};
+use crate::log::{Counts, Origin, convert_log};
 use clap::error::ErrorKind as WordsError;
-use clap::{Arg, ArgAction, ArgMatches, Command};
+use clap::{Arg, ArgAction, ArgMatches, Command, value_parser};
 use std::alloc::{AllocError, Global};
-use std::io::{BufReader, ErrorKind, Read};
+use std::io::{BufReader, ErrorKind, Read, Write};
 use std::process::ExitCode;
 use std::{env, fs, io};
 
@@ -12,8 +12,19 @@ const STATUS: &str =
     "The FILE `-` is standard input.\n\nExit status: 0 if nothing is refused, 1 if something is, 2 for wrong arguments, 3 if a read, a write \
     or an allocation failed.";
 
+const BAD: &str =
+    "Write each line with an error, as it is, to FILE; what FILE held before is lost. A last line without a line feed gets \
+    one";
+
+const LOGS: &str = "The logs; standard input if there is none";
+
 // The bytes of a log that are read at once, at most.
 const CAPACITY: usize = 1 << 16;
+
+const NONE: Counts = Counts {
+    texts: 0,
+    refused: 0,
+};
 
 /// A program with words.
 pub trait Program {
@@ -68,6 +79,32 @@ pub fn base_command<'a>(
         .about(about)
         .after_help(STATUS)
         .arg(files)
+}
+
+/// Returns a command as [`base_command`] does, with the options of the programs over logs.
+///
+/// # Errors
+///
+/// - `AllocError` if an allocation fails
+pub fn log_command<'a>(
+    alloc: Global,
+    name: &'a str,
+    about: &'a str,
+) -> Result<Command<'a>, AllocError> {
+    let first_line = Arg::new(alloc, "first-line")
+        .long("first-line")
+        .value_name("N")
+        .value_parser(value_parser!(u64).range(1..1 << 62))
+        .help(
+            "The number of each log's first line, where a log was cut between two lines; 1 if it is not given",
+        );
+    let bad = Arg::new(alloc, "bad")
+        .long("bad")
+        .value_name("FILE")
+        .help(BAD);
+    base_command(alloc, name, about, LOGS)?
+        .arg(first_line)?
+        .arg(bad)
 }
 
 // Reports an error and returns the exit status. A closed pipe is no news to who closed it.
@@ -138,13 +175,29 @@ pub fn read_each<I: ReadInput>(
     status
 }
 
-// A converter of logs, and the counts of those that were read.
-struct Logs<'a, C> {
+// What is written to it is dropped.
+#[derive(Drop)]
+struct Sink;
+
+impl Write for Sink {
+    fn write(&mut self, buf: &[u8]) -> io::Result<usize> {
+        Ok(buf.len())
+    }
+
+    fn flush(&mut self) -> io::Result<()> {
+        Ok(())
+    }
+}
+
+// A converter of logs, where the lines with an error are kept, and the counts of the logs that were read.
+struct Logs<'a, C, B> {
     converter: &'a C,
+    first_line: usize,
+    bad: B,
     counts: Counts,
 }
 
-impl<C: Convert> ReadInput for Logs<'_, C> {
+impl<C: Convert, B: Write> ReadInput for Logs<'_, C, B> {
     fn read<R: Read + Drop>(
         &mut self,
         rt: &HostRuntime,
@@ -152,13 +205,18 @@ impl<C: Convert> ReadInput for Logs<'_, C> {
         reader: R,
     ) -> io::Result<bool> {
         let mut reader = BufReader::with_capacity(rt.alloc(), CAPACITY, reader)?;
+        let origin = Origin {
+            name,
+            first_line: self.first_line,
+        };
         let counts = convert_log(
             rt.alloc(),
             self.converter,
-            name,
+            &origin,
             &mut reader,
             &mut rt.stdout(),
             &mut rt.stderr(),
+            &mut self.bad,
         )?;
         self.counts.texts = self.counts.texts.saturating_add(counts.texts);
         self.counts.refused = self.counts.refused.saturating_add(counts.refused);
@@ -166,22 +224,42 @@ impl<C: Convert> ReadInput for Logs<'_, C> {
     }
 }
 
-/// Converts each log as [`read_each`] reads it. Returns the exit status and the counts of all logs that were read to their end.
+fn convert_with<C: Convert, B: Write + Drop>(
+    rt: &HostRuntime,
+    program: &str,
+    matches: &ArgMatches<'_>,
+    converter: &C,
+    bad: B,
+) -> (u8, Counts) {
+    let mut logs = Logs {
+        converter,
+        first_line: matches.get_one::<usize>("first-line").unwrap_or(1),
+        bad,
+        counts: NONE,
+    };
+    let status = read_each(rt, program, matches, &mut logs);
+    let Logs {
+        counts,
+        bad: _bad,
+        converter: _converter,
+        first_line: _first_line,
+    } = logs;
+    (status, counts)
+}
+
+/// Converts each log as [`read_each`] reads it, by the options of [`log_command`]. Returns the exit status and the counts of
+/// all logs that were read to their end.
 pub fn convert_logs<C: Convert>(
     rt: &HostRuntime,
     program: &str,
     matches: &ArgMatches<'_>,
     converter: &C,
 ) -> (u8, Counts) {
-    let counts = Counts {
-        texts: 0,
-        refused: 0,
+    let Some(name) = matches.get_str("bad") else {
+        return convert_with(rt, program, matches, converter, Sink);
     };
-    let mut logs = Logs { converter, counts };
-    let status = read_each(rt, program, matches, &mut logs);
-    let Logs {
-        counts,
-        converter: _converter,
-    } = logs;
-    (status, counts)
+    match fs::create(rt, name) {
+        Ok(bad) => convert_with(rt, program, matches, converter, bad),
+        Err(error) => (report(rt, program, name, &error), NONE),
+    }
 }

@@ -1,15 +1,23 @@
 -- What a message is.
 use Rattle.std.specs.Prelude.{ℕ, List, [], ◌∷◌, codes, map, option_map, refl, string_bytes}
-use Rattle.jiter.specs.Caller.{cause_text}
 use Rattle.jiter_walk.specs.Meanings.{between, list, number_source, object, text}
-use Rattle.jiter_walk.specs.Table.{Field, Finals, Meaning, Slots, Table, defaulted, once, only, optional, required, table}
-use Rattle.jiter_walk.specs.Walk.{Reason, custom, of_reader}
+use Rattle.jiter_walk.specs.Table.{Field, Finals, Meaning, Slots, Table, defaulted, once, only, optional, required}
 use Rattle.messages.specs.declared.message.Message.{Message}
 use Rattle.messages.specs.declared.message.MessageFields.{MessageFields}
+use Rattle.messages.specs.declared.message.Key.{Key}
+use Rattle.messages.specs.declared.message.Key.TheVariants as key
 use Rattle.messages.specs.declared.message.Unfit.{Unfit}
 use Rattle.messages.specs.declared.message.Unfit.TheVariants as cause
 use Rattle.messages.specs.declared.message.User.{User}
 use Rattle.messages.specs.declared.message.UserFields.{UserFields}
+
+abbrev pub name : Key → List ℕ
+name key.Id = codes "id"
+name key.User = codes "user"
+name key.Copies = codes "copies"
+name key.Price = codes "price"
+name key.Name = codes "name"
+name key.Tags = codes "tags"
 
 -- ---- a user
 abbrev pub user_fields : List (Field Unfit)
@@ -41,9 +49,6 @@ fields =
     ∷ optional "price" number_source
     ∷ []
 
-abbrev pub message : Meaning Unfit (Finals fields)
-message = object (table fields) refl
-
 abbrev pub message_slots : MessageFields → Slots fields
 message_slots m = (
   m.id,
@@ -67,7 +72,3 @@ unfit_text cause.NoUser = codes "user is missing"
 unfit_text cause.NoName = codes "name is missing"
 unfit_text cause.Repeated = codes "duplicate key"
 unfit_text cause.Unknown = codes "unknown key"
-
-abbrev pub reason_text : Reason Unfit → List ℕ
-reason_text (of_reader c) = cause_text c
-reason_text (custom c) = unfit_text c

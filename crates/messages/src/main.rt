@@ -6,18 +6,11 @@ mod message;
 mod tests;
 
 use clap::{ArgMatches, Command};
-use json_lines::{Program, ReadInput, base_command, main_of, read_each};
-use message::{read_message, report_of};
+use json_lines::{Program, ReadInput, base_command, main_of, read_each, refusal_of};
+use message::read_message;
 use std::alloc::{AllocError, Global};
-use std::io;
-use std::io::{ErrorKind, Read, Write};
-use std::process::ExitCode;
+use std::io::{self, ErrorKind, Read, Write};
 
-const ABOUT: &str =
-    "Reads a message: a JSON object with the members `id`, `user`, `copies` and `price`. Writes who \
-    sent it to standard output, or `FILE:LINE:COLUMN: what is wrong` to standard error.";
-
-// Shows each message.
 #[derive(Drop)]
 struct Show;
 
@@ -30,21 +23,17 @@ impl ReadInput for Show {
     ) -> io::Result<bool> {
         let mut bytes = Vec::new(rt.alloc());
         reader.read_to_end(&mut bytes)?;
-        match read_message(rt.alloc(), bytes.as_slice()) {
+        match read_message(rt.alloc(), &bytes) {
             Ok(message) => {
-                println!(rt;
-                    "{} from {}: {} tags, {} copies",
-                    message.id,
-                    message.user.name,
-                    message.user.tags.len(),
-                    message.copies.len()
-                )?;
+                let (id, user, copies) = (message.id, &message.user, message.copies.len());
+                let tags = user.tags.len();
+                println!(rt; "{id} from {}: {tags} tags, {copies} copies", user.name)?;
                 Ok(true)
             }
             Err(error) if error.is_memory() => Err(io::Error::from(ErrorKind::OutOfMemory)),
             Err(error) => {
-                let report = report_of(rt.alloc(), name, bytes.as_slice(), &error)?;
-                rt.stderr().write_all(report.as_bytes())?;
+                let line = refusal_of(rt.alloc(), name, &error.position(&bytes), &bytes, &error)?;
+                rt.stderr().write_all(line.as_bytes())?;
                 Ok(false)
             }
         }
@@ -55,8 +44,8 @@ impl Program for Show {
     const NAME: &'static str = "messages";
 
     fn command<'a>(alloc: Global) -> Result<Command<'a>, AllocError> {
-        let files = "The messages; standard input if there is none";
-        base_command(alloc, Self::NAME, ABOUT, files)
+        let about = "Reads messages: prints who sent each, or `FILE:LINE:COLUMN: what is wrong`.";
+        base_command(alloc, Self::NAME, about, "Messages; else standard input")
     }
 
     fn run(rt: &HostRuntime, matches: &ArgMatches<'_>) -> io::Result<u8> {
@@ -64,6 +53,6 @@ impl Program for Show {
     }
 }
 
-fn main(rt: HostRuntime) -> ExitCode {
+fn main(rt: HostRuntime) -> std::process::ExitCode {
     main_of::<Show>(&rt)
 }

@@ -1,6 +1,7 @@
 //! Good and bad messages. No contract promises success while there is memory, or says which error bytes get that
 //! aren't a document. These tests show both.
-use crate::message::{Message, User, read_message, report_of};
+use crate::message::{Message, User, read_message};
+use json_lines::refusal_of;
 use std::io;
 use std::io::Write;
 use std::test::*;
@@ -31,7 +32,7 @@ fn gives(rt: &HostRuntime, text: &[u8], words: &str) -> io::Result<bool> {
     match read_message(rt.alloc(), text) {
         Ok(message) => write_message(&message, &mut line)?,
         Err(error) => {
-            let report = report_of(rt.alloc(), "m", text, &error)?;
+            let report = refusal_of(rt.alloc(), "m", &error.position(text), text, &error)?;
             line.write_all(report.as_bytes())?;
         }
     }

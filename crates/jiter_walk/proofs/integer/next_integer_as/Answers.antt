@@ -7,17 +7,17 @@ use Rattle.jiter_walk.proofs.Outcomes.{fits, fits-not}
 use Rattle.jiter_walk.proofs.Passing.{reader-fails}
 use Rattle.jiter_walk.proofs.integer.next_integer_as.Goals as goal
 
-pub returns-in_err-at : goal.returns-in_err-at
-returns-in_err-at g c =
+pub returns-in_err-at-clause-walks : goal.returns-in_err-at-clause-walks
+returns-in_err-at-clause-walks g c =
     let h = c.in_err-at.ensures in
     reader-fails _ _ _ _ _ h.moves c.in_err-at.field-0.0 c.from_residual.ensures.1 (λ n comes bytes. absurd (h.begins n comes))
     h.index (λ m. absurd (h.memory m))
 
-pub returns-in-None : goal.returns-in-None
-returns-in-None g c =
+pub returns-in-None-clause-walks : goal.returns-in-None-clause-walks
+returns-in-None-clause-walks g c =
     let s0 = c.args.jiter.now in
     let place = c.in_ok-at.ensures in
-    let w = walks-after_peek _ _ _ s0 _ _ place.moves (place.place.1 ∙ place.place.0) c.in_ok-next_integer.ensures in
+    let w = walks-after_peek _ _ _ s0 _ _ place.moves (place.place.1 ∙ place.place.0) c.in_ok-next_integer.ensures.walks in
     record {
       moves = w.moves;
       value = λ n comes bytes.
@@ -30,11 +30,11 @@ returns-in-None g c =
       memory = λ m. absurd (cc);
     }
 
-pub returns-in-Some : goal.returns-in-Some
-returns-in-Some g c =
+pub returns-in-Some-clause-walks : goal.returns-in-Some-clause-walks
+returns-in-Some-clause-walks g c =
     let s0 = c.args.jiter.now in
     let place = c.in_ok-at.ensures in
-    let w = walks-after_peek _ _ _ s0 _ _ place.moves (place.place.1 ∙ place.place.0) c.in_ok-next_integer.ensures in
+    let w = walks-after_peek _ _ _ s0 _ _ place.moves (place.place.1 ∙ place.place.0) c.in_ok-next_integer.ensures.walks in
     record {
       moves = w.moves;
       value = λ n comes.

@@ -17,7 +17,7 @@ pub returns-in-None-clause-walks : goal.returns-in-None-clause-walks
 returns-in-None-clause-walks g c =
     let s0 = c.args.jiter.now in
     let place = c.in_ok-at.ensures in
-    let w = walks-after_peek _ _ _ s0 _ _ place.moves (place.place.1 ∙ place.place.0) c.in_ok-next_integer.ensures in
+    let w = walks-after_peek _ _ _ s0 _ _ place.moves (place.place.1 ∙ place.place.0) c.in_ok-next_integer.ensures.walks in
     record {
       moves = w.moves;
       value = λ n comes bytes.
@@ -34,7 +34,7 @@ pub returns-in-Some-clause-walks : goal.returns-in-Some-clause-walks
 returns-in-Some-clause-walks g c =
     let s0 = c.args.jiter.now in
     let place = c.in_ok-at.ensures in
-    let w = walks-after_peek _ _ _ s0 _ _ place.moves (place.place.1 ∙ place.place.0) c.in_ok-next_integer.ensures in
+    let w = walks-after_peek _ _ _ s0 _ _ place.moves (place.place.1 ∙ place.place.0) c.in_ok-next_integer.ensures.walks in
     record {
       moves = w.moves;
       value = λ n comes.

@@ -1,10 +1,15 @@
 use Rattle.jiter.specs.Caller.{never}
 use Rattle.jiter_walk.proofs.ScalarWalk.{null-law, scalar-fails, scalar-given}
+use Rattle.jiter_walk.proofs.Passing.{never-fails}
 use Rattle.jiter_walk.proofs.scalars.next_null.Goals as goal
 
-pub returns : goal.returns
-returns g c = scalar-given never _ (null-law c.args.jiter.now) _ c.in_ok-next_null.ensures.reads
+pub returns-clause-walks : goal.returns-clause-walks
+returns-clause-walks g c = scalar-given never _ (null-law c.args.jiter.now) _ c.in_ok-next_null.ensures.reads
 
-pub returns-in_err-next_null : goal.returns-in_err-next_null
-returns-in_err-next_null g c =
+pub returns-in_err-next_null-clause-walks : goal.returns-in_err-next_null-clause-walks
+returns-in_err-next_null-clause-walks g c =
     scalar-fails never _ (null-law c.args.jiter.now) _ _ c.from_residual.ensures.1 c.in_err-next_null.ensures.reads
+
+pub returns-in_err-next_null-clause-never : goal.returns-in_err-next_null-clause-never
+returns-in_err-next_null-clause-never g c =
+    never-fails _ _ c.from_residual.ensures.1 (λ m. c.in_err-next_null.ensures.reads.memory m)

@@ -1,10 +1,15 @@
 use Rattle.jiter.specs.Caller.{never}
 use Rattle.jiter_walk.proofs.ScalarWalk.{number-law, scalar-fails, scalar-given}
+use Rattle.jiter_walk.proofs.Passing.{never-fails}
 use Rattle.jiter_walk.proofs.scalars.next_number.Goals as goal
 
-pub returns : goal.returns
-returns g c = scalar-given never _ (number-law c.args.jiter.now) _ c.in_ok-next_number.ensures.reads
+pub returns-clause-walks : goal.returns-clause-walks
+returns-clause-walks g c = scalar-given never _ (number-law c.args.jiter.now) _ c.in_ok-next_number.ensures.reads
 
-pub returns-in_err-next_number : goal.returns-in_err-next_number
-returns-in_err-next_number g c =
+pub returns-in_err-next_number-clause-walks : goal.returns-in_err-next_number-clause-walks
+returns-in_err-next_number-clause-walks g c =
     scalar-fails never _ (number-law c.args.jiter.now) _ _ c.from_residual.ensures.1 c.in_err-next_number.ensures.reads
+
+pub returns-in_err-next_number-clause-never : goal.returns-in_err-next_number-clause-never
+returns-in_err-next_number-clause-never g c =
+    never-fails _ _ c.from_residual.ensures.1 (λ m. c.in_err-next_number.ensures.reads.memory m)

@@ -6,12 +6,12 @@ use Rattle.jiter_walk.proofs.Coming.{moved-text, walks-after_peek}
 use Rattle.jiter_walk.proofs.Seen.{walk-seen}
 use Rattle.jiter_walk.proofs.scalars.next_source.Goals as goal
 
-pub returns : goal.returns
-returns g c =
+pub returns-clause-walks : goal.returns-clause-walks
+returns-clause-walks g c =
     let s0 = c.args.jiter.now in
     let s = c.skip.new.jiter in
     let place = c.in_ok-at.ensures in
-    let w = walks-after_peek _ _ _ s0 _ _ place.moves (place.place.1 ∙ place.place.0) c.in_ok-skip.ensures in
+    let w = walks-after_peek _ _ _ s0 _ _ place.moves (place.place.1 ∙ place.place.0) c.in_ok-skip.ensures.walks in
     walk-seen _ _ _ s0 s w _ _ _
     (λ n comes is. ap gives (ap (slice_range s0.text (begin n)) (sym (w.place n comes))
     ∙ ap (λ i. slice_range s0.text i s.position) (sym (place.begins n comes))

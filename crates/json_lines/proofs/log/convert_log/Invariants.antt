@@ -5,7 +5,8 @@ use Rattle.json_lines.proofs.log.convert_log.Given as goal
 
 abbrev pub invariant-loop-line : goal.invariant-loop-line
 invariant-loop-line g l =
-    (l.counts.texts + l.counts.refused + 1 ≤ l.line)
-    × Known (g.C.Convert.becomes l.fn.converter) l.fn.name (reader_remaining g.R.Read.remaining l.initial.reader)
+    (l.counts.texts + l.counts.refused + l.fn.origin.first_line ≤ l.line)
+    × Known (g.C.Convert.becomes l.fn.converter) l.fn.origin.name.now l.fn.origin.first_line (reader_remaining g.R.Read.remaining l.initial.reader)
     (reader_remaining g.R.Read.remaining l.reader) l.line l.counts (g.O.Write.contents l.initial.out) (g.O.Write.contents l.out)
     (g.E.Write.contents l.initial.err) (g.E.Write.contents l.err)
+    (g.B.Write.contents l.initial.bad) (g.B.Write.contents l.bad)
