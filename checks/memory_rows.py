@@ -5,6 +5,8 @@ from collections import namedtuple
 MODES = ("off", "on", "trailing-strings")
 # The bytes of a value, and of a key and its value.
 VALUE, MEMBER = 40, 72
+# The bytes of a string of its own, and of a list.
+STRING, LIST = 24, 24
 
 # Requests, the bytes that they ask for, and how many more blocks are held at the end than at the beginning. None is any
 # number.
@@ -164,6 +166,82 @@ def tapes():
     yield Row(claim, "tapes", "off", LONG, "20001", [grown, *[NOTHING] * 5])
 
 
+def by_walk(claim, call, document, answer, section):
+    """Returns the row of a document that a walk reads three times: by a reader, by `read_document`, by a reader."""
+    return Row(claim, call, "off", document, answer, [section] * 3)
+
+
+def walks_that_do_not_allocate():
+    claim = "a walk over flags, integers, sources and skips does not allocate"
+    document = r'{"on": true, "count": 7, "x": {"k\n": "\n"}, "price": -1.50, "source": ["a\nb", {"k\n": 1}], "": "\u0061"} '
+    for end in range(len(document) + 1):
+        whole = r'true 7 -1.50 ["a\nb", {"k\n": 1}]' if end >= len(document.rstrip()) else None
+        yield by_walk(claim, "walk-sample", document[:end], whole, NOTHING)
+    claim = "a walk over empty strings and lists does not allocate"
+    yield by_walk(claim, "walk-config", '{"host": "", "port": 80}', "'' 80 false", NOTHING)
+    yield by_walk(claim, "walk-lists", "[ ]", "[]", NOTHING)
+    message = '{"user": {"name": ""}, "copies": [], "price": 1}'
+    yield by_walk(claim, "walk-message", message, "''[] [] 1", NOTHING)
+
+
+def walks():
+    claim = "a walk copies a string into one block"
+    for document, answer, sizes in (
+        ('{"host": "abc", "port": 80}', "'abc' 80 false", (3,)),
+        ('{"debug": true, "port": 80, "host": "é"}', "'é' 80 true", (2,)),
+    ):
+        yield by_walk(claim, "walk-config", document, answer, blocks(*sizes))
+    claim = "the second of two members frees the first one"
+    twice = '{"host": "abc", "port": 80, "host": "de"}'
+    yield by_walk(claim, "walk-config", twice, "'de' 80 false", Section(2, 5, 1))
+    claim = "the first key or string with an escape makes the reader's tape; each such key is then copied; all this is freed"
+    key = r'{"h\u006fst": "abc", "port": 80}'
+    yield by_walk(claim, "walk-config", key, "'abc' 80 false", Section(3, None, 1))
+    keys = r'{"\u006fn": true, "count": 7, "price": 1, "s\u006furce": [], "\n": 1}'
+    yield by_walk(claim, "walk-sample", keys, "true 7 1 []", Section(4, None, 0))
+    text = r'{"host": "a\n", "port": 80}'
+    yield by_walk(claim, "walk-config", text, "'a\n' 80 false", Section(2, None, 1))
+    claim = "a list is one block, which may grow"
+    for document, answer, section in (
+        ("[[]]", "[[] ]", blocks(4 * LIST)),
+        ('[["a"], ["bc", "d"]]', "[['a' ] ['bc' 'd' ] ]", blocks(4 * LIST, 4 * STRING, 4 * STRING, 1, 2, 1)),
+        ("[[], [], [], [], []]", "[[] [] [] [] [] ]", Section(2, 12 * LIST, 1)),
+    ):
+        yield by_walk(claim, "walk-lists", document, answer, section)
+    claim = "a struct in a struct has the blocks of its fields"
+    message = '{"user": {"name": "ab", "tags": ["c", "d"]}, "copies": [{"name": "e"}, {"name": ""}], "price": 1.50}'
+    sizes = (2, 4 * STRING, 1, 1, 4 * (STRING + LIST), 1)
+    yield by_walk(claim, "walk-message", message, "'ab'['c' 'd' ] ['e'[] ''[] ] 1.50", blocks(*sizes))
+    claim = "a name is copied into one block, which is freed"
+    yield by_walk(claim, "walk-event", '{"state": "open", "data": 7}', "open 7 null", Section(1, 4, 0))
+    null = '{"state": "closed", "data": {}, "note": null}'
+    yield by_walk(claim, "walk-event", null, "closed {} null", Section(1, 6, 0))
+    note = '{"state": "open", "data": "a", "note": "abc"}'
+    yield by_walk(claim, "walk-event", note, "open 'a' 'abc'", Section(2, 7, 1))
+    claim = "a tree in a struct has the blocks of its containers and of its strings with an escape"
+    tree = r'{"data": [1, {"k\n": ["a\n", 2.5]}], "state": "open"}'
+    told = "open [1,{owned 'k\n':[owned 'a\n',float '2.5']}] null"
+    yield by_walk(claim, "walk-event", tree, told, Section(None, None, 5))
+    yield from broken_walks()
+
+
+def broken_walks():
+    claim = "a walk keeps nothing after an error"
+    kept = Section(None, None, 0)
+    for call, document, answer in (
+        ("walk-config", r'{"host": "a\n", "port": 0}', "out of range at 24"),
+        ("walk-config", r'{"h\u006fst": "a" }', "missing field at 18"),
+        ("walk-message", r'{"user": {"name": "a", "n\u0061me": "b"}}', "duplicate key at 23"),
+        ("walk-message", r'{"copies": [{"tags": ["a\n"], "name": "b", "\n": 0}]}', "unknown key at 43"),
+        ("walk-lists", '[["a"], ["b", 7]]', "expected string but found int at 14"),
+        ("walk-lists", '[["a"], ["b"]] x', "trailing characters at 15"),
+        ("walk-lists", r'[["a"], ["b\n", ', "EOF while parsing a value at 16"),
+        ("walk-event", r'{"data": ["a\n"], "state": "x"}', "no state at 27"),
+        ("walk-event", r'{"note": "a", "data": {"k\n": ["b"', "EOF while parsing a list at 34"),
+    ):
+        yield by_walk(claim, call, document, answer, kept)
+
+
 def calls_in_a_row():
     """Yields rows of one scratch over a thousand lines, and of documents in a thousand chunks of five bytes."""
     claim = "a scratch allocates for each line of a log its value alone, and keeps nothing of it"
@@ -236,6 +314,6 @@ def values_that_are_dropped():
 
 
 def rows():
-    calls = (calls_that_do_not_allocate, copies, scratches, tapes, calls_in_a_row)
+    calls = (calls_that_do_not_allocate, copies, scratches, tapes, calls_in_a_row, walks_that_do_not_allocate, walks)
     for some in (*calls, values_that_are_dropped):
         yield from some()

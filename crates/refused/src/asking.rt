@@ -94,6 +94,21 @@ pub enum Copying {
     Pointer,
 }
 
+/// A document that is read into a struct, by a walk over its members or items.
+#[derive(Clone, Copy)]
+pub enum Walked {
+    /// A `Config`.
+    Config,
+    /// A `Message`, which has a struct and lists in it.
+    Message,
+    /// A list of lists of strings.
+    Lists,
+    /// An `Event`, which has a tree in it.
+    Event,
+    /// A `Sample`, which does not allocate.
+    Sample,
+}
+
 /// A call.
 #[derive(Clone, Copy)]
 pub enum Call {
@@ -107,6 +122,8 @@ pub enum Call {
     Steps(Steps),
     /// Calls in a row.
     Repeated(Repeated),
+    /// `read_document`, and `Value::read` of a reader.
+    Walk(Walked),
     /// One that copies or tells.
     Copy(Copying),
     /// `IncrementalParser::push`, of pieces of so many bytes.
@@ -153,10 +170,15 @@ fn call_named(word: &str) -> Option<Call> {
         "known-walk" => Some(Call::Steps(Steps::Known)),
         "kept-tape" => Some(Call::Steps(Steps::KeptTape)),
         "tapes" => Some(Call::Steps(Steps::Tapes)),
-        _ => match (reading_named(word), repeated_named(word)) {
-            (Some(reading), _) => Some(Call::Reading(reading)),
-            (None, Some(repeated)) => Some(Call::Repeated(repeated)),
-            (None, None) => Some(Call::Copy(copying_named(word)?)),
+        _ => match (
+            reading_named(word),
+            repeated_named(word),
+            walked_named(word),
+        ) {
+            (Some(reading), _, _) => Some(Call::Reading(reading)),
+            (None, Some(repeated), _) => Some(Call::Repeated(repeated)),
+            (None, None, Some(walked)) => Some(Call::Walk(walked)),
+            (None, None, None) => Some(Call::Copy(copying_named(word)?)),
         },
     }
 }
@@ -169,6 +191,17 @@ fn repeated_named(word: &str) -> Option<Repeated> {
         "large-chunks" => Some(Repeated::Chunks(4096)),
         "parse-chunks" => Some(Repeated::ParseChunks),
         "line-index" => Some(Repeated::LineIndex),
+        _ => None,
+    }
+}
+
+fn walked_named(word: &str) -> Option<Walked> {
+    match word {
+        "walk-config" => Some(Walked::Config),
+        "walk-message" => Some(Walked::Message),
+        "walk-lists" => Some(Walked::Lists),
+        "walk-event" => Some(Walked::Event),
+        "walk-sample" => Some(Walked::Sample),
         _ => None,
     }
 }

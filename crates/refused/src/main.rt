@@ -4,16 +4,24 @@
 
 mod answers;
 mod asking;
+mod config;
 mod copies;
+mod event;
 mod mark;
+mod message;
 mod outcome;
 mod pieces;
 mod reading;
+mod readings;
 mod repeated;
+mod sample;
 mod scratch;
 mod steps;
 mod stop;
+mod tell;
+mod unfit;
 mod walk;
+mod walks;
 mod whole;
 
 use asking::{Asked, Call, read_words};
@@ -66,6 +74,7 @@ fn outcome_of(alloc: Global, bytes: &[u8], asked: Asked) -> Result<Outcome, Allo
         Call::Strings(known) => walk::outcome(alloc, bytes, asked.mode, known),
         Call::Steps(call) => steps::outcome(alloc, bytes, call),
         Call::Repeated(call) => repeated::outcome(alloc, bytes, asked.mode, call),
+        Call::Walk(call) => walks::outcome(alloc, bytes, call),
         Call::Copy(call) => copies::outcome(alloc, bytes, asked.mode, call),
         Call::Pieces(size) => pieces::outcome(alloc, bytes, asked.mode, size),
     }

@@ -1,6 +1,7 @@
 //! A scratch that reads one document again and again.
 use crate::mark::mark;
 use crate::outcome::Outcome;
+use crate::readings::Readings;
 use crate::stop::Stop;
 use jiter::{JsonError, JsonErrorType as Kind, JsonValue, JsonValueScratch, PartialMode};
 use std::alloc::{AllocError, Global};
@@ -23,65 +24,17 @@ const OTHERS: [(&[u8], bool, PartialMode); 14] = [
     (b"{ } x", false, PartialMode::Off),
 ];
 
-// What the readings came to: their answer, and the line of the one that ran out of memory.
-#[derive(Default, Drop)]
-struct Readings {
-    answer: Option<String>,
-    refused: Option<String>,
-}
-
-impl Readings {
-    // Adds what a reading of the document came to. All answers must be the same, and at most one allocation may fail.
-    fn add(&mut self, outcome: Outcome) -> Result<(), Stop> {
-        match outcome {
-            Outcome::Answered(line) => self.answer(line),
-            Outcome::AllocFailed(line) => self.refuse(line),
-            Outcome::Broken(_) => Err(Stop::Broken("out of memory outside of the document")),
+// Adds what a reading of another document came to.
+fn add_other(
+    readings: &mut Readings,
+    alloc: Global,
+    answer: &Result<JsonValue<'_>, JsonError>,
+) -> Result<(), Stop> {
+    match answer {
+        Err(error) if error.error_type == Kind::OutOfMemory => {
+            readings.refuse(String::from_str(alloc, "out of memory in another document")?)
         }
-    }
-
-    fn answer(&mut self, line: String) -> Result<(), Stop> {
-        match &self.answer {
-            Some(other) if other.as_str() != line.as_str() => {
-                Err(Stop::Broken("a scratch does not read what a fresh parse reads"))
-            }
-            Some(_) => Ok(()),
-            None => {
-                self.answer = Some(line);
-                Ok(())
-            }
-        }
-    }
-
-    fn refuse(&mut self, line: String) -> Result<(), Stop> {
-        if self.refused.is_some() {
-            return Err(Stop::Broken("out of memory twice"));
-        }
-        self.refused = Some(line);
-        Ok(())
-    }
-
-    // Adds what a reading of another document came to.
-    fn add_other(
-        &mut self,
-        alloc: Global,
-        answer: &Result<JsonValue<'_>, JsonError>,
-    ) -> Result<(), Stop> {
-        match answer {
-            Err(error) if error.error_type == Kind::OutOfMemory => {
-                self.refuse(String::from_str(alloc, "out of memory in another document")?)
-            }
-            _ => Ok(()),
-        }
-    }
-
-    fn end(self, alloc: Global) -> Result<Outcome, AllocError> {
-        let Readings { answer, refused } = self;
-        match (answer, refused) {
-            (_, Some(line)) => Ok(Outcome::AllocFailed(line)),
-            (Some(line), None) => Ok(Outcome::Answered(line)),
-            (None, None) => Outcome::broken(alloc, "nothing was read"),
-        }
+        _ => Ok(()),
     }
 }
 
@@ -124,7 +77,7 @@ fn read_others(
     scratch: &mut JsonValueScratch<'_>,
 ) -> Result<(), Stop> {
     for &(other, names, mode) in &OTHERS {
-        readings.add_other(alloc, &scratch.parse(other, names, mode))?;
+        add_other(readings, alloc, &scratch.parse(other, names, mode))?;
     }
     Ok(())
 }
@@ -164,7 +117,7 @@ fn read_others_owned(
     scratch: &mut JsonValueScratch<'static>,
 ) -> Result<(), Stop> {
     for &(other, names, mode) in &OTHERS {
-        readings.add_other(alloc, &scratch.parse_owned(other, names, mode))?;
+        add_other(readings, alloc, &scratch.parse_owned(other, names, mode))?;
     }
     Ok(())
 }
