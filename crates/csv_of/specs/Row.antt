@@ -55,16 +55,18 @@ abbrev pub with_cell : Column → Option (List ℕ) → (List ℕ → Seen) → 
 with_cell column None row = no_cell column.name.now
 with_cell column (Some cell) row = row cell
 
--- the row after the cells in this text: a comma before each further cell, CR LF at the end (RFC 4180, 2)
-abbrev pub row_after : Bool → List Column → Tree → List ℕ → Seen
-row_after nested [] v text = written (text ++ codes "\r\n")
-row_after nested (column ∷ more) v text =
-    with_cell column (cell_of nested column v) (λ cell. row_after nested more v ((text ++ codes ",") ++ cell))
+-- The row after the cells in this text: the separator before each further cell, CR LF at the end (RFC 4180, 2, where the
+-- separator is a comma).
+abbrev pub row_after : Bool → ℕ → List Column → Tree → List ℕ → Seen
+row_after nested separator [] v text = written (text ++ codes "\r\n")
+row_after nested separator (column ∷ more) v text =
+    with_cell column (cell_of nested column v)
+    (λ cell. row_after nested separator more v ((text ++ separator ∷ []) ++ cell))
 
 abbrev pub row_of : Columns → Tree → Seen
 row_of columns v =
     with_cell columns.first (cell_of columns.nested columns.first v)
-    (λ cell. row_after columns.nested columns.others.items v cell)
+    (λ cell. row_after columns.nested columns.separator columns.others.items v cell)
 
 -- what a document of this value becomes
 abbrev pub outcome_of : Columns → Tree → Seen
@@ -80,12 +82,13 @@ abbrev pub Becomes : Columns → List ℕ → Seen → Type 0
 Becomes columns line o = o ≡ outcome_in columns (unique_answer false line)
 
 -- the row of the columns' names
-abbrev pub names_after : List Column → List ℕ → List ℕ
-names_after [] text = text ++ codes "\r\n"
-names_after (column ∷ more) text = names_after more ((text ++ codes ",") ++ quoted column.name.now)
+abbrev pub names_after : ℕ → List Column → List ℕ → List ℕ
+names_after separator [] text = text ++ codes "\r\n"
+names_after separator (column ∷ more) text =
+    names_after separator more ((text ++ separator ∷ []) ++ quoted column.name.now)
 
 abbrev pub header_of : Columns → List ℕ
-header_of columns = names_after columns.others.items (quoted columns.first.name.now)
+header_of columns = names_after columns.separator columns.others.items (quoted columns.first.name.now)
 
 -- what the code returns
 abbrev pub cell_view : Option (Vec ℕ Global) → Option (List ℕ)

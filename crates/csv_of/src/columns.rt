@@ -39,6 +39,8 @@ pub struct Columns<'n> {
     pub first: Column<'n>,
     /// The columns after it.
     pub others: Vec<Column<'n>>,
+    /// The byte between two cells.
+    pub separator: u8,
     /// Whether an array or an object makes a cell.
     pub nested: bool,
 }

@@ -9,7 +9,7 @@ mod tests;
 use clap::{Arg, ArgAction, ArgMatches, Command};
 use columns::{Column, Columns};
 use jiter_print::write_line;
-use json_lines::{Program, base_command, convert_logs, main_of};
+use json_lines::{Program, convert_logs, log_command, main_of};
 use row::header_of;
 use std::alloc::{AllocError, Global};
 use std::io;
@@ -24,6 +24,9 @@ const ABOUT: &str =
 const COLUMN: &str =
     "A column: a member's name as `id`, a JSON Pointer as `/user/name`, or a name for the header and a pointer as \
     `user=/user/name`; `~1` is a slash and `~0` a tilde in a pointer";
+
+const TABS: &str =
+    "Write a tab in place of the comma between two cells; the quotes are those of CSV, as Postgres and SQLite read them";
 
 fn flag<'a>(alloc: Global, name: &'a str, help: &'a str) -> Arg<'a> {
     Arg::new(alloc, name)
@@ -42,17 +45,17 @@ impl Program for Columns<'_> {
             .action(ArgAction::Append)
             .required(true)
             .help(COLUMN);
-        let files = "The logs; standard input if there is none";
         let nested =
             "Write an array or an object as its compact text between quotes; without this its line is refused";
-        base_command(alloc, Self::NAME, ABOUT, files)?
+        log_command(alloc, Self::NAME, ABOUT)?
             .arg(columns)?
             .arg(flag(
                 alloc,
                 "header",
                 "Write the columns' names before the first row",
             ))?
-            .arg(flag(alloc, "nested", nested))
+            .arg(flag(alloc, "nested", nested))?
+            .arg(flag(alloc, "tabs", TABS))
     }
 
     fn run(rt: &HostRuntime, matches: &ArgMatches<'_>) -> io::Result<u8> {
@@ -68,6 +71,11 @@ impl Program for Columns<'_> {
         let columns = Columns {
             first: Column::of_word(first),
             others,
+            separator: if matches.get_flag("tabs") {
+                b'\t'
+            } else {
+                b','
+            },
             nested: matches.get_flag("nested"),
         };
         if matches.get_flag("header") {

@@ -1,4 +1,4 @@
-//! The CSV row of a line (RFC 4180): a cell for each column.
+//! The CSV row of a line (RFC 4180): a cell for each column, with a comma or a tab between cells.
 ghost use Rattle.std.specs.Prelude.{◌≡◌, IfOk, false, option_map};
 ghost use Rattle.jiter.specs.Caller.{IsUniqueDocument, Node, value_of, view};
 ghost use Rattle.json_lines.specs.Line.{seen};
@@ -102,7 +102,7 @@ fn row_of(
         let Some(cell) = cell_of(alloc, columns.nested, column, object)? else {
             return no_cell(alloc, column.name);
         };
-        row.push(b',')?;
+        row.push(columns.separator)?;
         row.extend_from_slice(cell.as_slice())?;
     }
     row.extend_from_slice(b"\r\n")?;
@@ -132,7 +132,7 @@ pub fn header_of(alloc: Global, columns: &Columns<'_>) -> Result<Vec<u8>, AllocE
 {
     let mut row = quote(alloc, columns.first.name.as_bytes())?;
     for column in &columns.others {
-        row.push(b',')?;
+        row.push(columns.separator)?;
         row.extend_from_slice(quote(alloc, column.name.as_bytes())?.as_slice())?;
     }
     row.extend_from_slice(b"\r\n")?;

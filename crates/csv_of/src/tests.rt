@@ -12,6 +12,7 @@ fn becomes(rt: &HostRuntime, line: &[u8], wanted: &[u8]) -> Result<bool, AllocEr
     let columns = Columns {
         first: Column::of_word("id"),
         others,
+        separator: b',',
         nested: false,
     };
     match columns.convert(rt.alloc(), line)? {

@@ -8,7 +8,7 @@ mod pointers;
 
 use clap::{Arg, ArgAction, ArgMatches, Command};
 use filter::Filter;
-use json_lines::{Program, base_command, convert_logs, main_of};
+use json_lines::{Program, convert_logs, log_command, main_of};
 use pointers::Member;
 use std::alloc::{AllocError, Global};
 use std::io;
@@ -34,8 +34,7 @@ impl Program for Filter {
             .help(
                 "A part to write, as a JSON Pointer: `/id`, `/user/id`, `/items/0`; `~1` is a slash and `~0` a tilde",
             );
-        let files = "The logs; standard input if there is none";
-        base_command(alloc, Self::NAME, ABOUT, files)?.arg(pointers)
+        log_command(alloc, Self::NAME, ABOUT)?.arg(pointers)
     }
 
     fn run(rt: &HostRuntime, matches: &ArgMatches<'_>) -> io::Result<u8> {

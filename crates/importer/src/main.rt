@@ -5,7 +5,7 @@ mod import;
 
 use clap::{Arg, ArgAction, ArgMatches, Command};
 use import::Importer;
-use json_lines::{Program, base_command, convert_logs, main_of};
+use json_lines::{Program, convert_logs, log_command, main_of};
 use std::alloc::{AllocError, Global};
 use std::io;
 use std::process::ExitCode;
@@ -23,8 +23,7 @@ impl Program for Importer {
             .long("unique")
             .action(ArgAction::SetTrue)
             .help("Refuse a line in which an object repeats a key");
-        let files = "The logs; standard input if there is none";
-        base_command(alloc, Self::NAME, ABOUT, files)?.arg(unique)
+        log_command(alloc, Self::NAME, ABOUT)?.arg(unique)
     }
 
     fn run(rt: &HostRuntime, matches: &ArgMatches<'_>) -> io::Result<u8> {

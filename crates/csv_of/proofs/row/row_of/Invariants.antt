@@ -5,5 +5,5 @@ use Rattle.csv_of.proofs.row.row_of.Given as goal
 
 abbrev pub invariant-loop-column : goal.invariant-loop-column
 invariant-loop-column l =
-    row_after l.columns.nested (drop l.column-index l.columns.others.items) (view l.object) l.row.items
+    row_after l.columns.nested l.columns.separator (drop l.column-index l.columns.others.items) (view l.object) l.row.items
     ≡ row_of l.columns (view l.object)
