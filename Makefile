@@ -4,7 +4,7 @@
 PREFIX ?= /usr/local
 # Installed, a program's name begins so: `look`, `filter` and `viewer` are names of other programs too.
 PROGRAM_PREFIX ?= jiter-
-PROGRAMS = look csv_of filter importer viewer
+PROGRAMS = look csv_of filter format importer viewer
 BUILT = $(foreach name,$(PROGRAMS),crates/$(name)/out/$(name))
 LIBRARIES = $(wildcard crates/jiter*/src/*.rt crates/jiter*/src/*/*.rt crates/json_lines/src/*.rt crates/json_screen/src/*.rt)
 BIN = $(DESTDIR)$(PREFIX)/bin

@@ -9,9 +9,7 @@ fails, or its worker dies four times, it says which one and why, with status 3, 
 """
 
 import argparse
-import functools
 import os
-import re
 import shutil
 import subprocess
 import sys
@@ -54,35 +52,20 @@ def convert(words, log, start, end, out):
     return status
 
 
-@functools.lru_cache(maxsize=None)
-def takes_first_line(program):
-    return b"--first-line" in subprocess.run([program, "--help"], stdout=subprocess.PIPE, check=True).stdout
-
-
 def words_of(program, words, number, line):
     """Returns the words for a part: its first line's number, and a header in the first part only."""
     kept = [it for it in words if it != "--header" or number == 0]
-    return [program, *(["--first-line", str(line)] if takes_first_line(program) else []), *kept]
+    return [program, "--first-line", str(line), *kept]
 
 
-def moved(errors, program, line):
-    """Moves the line numbers of a part by the lines before it, for a program that doesn't take --first-line.
-
-    REMOVE THIS once every program takes --first-line.
-    """
-    if takes_first_line(program):
-        return errors
-    return re.sub(rb"^<stdin>:(\d+)", lambda it: b"<stdin>:%d" % (int(it[1]) + line - 1), errors, flags=re.M)
-
-
-def join(folder, program, lines, rows, errors):
+def join(folder, lines, rows, errors):
     """Writes the outputs of all parts in their order. ROWS and ERRORS get their names when they are complete."""
     with open(f"{folder}/rows", "wb") as all_rows, open(f"{folder}/errors", "wb") as all_errors:
-        for number, line in enumerate(lines):
+        for number in range(len(lines)):
             with open(f"{folder}/{number}.rows", "rb") as file:
                 shutil.copyfileobj(file, all_rows, 1 << 20)
             with open(f"{folder}/{number}.errors", "rb") as file:
-                all_errors.write(moved(file.read(), program, line))
+                shutil.copyfileobj(file, all_errors, 1 << 20)
             os.remove(f"{folder}/{number}.rows")
     os.replace(f"{folder}/errors", errors)
     os.replace(f"{folder}/rows", rows)
@@ -97,7 +80,7 @@ def run(client, given, folder):
     tasks = [client.submit(convert, words_of(given.program, given.words, number, line), log, *bounds[number], f"{folder}/{number}", pure=False)
              for number, line in enumerate(lines)]
     statuses = client.gather(tasks)
-    join(folder, given.program, lines, given.rows, given.errors)
+    join(folder, lines, given.rows, given.errors)
     return max(statuses, default=0)
 
 

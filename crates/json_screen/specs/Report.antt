@@ -4,7 +4,7 @@ use Rattle.std.specs.Prelude.{nat_eq, not, string_bytes, take, Option, Some, Non
 use Rattle.std.specs.Int.{is_in_range}
 use Rattle.std.specs.List.{prefix_len, repeat, starts_with}
 use Rattle.jiter.specs.Caller.{Reading, done, fault, Tree, answer, kind_text}
-use Rattle.jiter_scan.specs.Kind.{trailing_characters}
+use Rattle.jiter_scan.specs.Kind.{Kind, trailing_characters}
 use Rattle.jiter_scan.specs.Position.{column_of, is_newline, line_of}
 use Rattle.jiter_steps.specs.Blank.{is_blank}
 use Rattle.json_screen.specs.Parts.{is_open, parts_of}
@@ -77,6 +77,14 @@ error_text name t index cause =
     let around = excerpt (excerpt_before before (column_of before)) (excerpt_after (drop (error_byte t index) t)) in
     name ++ (codes ":" ++ (decimal (line_of before) ++ (codes ":" ++ (decimal (column_of before + 1) ++ (codes ": "
     ++ (cause ++ (codes "\n" ++ around)))))))
+
+-- the cause of an error in bytes that are read as one document; a byte order mark at the start is named
+abbrev pub parse_cause : List ℕ → Kind → List ℕ
+parse_cause t kind = if has_mark t then codes "byte order mark" else kind_text kind
+
+-- and its report
+abbrev pub parse_text : List ℕ → List ℕ → ℕ → Kind → List ℕ
+parse_text name t index kind = error_text name t index (parse_cause t kind)
 
 -- what is told of an input with this error, or with none
 abbrev pub IsReport : List ℕ → List ℕ → Option (ℕ × List ℕ) → Option (List ℕ) → Type 0

@@ -7,6 +7,6 @@ mod screen;
 mod shown;
 
 pub use input::{Input, Options};
-pub use report::error_report;
+pub use report::{error_report, parse_report};
 pub use screen::{Rows, Shown, redraw};
 pub use shown::rows_of;

@@ -1,15 +1,17 @@
 //! Why an input is no document, as its reader is told.
 ghost use Rattle.std.specs.Prelude.{◌≡◌, ◌-◌, ◌<◌, ◌≤◌, List, ℕ, IfOk, IfSome, length, not, option_map, string_bytes};
 ghost use Rattle.std.specs.List.{prefix_len};
+ghost use Rattle.jiter_scan.specs.Kind.{kind_of};
 ghost use Rattle.jiter_scan.specs.Position.{column_of, is_newline, line_of};
 ghost use Rattle.json_screen.specs.Arrived.{HasArrived};
 ghost use Rattle.json_screen.specs.Report.{cause_seen, error_of, error_text, excerpt, excerpt_after, excerpt_before};
-ghost use Rattle.json_screen.specs.Report.{is_continuation, IsReport, next_document, trailing_error};
+ghost use Rattle.json_screen.specs.Report.{is_continuation, IsReport, next_document, parse_cause, parse_text};
+ghost use Rattle.json_screen.specs.Report.{trailing_error};
 ghost use Rattle.json_screen.specs.declared.input.Options.{Options};
 
 use crate::input::Input;
 use crate::screen::Rows;
-use jiter::{JsonErrorType, LinePosition};
+use jiter::{JsonError, JsonErrorType, LinePosition};
 use std::alloc::{AllocError, Global};
 
 const BYTE_ORDER_MARK: [u8; 3] = [0xef, 0xbb, 0xbf];
@@ -145,6 +147,34 @@ fn error_text(alloc: Global, name: &str, bytes: &[u8], cause: Cause) -> Result<S
     let excerpt = excerpt(alloc, excerpt_before(before, column), excerpt_after(rest))?;
     let (cause, column) = (cause.text, column.saturating_add(1));
     format!(in alloc; "{name}:{line}:{column}: {cause}\n{excerpt}")
+}
+
+fn parse_cause(alloc: Global, bytes: &[u8], error: &JsonError) -> Result<String, AllocError>
+    ensures { IfOk result (λ text. string_bytes text ≡ parse_cause bytes.now (kind_of error.now.error_type)) }
+{
+    match bytes.starts_with(&BYTE_ORDER_MARK) {
+        true => format!(in alloc; "byte order mark"),
+        false => format!(in alloc; "{}", error.error_type),
+    }
+}
+
+/// Returns why bytes that are read as one document are none: the error of their parse, as [`error_report`] reports one.
+///
+/// # Errors
+///
+/// - `AllocError` if an allocation fails
+pub fn parse_report(
+    alloc: Global,
+    name: &str,
+    bytes: &[u8],
+    error: &JsonError,
+) -> Result<String, AllocError>
+    ensures { IfOk result (λ text. string_bytes text
+        ≡ parse_text name.now bytes.now error.now.index (kind_of error.now.error_type)) }
+{
+    let text = parse_cause(alloc, bytes, error)?;
+    let index = error.index;
+    error_text(alloc, name, bytes, Cause { index, text })
 }
 
 /// Returns why an input that has ended is no document, as `NAME:LINE:COLUMN: CAUSE`, the line, and a caret under the

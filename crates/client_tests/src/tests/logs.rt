@@ -1,7 +1,7 @@
 //! The example of docs/CALLING.md with the crate `json_lines`.
 use jiter::JsonValue;
 use jiter_print::print;
-use json_lines::{Convert, Counts, Outcome, convert_log};
+use json_lines::{Convert, Counts, Origin, Outcome, convert_log};
 use std::alloc::{AllocError, Global};
 use std::io::BufReader;
 use std::test::*;
@@ -32,8 +32,20 @@ fn a_log_is_converted(rt: HostRuntime) -> Result<(), Fail> {
     let alloc = rt.alloc();
     let log = b"{\"level\": \"info\"}\r\n{\"level\": \n[1, 2]".as_slice();
     let mut reader = BufReader::new(alloc, log)?;
-    let (mut out, mut err) = (Vec::new(alloc), Vec::new(alloc));
-    let counts = convert_log(alloc, &Compact, "app.log", &mut reader, &mut out, &mut err)?;
+    let (mut out, mut err, mut bad) = (Vec::new(alloc), Vec::new(alloc), Vec::new(alloc));
+    let origin = Origin {
+        name: "app.log",
+        first_line: 1,
+    };
+    let counts = convert_log(
+        alloc,
+        &Compact,
+        &origin,
+        &mut reader,
+        &mut out,
+        &mut err,
+        &mut bad,
+    )?;
     let wanted = Counts {
         texts: 2,
         refused: 1,
@@ -44,5 +56,6 @@ fn a_log_is_converted(rt: HostRuntime) -> Result<(), Fail> {
         err.as_slice(),
         b"app.log:2:11: EOF while parsing a value\n".as_slice()
     );
+    assert_eq!(rt; bad.as_slice(), b"{\"level\": \n".as_slice());
     Ok(())
 }
