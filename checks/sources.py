@@ -101,12 +101,15 @@ def owners_of_impl(head):
     without_parameters = re.sub(r"^\s*<[^<>]*(<[^<>]*>[^<>]*)*>", "", head)
     parts = re.split(r"\sfor\s", re.split(r"\swhere\s", without_parameters)[0])
     *trait, (kind, _) = [re.search(r"(\w+)\s*(<.*>)?\s*$", it, re.S).groups() for it in parts]
+    # (`U8Integer::` for `impl Integer for u8`)
+    kind = kind[:1].upper() + kind[1:]
     if not trait:
         return (f"{kind}::",)
     name, arguments = trait[0]
     words = [it for it in re.findall(r"'?\w+|[&\[]", arguments or "") if it[0] != "'"]
     given = "".join({"&": "Ref", "[": "Slice"}.get(it, it[:1].upper() + it[1:]) for it in words)
-    return (f"{kind}{name}{given}::", rf"{kind}{name}\w*::", f"{kind}::")
+    # (`MembersOfWholeMembers::` for `impl Members for MembersOf<O, O::Whole>`)
+    return (f"{kind}{name}{given}::", rf"{kind}{name}\w*::", rf"{kind}\w+{name}\w*::", f"{kind}::")
 
 
 class Source:
