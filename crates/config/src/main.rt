@@ -38,8 +38,7 @@ impl ReadInput for Show {
             }
             Err(error) if error.is_memory() => Err(io::Error::from(ErrorKind::OutOfMemory)),
             Err(error) => {
-                let position = error.position(bytes.as_slice());
-                let report = refusal_of(rt.alloc(), name, &position, bytes.as_slice(), &error)?;
+                let report = refusal_of(rt.alloc(), name, bytes.as_slice(), &error)?;
                 rt.stderr().write_all(report.as_bytes())?;
                 Ok(false)
             }

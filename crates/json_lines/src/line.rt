@@ -1,8 +1,11 @@
 //! What becomes of a line.
 ghost use Rattle.std.specs.Prelude.{◌≡◌, ℕ, List, IfOk, IfSome, string_bytes};
+ghost use Rattle.jiter.specs.Caller.{position_of};
+ghost use Rattle.jiter_walk.specs.Walk.{index_of, reason, reason_output};
 ghost use Rattle.json_lines.specs.Line.{Seen, cause_in, refusal_text, seen};
 
 use jiter_scan::LinePosition;
+use jiter_walk::WalkError;
 use std::alloc::{AllocError, Global};
 use std::fmt;
 
@@ -77,21 +80,21 @@ pub fn refusal_line(
     format!(in alloc; "{name}:{line}:{column}: {cause}\n")
 }
 
-/// Returns the line of [`refusal_line`] for an error: its cause is what the error prints.
+/// Returns the line of [`refusal_line`] for an error of a walk: its line and column in the text, and what it prints.
 ///
 /// # Errors
 ///
 /// - `AllocError` if an allocation fails
-pub fn refusal_of<E: fmt::Display>(
+pub fn refusal_of<C: fmt::Display>(
     alloc: Global,
     name: &str,
-    position: &LinePosition,
     text: &[u8],
-    error: &E,
+    error: &WalkError<C>,
 ) -> Result<String, AllocError>
-    ensures { IfSome (E.output error.now) (λ cause. IfOk result (λ line. string_bytes line
-        ≡ refusal_text name.now position.now.line position.now.column (cause_in text.now cause))) }
+    ensures { IfSome (reason_output C.output (reason error.now)) (λ cause. IfOk result (λ line. string_bytes line
+        ≡ refusal_text name.now (position_of text.now (index_of error.now)).line
+        (position_of text.now (index_of error.now)).column (cause_in text.now cause))) }
 {
     let cause = format!(in alloc; "{error}")?;
-    refusal_line(alloc, name, position, text, cause.as_str())
+    refusal_line(alloc, name, &error.position(text), text, cause.as_str())
 }

@@ -32,8 +32,8 @@ impl ReadInput for Show {
             }
             Err(error) if error.is_memory() => Err(io::Error::from(ErrorKind::OutOfMemory)),
             Err(error) => {
-                let line = refusal_of(rt.alloc(), name, &error.position(&bytes), &bytes, &error)?;
-                rt.stderr().write_all(line.as_bytes())?;
+                let report = refusal_of(rt.alloc(), name, &bytes, &error)?;
+                rt.stderr().write_all(report.as_bytes())?;
                 Ok(false)
             }
         }

@@ -32,7 +32,7 @@ fn gives(rt: &HostRuntime, text: &[u8], words: &str) -> io::Result<bool> {
     match read_message(rt.alloc(), text) {
         Ok(message) => write_message(&message, &mut line)?,
         Err(error) => {
-            let report = refusal_of(rt.alloc(), "m", &error.position(text), text, &error)?;
+            let report = refusal_of(rt.alloc(), "m", text, &error)?;
             line.write_all(report.as_bytes())?;
         }
     }
