@@ -2,3 +2,4 @@
 mod examples;
 mod logs;
 mod printed;
+mod progress;

@@ -1,2 +1,3 @@
 pub mod Cells
 pub mod Decided
+pub mod Quotes

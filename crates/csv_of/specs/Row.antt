@@ -1,8 +1,7 @@
 -- The CSV row of a line (RFC 4180): a cell for each column. A value that is missing is an empty cell, and so is `null`. A
 -- number, `true` and `false` are their compact text, and a string its decoded text between quotes.
 use Rattle.std.specs.Prelude.{◌≡◌, ℕ, ◌+◌, Bool, if◌then◌else◌, nat_eq, is_some, List, [], ◌∷◌, ◌++◌, false, flat_map}
-use Rattle.std.specs.Prelude.{Option, Some, None, Vec, codes, option_map, replicate}
-use Rattle.std.specs.declared.alloc.Global.{Global}
+use Rattle.std.specs.Prelude.{Option, Some, None, codes, option_map, replicate}
 use Rattle.jiter.specs.Caller.{Reading, Tree, done, fault, kind_text, member_named, members_in, pointed_by, unique_answer}
 use Rattle.jiter_print.specs.Print.{print_of}
 use Rattle.json_lines.specs.Line.{Seen, refused, written}
@@ -90,6 +89,6 @@ names_after separator (column ∷ more) text =
 abbrev pub header_of : Columns → List ℕ
 header_of columns = names_after columns.separator columns.others.items (quoted columns.first.name.now)
 
--- what the code returns
-abbrev pub cell_view : Option (Vec ℕ Global) → Option (List ℕ)
-cell_view = option_map (λ text. text.items)
+-- what the code returns: the row with the cell, if there is a cell
+abbrev pub row_if : Bool → List ℕ → Option (List ℕ)
+row_if has row = if has then Some row else None

@@ -1,58 +1,62 @@
 //! The CSV row of a line (RFC 4180): a cell for each column, with a comma or a tab between cells.
-ghost use Rattle.std.specs.Prelude.{◌≡◌, IfOk, false, option_map};
+ghost use Rattle.std.specs.Prelude.{◌≡◌, ◌++◌, IfOk, OnOk, false, option_map};
 ghost use Rattle.jiter.specs.Caller.{IsUniqueDocument, Node, value_of, view};
 ghost use Rattle.json_lines.specs.Line.{seen};
-ghost use Rattle.csv_of.specs.Row.{Becomes, cell_in, cell_of, cell_view, copies, header_of, no_cell, outcome_of, quoted};
-ghost use Rattle.csv_of.specs.Row.{row_of, shown_by};
+ghost use Rattle.csv_of.specs.Row.{Becomes, cell_in, cell_of, header_of, no_cell, outcome_of, quoted};
+ghost use Rattle.csv_of.specs.Row.{row_if, row_of, shown_by};
 
 use crate::columns::{Column, Columns};
+use itoa::Buffer;
 use jiter::{JsonValue, PartialMode};
 use jiter_print::print;
 use json_lines::{Convert, Outcome};
+use memchr::memchr;
 use std::alloc::{AllocError, Global};
-use std::iter;
 
-type Cell = Option<Vec<u8>>;
-
-fn copies(byte: u8) -> usize
-    ensures { result ≡ copies byte }
+// Appends a text between quotes, with each quote in it written twice.
+fn push_quoted(row: &mut Vec<u8>, text: &[u8]) -> Result<(), AllocError>
+    ensures { OnOk result (row.new.items ≡ row.old.items ++ quoted text.now) }
 {
-    if byte == b'"' { 2 } else { 1 }
+    row.push(b'"')?;
+    let mut rest = text;
+    while let Some(at) = memchr(b'"', rest) {
+        row.extend_from_slice(&rest[..=at])?;
+        row.push(b'"')?;
+        rest = &rest[at + 1..];
+    }
+    row.extend_from_slice(rest)?;
+    row.push(b'"')?;
+    Ok(())
 }
 
-// A text between quotes, with each quote in it written twice.
-fn quote(alloc: Global, text: &[u8]) -> Result<Vec<u8>, AllocError>
-    ensures { IfOk result (λ cell. cell.items ≡ quoted text.now) }
-{
-    let doubled: Vec<u8> = text
-        .iter()
-        .copied()
-        .flat_map(|byte| iter::repeat_n(byte, copies(byte)))
-        .collect(alloc)?;
-    let mut cell = Vec::new(alloc);
-    cell.push(b'"')?;
-    cell.extend_from_slice(doubled.as_slice())?;
-    cell.push(b'"')?;
-    Ok(cell)
-}
-
-fn cell_in(alloc: Global, nested: bool, value: &JsonValue<'_>) -> Result<Cell, AllocError>
-    ensures { IfOk result (λ cell. cell_view cell ≡ cell_in nested (view value.now)) }
+// Appends the cell of a value. Returns whether it has one.
+fn push_cell(
+    alloc: Global,
+    nested: bool,
+    value: &JsonValue<'_>,
+    row: &mut Vec<u8>,
+) -> Result<bool, AllocError>
+    ensures { IfOk result (λ has. row_if has row.new.items
+        ≡ option_map (λ cell. row.old.items ++ cell) (cell_in nested (view value.now))) }
 {
     match value {
-        JsonValue::Null => Ok(Some(Vec::new(alloc))),
-        JsonValue::Bool(_) | JsonValue::Int(_) | JsonValue::BigInt(_) | JsonValue::Float(_) => {
-            Ok(Some(print(alloc, value)?))
+        JsonValue::Null => {}
+        JsonValue::Bool(true) => row.extend_from_slice(b"true")?,
+        JsonValue::Bool(false) => row.extend_from_slice(b"false")?,
+        JsonValue::Int(number) => {
+            row.extend_from_slice(Buffer::new().format(*number).as_bytes())?
         }
-        JsonValue::Str(text) => Ok(Some(quote(alloc, text.as_str().as_bytes())?)),
+        JsonValue::BigInt(text) => row.extend_from_slice(text.as_str().as_bytes())?,
+        JsonValue::Float(text) => row.extend_from_slice(text.as_str().as_bytes())?,
+        JsonValue::Str(text) => push_quoted(row, text.as_str().as_bytes())?,
         JsonValue::Array(_) | JsonValue::Object(_) => {
             if !nested {
-                return Ok(None);
+                return Ok(false);
             }
-            let text = print(alloc, value)?;
-            Ok(Some(quote(alloc, text.as_slice())?))
+            push_quoted(row, print(alloc, value)?.as_slice())?;
         }
     }
+    Ok(true)
 }
 
 fn shown<'v, 's>(column: &Column<'_>, object: &'v JsonValue<'s>) -> Option<&'v JsonValue<'s>>
@@ -65,19 +69,22 @@ fn shown<'v, 's>(column: &Column<'_>, object: &'v JsonValue<'s>) -> Option<&'v J
     }
 }
 
-// A value that is missing makes an empty cell, as `null` does.
-fn cell_of(
+// Appends a column's cell. A value that is missing makes an empty one, as `null` does.
+fn push_column(
     alloc: Global,
     nested: bool,
     column: &Column<'_>,
     object: &JsonValue<'_>,
-) -> Result<Cell, AllocError>
-    ensures { IfOk result (λ cell. cell_view cell ≡ cell_of nested column.now (view object.now)) }
+    row: &mut Vec<u8>,
+) -> Result<bool, AllocError>
+    ensures { IfOk result (λ has. row_if has row.new.items
+        ≡ option_map (λ cell. row.old.items ++ cell) (cell_of nested column.now (view object.now))) }
 {
-    cell_in(
+    push_cell(
         alloc,
         nested,
         shown(column, object).unwrap_or(&JsonValue::Null),
+        row,
     )
 }
 
@@ -88,22 +95,24 @@ fn no_cell(alloc: Global, name: &str) -> Result<Outcome, AllocError>
     Ok(Outcome::Refused(1, cause))
 }
 
+// The row of an object whose text has so many bytes.
 fn row_of(
     alloc: Global,
     columns: &Columns<'_>,
     object: &JsonValue<'_>,
+    size: usize,
 ) -> Result<Outcome, AllocError>
     ensures { IfOk result (λ outcome. seen outcome ≡ row_of columns.now (view object.now)) }
 {
-    let Some(mut row) = cell_of(alloc, columns.nested, &columns.first, object)? else {
+    let mut row = Vec::with_capacity(alloc, size)?;
+    if !push_column(alloc, columns.nested, &columns.first, object, &mut row)? {
         return no_cell(alloc, columns.first.name);
-    };
+    }
     for column in &columns.others {
-        let Some(cell) = cell_of(alloc, columns.nested, column, object)? else {
-            return no_cell(alloc, column.name);
-        };
         row.push(columns.separator)?;
-        row.extend_from_slice(cell.as_slice())?;
+        if !push_column(alloc, columns.nested, column, object, &mut row)? {
+            return no_cell(alloc, column.name);
+        }
     }
     row.extend_from_slice(b"\r\n")?;
     Ok(Outcome::Text(row))
@@ -113,13 +122,14 @@ fn outcome_of(
     alloc: Global,
     columns: &Columns<'_>,
     value: &JsonValue<'_>,
+    size: usize,
 ) -> Result<Outcome, AllocError>
     ensures { IfOk result (λ outcome. seen outcome ≡ outcome_of columns.now (view value.now)) }
 {
     if value.as_object().is_none() {
         return Ok(Outcome::Refused(1, String::from_str(alloc, "not an object")?));
     }
-    row_of(alloc, columns, value)
+    row_of(alloc, columns, value, size)
 }
 
 /// Returns the row of the columns' names, each between quotes.
@@ -130,10 +140,11 @@ fn outcome_of(
 pub fn header_of(alloc: Global, columns: &Columns<'_>) -> Result<Vec<u8>, AllocError>
     ensures { IfOk result (λ row. row.items ≡ header_of columns.now) }
 {
-    let mut row = quote(alloc, columns.first.name.as_bytes())?;
+    let mut row = Vec::new(alloc);
+    push_quoted(&mut row, columns.first.name.as_bytes())?;
     for column in &columns.others {
         row.push(columns.separator)?;
-        row.extend_from_slice(quote(alloc, column.name.as_bytes())?.as_slice())?;
+        push_quoted(&mut row, column.name.as_bytes())?;
     }
     row.extend_from_slice(b"\r\n")?;
     Ok(row)
@@ -159,7 +170,7 @@ impl Convert for Columns<'_> {
         ensures first { IfOk result (λ outcome. Becomes self.now line.now (seen outcome)) }
     {
         match JsonValue::parse_unique(alloc, line, false, PartialMode::Off) {
-            Ok(value) => outcome_of(alloc, self, &value),
+            Ok(value) => outcome_of(alloc, self, &value, line.len()),
             Err(error) if error.is_memory() => Err(AllocError),
             Err(error) => {
                 let cause = format!(in alloc; "{}", error.error_type)?;

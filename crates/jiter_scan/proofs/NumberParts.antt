@@ -1,31 +1,38 @@
 -- The parts of a number that arrives in pieces: each goes on with the ones before it.
-use Rattle.std.proofs.Common.{◌≡◌, ℕ, ◌+◌, ◌-◌, ◌<◌, ◌≤◌, ◌||◌, ◌&&◌, Bool, true, false, not, List, [], ◌∷◌, ◌++◌}
-use Rattle.std.proofs.Common.{append_assoc, drop, take, length, length-append, refl, sym, ap, ap₂, subst, ◌∙◌, arith}
+use Rattle.std.proofs.Common.{◌≡◌, ℕ, ◌+◌, ◌-◌, ◌<◌, ◌≤◌, ◌⊎◌, inl, inr, ◌||◌, ◌&&◌, Bool, true, false, not, List, [], ◌∷◌, ◌++◌}
+use Rattle.std.proofs.Common.{append_assoc, drop, get_or, take, zero, suc, length, length-append, refl, sym, ap, ap₂, subst, ◌∙◌, arith}
 use Rattle.std.specs.Prelude.{slice_get, slice_range, string_bytes, Some, if◌then◌else◌}
 use Rattle.std.specs.List.{list_any}
 use Rattle.std.specs.Str.{IsAscii}
 use Rattle.std.proofs.lemmas.List.Folds.{list_any-append}
-use Rattle.std.proofs.lemmas.Option.{slice_get_within}
+use Rattle.std.proofs.lemmas.Bool.Decides.{nat_tests}
+use Rattle.std.proofs.lemmas.Option.{slice_get-get_or, slice_get_within}
 use Rattle.std.proofs.lemmas.Str.{IsAscii-append}
 use Rattle.std.proofs.lemmas.Str.Ascii.{IsAscii-cons, IsAscii-nil}
+use Rattle.jiter_scan.specs.Digits.{is_digit, digit_run_end}
 use Rattle.jiter_scan.specs.Number.{is_float_byte, is_integral}
-use Rattle.jiter_scan.specs.NumberReading.{number_extent}
+use Rattle.jiter_scan.specs.NumberReading.{exponent_at, extent_then, number_extent}
 use Rattle.jiter_scan.specs.PartialNumber.{BeginsThere, BeginsTo, Fits, GoesTo, HoldsNumber, IsBegun, is_int_stage, Leads}
-use Rattle.jiter_scan.specs.PartialNumber.{LeadsOver, number_from}
+use Rattle.jiter_scan.specs.PartialNumber.{LeadsOver, number_from, tail_at, within_room}
 use Rattle.jiter_scan.specs.declared.partial_number.PartialNumber.{PartialNumber}
+use Rattle.jiter_scan.specs.Scanned.{taken}
 use Rattle.jiter_scan.specs.Stands.{Stands}
 use Rattle.jiter_scan.specs.Word.{Extent}
 use Rattle.jiter_scan.specs.declared.partial_number.Stage.{Stage}
+use Rattle.jiter_scan.specs.declared.partial_number.Stage.TheVariants as stage
 use Rattle.jiter_scan.specs.declared.partial_number.Went.TheVariants as went
+use Rattle.jiter_scan.proofs.Digits.{digit-bounds}
+use Rattle.jiter_scan.proofs.OpenNumbers.{run-on, room-on}
 use Rattle.jiter_scan.proofs.OpenValues.{stands-last}
-use Rattle.jiter_scan.proofs.Standing.{slice-one, slice_range-split, stands-length, stands-split}
+use Rattle.jiter_scan.proofs.Runs.{run_end-passes}
+use Rattle.jiter_scan.proofs.Standing.{slice-one, slice_range-split, stands-length, stands-slice, stands-split}
 
 -- ---- bytes that show a float
 neither : (x y : Bool) → (if (x || y) then false else true) ≡ ((if x then false else true) && (if y then false else true))
 neither true y = refl
 neither false y = refl
 
-integral-append : (w v : List ℕ) → is_integral (w ++ v) ≡ (is_integral w && is_integral v)
+pub integral-append : (w v : List ℕ) → is_integral (w ++ v) ≡ (is_integral w && is_integral v)
 integral-append w v =
     ap (λ (b : Bool). if b then false else true) (list_any-append is_float_byte w v)
     ∙ neither (list_any is_float_byte w) (list_any is_float_byte v)
@@ -81,6 +88,15 @@ goes-on s m new t i j e a b =
           ∙ ap (λ x. is_int_stage s && x) (sym (ap is_integral is ∙ integral-append w v));
     }
 
+-- the reading goes on there
+pub goes-reads : (names : Bool) (s new : Stage) (t : List ℕ) (i e : ℕ) → GoesTo s t i new e
+    → number_from names s t i ≡ number_from names new t e
+goes-reads names s new t i e go =
+    let stands = stands-slice t i e go.ahead go.within in
+    let place = stands-length t i e (slice_range t i e) stands in
+    go.leads names t i (subst (λ k. Stands t i k (slice_range t i e)) place stands)
+    ∙ ap (number_from names new t) (sym place)
+
 -- ---- one byte more
 
 -- none
@@ -109,6 +125,72 @@ goes-byte s new t i b here leads fits =
       leads = subst (λ w. LeadsOver s w new) one (λ names u j h. leads names u j h.0);
       int = fits.1 ∙ ap (λ x. is_int_stage s && x) (one-not (is_float_byte b) ∙ ap is_integral one);
     }
+
+-- and the bytes after it
+pub goes_next : (s m next new : Stage) (t : List ℕ) (i j e : ℕ) → GoesTo s t i m j → j < length t
+    → Leads m (get_or t j 0) (went.Taken next) → Fits m (get_or t j 0) (went.Taken next) → GoesTo next t (j + 1) new e
+    → GoesTo s t i new e
+goes_next s m next new t i j e before here leads fits after =
+    goes-on s m new t i j e before
+    (goes-on m next new t j (j + 1) e
+    (goes-byte m next t j (get_or t j 0) (slice_get-get_or t j 0 here) leads fits) after)
+
+-- ---- digits after the first one of their part
+digit-fits : (s new : Stage) (b : ℕ) → is_digit b ≡ true → is_int_stage new ≡ is_int_stage s
+    → Fits s b (went.Taken new)
+digit-fits s new b d same =
+    let plain : is_float_byte b ≡ false = grind (arith, nat_tests) in
+    (omega (arith, digit-bounds b d), same ∙ all-of (is_int_stage s) (not (is_float_byte b)) (ap not plain))
+
+-- as many as the stages have room for
+pub goes-digits : (s : ℕ → Stage) (t : List ℕ) (i n : ℕ) → i + n ≤ length t → i + n ≤ digit_run_end t i
+    → ((k b : ℕ) → k < n → is_digit b ≡ true
+    → Leads (s k) b (went.Taken (s (k + 1))) × (is_int_stage (s (k + 1)) ≡ is_int_stage (s k)))
+    → GoesTo (s 0) t i (s n) (i + n)
+goes-digits s t i zero within run leads =
+    subst (GoesTo (s 0) t i (s 0)) (omega arith) (goes-none (s 0) t i (omega arith))
+goes-digits s t i (suc n) within run leads =
+    let j = i + n in
+    let b = get_or t j 0 in
+    let digit = run_end-passes is_digit t i j (omega arith) (omega arith) in
+    let one = leads n b (omega arith) digit in
+    let before = goes-digits s t i n (omega arith) (omega arith) (λ k c l d. leads k c (omega arith) d) in
+    let next = goes-byte (s n) (s (n + 1)) t j b (slice_get-get_or t j 0 (omega arith)) one.0
+    (digit-fits (s n) (s (n + 1)) b digit one.1) in
+    let more : n + 1 ≡ suc n = omega arith in
+    let end : j + 1 ≡ i + suc n = omega arith in
+    subst (λ m. GoesTo (s 0) t i (s m) (i + suc n)) more
+    (subst (GoesTo (s 0) t i (s (n + 1))) end (goes-on (s 0) (s n) (s (n + 1)) t i j (j + 1) before next))
+
+-- those of an integer part
+pub goes-room : (room n : ℕ) (t : List ℕ) (i : ℕ) → n ≤ room → i + n ≤ length t → i + n ≤ digit_run_end t i
+    → GoesTo (stage.Digits room) t i (stage.Digits (room - n)) (i + n)
+goes-room room n t i most within run =
+    let none : room - 0 ≡ room = omega arith in
+    subst (λ r. GoesTo (stage.Digits r) t i (stage.Digits (room - n)) (i + n)) none
+    (goes-digits (λ k. stage.Digits (room - k)) t i n within run
+    (λ k b l d.
+    let less : room - k - 1 ≡ room - (k + 1) = omega arith in (
+      λ names u j h.
+          ap (λ x. extent_then x (tail_at u))
+          (room-on u j (room - k) (digit_run_end u j) (omega arith)
+          ∙ ap₂ (λ r e. within_room r (j + 1) e) less (run-on u j b h d)),
+      refl,
+    )))
+
+-- all of a fraction or an exponent
+pub goes-run : (s : Stage) (t : List ℕ) (i e : ℕ) → i ≤ e → e ≤ length t → e ≡ digit_run_end t i
+    → (s ≡ stage.Fraction) ⊎ (s ≡ stage.Exponent) → GoesTo s t i s e
+goes-run s t i e ahead within run is =
+    let end : i + (e - i) ≡ e = omega arith in
+    subst (GoesTo s t i s) end
+    (goes-digits (λ _. s) t i (e - i) (omega arith) (omega arith) (λ k b l d. (stays is b d, refl)))
+  where
+    stays : (s ≡ stage.Fraction) ⊎ (s ≡ stage.Exponent) → (b : ℕ) → is_digit b ≡ true → Leads s b (went.Taken s)
+    stays (inl is) b d = subst (λ s. Leads s b (went.Taken s)) (sym is)
+        (λ names u j h. ap (exponent_at u) (run-on u j b h d))
+    stays (inr is) b d = subst (λ s. Leads s b (went.Taken s)) (sym is)
+        (λ names u j h. ap (taken tt) (run-on u j b h d))
 
 -- ---- a number that has begun
 

@@ -1,25 +1,34 @@
 -- What a number begins with, after its minus: a name or a digit.
 use Rattle.std.proofs.Common.{◌≡◌, ◌≢◌, inl, inr, ℕ, ◌+◌, ◌<◌, ◌≤◌, ◌==◌, Bool, true, false, List, length, get_or}
 use Rattle.std.proofs.Common.{◌||◌, refl, sym, ap, ◌∙◌, subst, arith}
-use Rattle.std.specs.Prelude.{Option, Some, None, Result, Ok, Err, IfOk, slice_get, if◌then◌else◌, codes}
-use Rattle.std.proofs.lemmas.Bool.{eq-eqb, eqb-true, eqb-false, ne_eqb}
+use Rattle.std.proofs.Common.{◌-◌, ◌&&◌, ◌∷◌, [], drop, take, slice_range}
+use Rattle.std.proofs.Math.Bool.{and-false}
+use Rattle.std.specs.Prelude.{Option, Some, None, slice_get, if◌then◌else◌, codes}
+use Rattle.std.proofs.lemmas.Bool.{cases_lt, eq-eqb, eqb-true, eqb-false, false≢true, ne_eqb}
 use Rattle.std.proofs.lemmas.Option.{slice_get-get_or, slice_get_within, get_or_from_slice_get}
-use Rattle.jiter_scan.specs.Number.{is_float_byte}
+use Rattle.jiter_scan.specs.Number.{is_float_byte, is_integral}
 use Rattle.jiter_scan.specs.NumberDecoder.{IsMinusTo}
-use Rattle.jiter_scan.specs.NumberExtent.{IsNameFrom, IsDecimalFrom, IsDecimalExtent, IsExtent, IsFloatText}
-use Rattle.jiter_scan.specs.NumberExtent.{minus_end, name_extent, extent_end}
+use Rattle.jiter_scan.specs.NumberExtent.{IsNameFrom, IsDecimalFrom, IsExtent, IsFloatText}
+use Rattle.jiter_scan.specs.NumberExtent.{minus_end, name_extent}
 use Rattle.jiter_scan.specs.NumberReading.{after_minus, extent_from, extent_then, fraction_at, exponent_at}
-use Rattle.jiter_scan.specs.NumberReading.{decimal_at, int_part_at}
+use Rattle.jiter_scan.specs.NumberReading.{decimal_at, int_part_at, number_extent}
 use Rattle.jiter_scan.specs.NumberReading.{int_at, int_part_from, integer_after, integer_after_minus, integer_from}
-use Rattle.jiter_scan.specs.Scanned.{Scans, taken}
-use Rattle.jiter_scan.specs.Word.{word_at}
-use Rattle.jiter_scan.specs.declared.errors.Fault.{Fault}
-use Rattle.jiter_scan.specs.declared.number_extent.Extent.{Extent as Found}
+use Rattle.jiter_scan.specs.PartialNumber.{GoesTo, is_int_stage, number_from, tail_at}
+use Rattle.jiter_scan.specs.Scanned.{taken}
+use Rattle.jiter_scan.specs.Stands.{Stands}
+use Rattle.jiter_scan.specs.Word.{Extent, word_at}
+use Rattle.jiter_scan.specs.declared.partial_number.Stage.{Stage}
+use Rattle.jiter_scan.specs.declared.partial_number.Stage.TheVariants as stage
 use Rattle.jiter_scan.specs.declared.number_extent.Extent.TheVariants as found
 use Rattle.jiter_scan.proofs.Choices.{if_case, if_gives, if-true, if-false}
 use Rattle.jiter_scan.proofs.NumberBytes.{given-ascii, IsMinusTo-le, IsAscii-decimal, IsAscii-name}
 use Rattle.jiter_scan.proofs.NumberExtents.{byte-got}
-use Rattle.jiter_scan.proofs.NumberValues.{number_value-tail, number_value-name}
+use Rattle.jiter_scan.proofs.NumberParts.{goes-reads, integral-append}
+use Rattle.jiter_scan.proofs.NumberRows.{IntPart}
+use Rattle.jiter_scan.proofs.NumberSound.{int_part_at-sound}
+use Rattle.jiter_scan.proofs.NumberValues.{number_value-name}
+use Rattle.jiter_scan.proofs.OpenValues.{float-value, int-digits}
+use Rattle.jiter_scan.proofs.Standing.{slice_range-split, stands-length}
 
 module _ (t : List ℕ) (i : ℕ) where
   module _ (minus : slice_get t i ≡ Some 45) where
@@ -133,25 +142,66 @@ module _ (t : List ℕ) (i j : ℕ) (inside : i < length t) (start : j ≡ minus
       let here = slice_get-get_or t i 0 inside in
       alone-decimal t i c here n (λ q. (h c here).1 q refl) (h c here).0)
 
+-- a decimal number goes through the stages from the one after its minus
+minus-stage : (t : List ℕ) (j : ℕ) → decimal_at t j ≡ number_from false stage.Minus t j
+minus-stage t j = by (slice_get t j) refl where
+  read : Option ℕ → Extent
+  read o = extent_then (int_part_from t j o) (tail_at t)
+
+  by : (o : Option ℕ) → slice_get t j ≡ o → decimal_at t j ≡ after_minus false t j o
+  by None h = ap read h
+  by (Some c) h =
+      if_case (λ x. decimal_at t j ≡ x) (c == 73) _ _ (λ yes. ap read (h ∙ ap (λ b. Some b) (eqb-true c 73 yes)))
+      (λ no. refl)
+
+decimal-stages : (t : List ℕ) (j : ℕ) (s : Stage) (e : ℕ) → GoesTo stage.Minus t j s e
+    → decimal_at t j ≡ number_from false s t e
+decimal-stages t j s e go = minus-stage t j ∙ goes-reads false stage.Minus s t j e go
+
+pub found_extent : (names : Bool) (t : List ℕ) (i j : ℕ) (s : Stage) (e : ℕ) → IsDecimalFrom t i j
+    → GoesTo stage.Minus t j s e → number_extent names t i ≡ number_from false s t e
+found_extent names t i j s e begins go = begins.extent names ∙ decimal-stages t j s e go
+
+int_part-some : (t : List ℕ) (i e : ℕ) → int_part_at t i ≡ taken tt e → i < e
+int_part-some t i e h = by (int_part_at-sound t i e h) where
+  by : (w : List ℕ) × Stands t i e w × IntPart w → i < e
+  by ([], s, is) = absurd is.0
+  by (c ∷ w, s, is) = omega (arith, stands-length t i e (c ∷ w) s)
+
+float-some : (t : List ℕ) (i e : ℕ) → is_integral (slice_range t i e) ≡ false → i < e
+float-some t i e h =
+    elim (cases_lt i e) [
+      | inl some ↦ some
+      | inr none ↦ let count : e - i ≡ 0 = omega arith in
+          absurd (false≢true (sym h ∙ ap (λ n. is_integral (take n (drop i t))) count))
+    ]
+
 -- what was found there
 module _ (t : List ℕ) (i j : ℕ) where
-  pub decimal-extent : IsMinusTo t i j → (x : Result Found Fault) → Scans extent_end x (decimal_at t j)
-      → IfOk x (λ f. IsDecimalExtent t j f) → IfOk x (λ f. IsExtent t i f)
-  decimal-extent minus (Err f) read parts = tt
-  decimal-extent minus (Ok (found.Int k e)) read (same, int_part, some, within) = (
-    subst (IsMinusTo t i) (sym same) minus,
-    subst (λ l. int_part_at t l ≡ taken tt e) (sym same) int_part,
-    omega (arith, same, some),
-    within,
-  )
-  decimal-extent minus (Ok (found.Float e)) read (k, ahead, tail, within, parts) =
-      let low = IsMinusTo-le t i j minus in
-      record {
-        value = number_value-tail t i k e (omega (arith, low, ahead)) tail (omega (arith, tail, within)) parts;
-        ascii = IsAscii-decimal t i j e minus read;
-        some = omega (arith, low, ahead, tail);
-        within = within;
-      }
+  module _ (s : Stage) (e : ℕ) (minus : IsMinusTo t i j) (go : GoesTo stage.Minus t j s e)
+      (ends : number_from false s t e ≡ taken tt e) where
+    read : decimal_at t j ≡ taken tt e
+    read = decimal-stages t j s e go ∙ ends
+
+    pub found_int : is_int_stage s ≡ true → IsExtent t i (found.Int j e)
+    found_int int =
+        let digits = int-digits t j j e (omega arith) go.within (sym go.int ∙ int) read in
+        (minus, digits, int_part-some t j e digits, go.within)
+
+    pub found_float : is_int_stage s ≡ false → IsFloatText t i e
+    found_float other =
+        let low = IsMinusTo-le t i j minus in
+        let is : is_integral (slice_range t i e) ≡ false =
+        ap is_integral (slice_range-split t i j low e go.ahead)
+        ∙ integral-append (slice_range t i j) (slice_range t j e)
+        ∙ ap (λ b. is_integral (slice_range t i j) && b) (sym go.int ∙ other)
+        ∙ and-false (is_integral (slice_range t i j)) in
+        record {
+          value = float-value (slice_range t i e) is;
+          ascii = IsAscii-decimal t i j e minus read;
+          some = float-some t i e is;
+          within = go.within;
+        }
 
   allowed : (names : Bool) (w : List ℕ) (e : ℕ) → name_extent names t w i j ≡ taken tt e → word_at t w j ≡ taken tt e
   allowed true w e h = h

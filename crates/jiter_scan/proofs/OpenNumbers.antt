@@ -5,15 +5,17 @@ use Rattle.std.specs.Prelude.{slice_get, Some, None, if◌then◌else◌}
 use Rattle.std.proofs.lemmas.Bool.Decides.{nat_tests}
 use Rattle.jiter_scan.specs.Digits.{is_digit, digit_run_end}
 use Rattle.jiter_scan.specs.Kind.{number_out_of_range}
-use Rattle.jiter_scan.specs.NumberReading.{extent_then, digits_from, int_part_from, int_part_at, decimal_at}
+use Rattle.jiter_scan.specs.NumberReading.{extent_then, after_minus, after_zero, digits_from, power_from, int_part_from, int_part_at, decimal_at}
 use Rattle.jiter_scan.specs.NumberReading.{extent_from, number_extent, fraction_from, exponent_from, exponent_at}
-use Rattle.jiter_scan.specs.PartialNumber.{within_room, tail_at, begins_decimal}
+use Rattle.jiter_scan.specs.PartialNumber.{within_room, tail_at, begins_decimal, number_from, is_whole, at_end}
+use Rattle.jiter_scan.specs.declared.partial_number.Stage.{Stage}
+use Rattle.jiter_scan.specs.declared.partial_number.Stage.TheVariants as stage
 use Rattle.jiter_scan.specs.Scanned.{taken, failed}
 use Rattle.jiter_scan.proofs.Choices.{if-true, if-false}
-use Rattle.jiter_scan.proofs.Runs.{run_end-more, run_end-here}
+use Rattle.jiter_scan.proofs.Runs.{run_end-ahead, run_end-more, run_end-here}
 
 module _ (t : List ℕ) (j : ℕ) where
-  pub run-ended : slice_get t j ≡ None → digit_run_end t j ≡ j
+  run-ended : slice_get t j ≡ None → digit_run_end t j ≡ j
   run-ended h = run_end-here is_digit t j None h tt
 
   module _ (b : ℕ) (h : slice_get t j ≡ Some b) where
@@ -36,16 +38,21 @@ module _ (t : List ℕ) (j : ℕ) where
       if-false (nat_le e (j + room)) _ _ (grind (arith, nat_tests))
       ∙ ap (λ n. failed number_out_of_range (j + (n + 1))) none
 
-  -- what the end of the input makes of digits
-  pub digits-ended : slice_get t j ≡ None → (room : ℕ)
-      → extent_then (within_room room j (digit_run_end t j)) (tail_at t) ≡ taken tt j
-  digits-ended h room =
-      ap (λ x. extent_then x (tail_at t)) (room-over room (digit_run_end t j) (run-ended h))
-      ∙ ap (λ o. extent_then (fraction_from t j o) (exponent_at t)) h
-      ∙ ap (exponent_from t j) h
+  -- what the end of the input makes of a stage
+  module _ (h : slice_get t j ≡ None) where
+    tail-ended : tail_at t j ≡ taken tt j
+    tail-ended = ap (λ o. extent_then (fraction_from t j o) (exponent_at t)) h ∙ ap (exponent_from t j) h
 
-  pub fraction-ended : slice_get t j ≡ None → exponent_at t (digit_run_end t j) ≡ taken tt j
-  fraction-ended h = ap (exponent_at t) (run-ended h) ∙ ap (exponent_from t j) h
+    pub ended : (names : Bool) (s : Stage) → number_from names s t j ≡ at_end (is_whole s) j
+    ended names stage.Minus = ap (after_minus names t j) h
+    ended names stage.Zero = ap (λ o. extent_then (after_zero j o) (tail_at t)) h ∙ tail-ended
+    ended names (stage.Digits room) =
+        ap (λ x. extent_then x (tail_at t)) (room-over room (digit_run_end t j) (run-ended h)) ∙ tail-ended
+    ended names stage.Point = ap (λ o. extent_then (digits_from t j o) (exponent_at t)) h
+    ended names stage.Fraction = ap (exponent_at t) (run-ended h) ∙ ap (exponent_from t j) h
+    ended names stage.Letter = ap (power_from t j) h
+    ended names stage.Sign = ap (digits_from t j) h
+    ended names stage.Exponent = ap (taken tt) (run-ended h)
 
   -- room for one digit, and for those after it
   pub room-on : (room e : ℕ) → 0 < room → within_room room j e ≡ within_room (room - 1) (j + 1) e
@@ -74,6 +81,19 @@ module _ (t : List ℕ) (j : ℕ) where
       let no_i : (b == 73) ≡ false = grind (arith, nat_tests) in
       ap (extent_from names t j) h ∙ if-false (b == 45) _ _ no_minus ∙ if-false (b == 78) _ _ no_n
       ∙ if-false (b == 73) _ _ no_i
+
+-- what the next byte makes of the digits before it
+pub ruleset next_digits = (
+  nat_tests,
+  run-on,
+  run-over,
+  digits-on,
+  room-over,
+  room-none,
+  room-on,
+  run_end-ahead,
+  decimal-begins,
+)
 
 left-of : (x y : Bool) → (x || y) ≡ true → y ≡ false → x ≡ true
 left-of true y h g = refl

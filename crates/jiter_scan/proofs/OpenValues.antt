@@ -4,16 +4,16 @@ use Rattle.std.proofs.Common.{◌++◌}
 use Rattle.std.proofs.Common.{append-nil, length, length-append, refl, sym, ap, subst, ◌∙◌, arith, nat_le, nat_lt, ℤ}
 use Rattle.std.specs.Prelude.{codes, slice_get, slice_range, Option, Some, None, IfSome, if◌then◌else◌}
 use Rattle.std.proofs.lemmas.List.{take_all}
-use Rattle.std.proofs.lemmas.Bool.{cases_lt, false≢true}
+use Rattle.std.proofs.lemmas.Bool.{cases_lt}
 use Rattle.jiter_scan.specs.Digits.{decimal_of}
 use Rattle.jiter_scan.specs.Number.{Number, integer, big, float, is_integral, integral_value}
 use Rattle.jiter_scan.specs.Number.{number_value}
 use Rattle.jiter_scan.specs.Number.{IsName, IsNumberText}
 use Rattle.jiter_scan.specs.Kind.{invalid_number}
-use Rattle.jiter_scan.specs.NumberReading.{extent_then, after_minus, after_zero, fraction_from, exponent_from, exponent_at}
+use Rattle.jiter_scan.specs.NumberReading.{after_minus}
 use Rattle.jiter_scan.specs.NumberExtent.{minus_end}
-use Rattle.jiter_scan.specs.NumberReading.{int_part_at, number_extent, number_at, with_value}
-use Rattle.jiter_scan.specs.PartialNumber.{number_from, tail_at, is_whole, is_int_stage, IsBegun, int_of}
+use Rattle.jiter_scan.specs.NumberReading.{decimal_at, int_part_at, number_extent, number_at, with_value}
+use Rattle.jiter_scan.specs.PartialNumber.{number_from, tail_at, is_whole, is_int_stage, at_end, IsBegun, int_of}
 use Rattle.jiter_scan.specs.Scanned.{taken, failed}
 use Rattle.jiter_scan.specs.Stands.{Stands}
 use Rattle.jiter_scan.specs.Word.{word_at}
@@ -24,27 +24,13 @@ use Rattle.jiter_scan.proofs.NumberBytes.{number-not_empty}
 use Rattle.jiter_scan.specs.NumberWithin.{continues_number}
 use Rattle.jiter_scan.proofs.NumberComplete.{number_extent-complete}
 use Rattle.jiter_scan.proofs.NumberExtents.{extent-digits}
-use Rattle.jiter_scan.proofs.NumberSound.{number_extent-sound, fraction_at-sound, exponent_at-sound}
+use Rattle.jiter_scan.proofs.NumberSound.{number_extent-sound, int_part_at-sound, fraction_at-sound, exponent_at-sound}
 use Rattle.jiter_scan.proofs.NumberValues.{number_value-tail}
 use Rattle.jiter_scan.proofs.Standing.{stands-length, stands-slice, stands-split}
 use Rattle.jiter_scan.proofs.WordLaws.{word_at-complete}
-use Rattle.jiter_scan.proofs.OpenNumbers.{get-after, run-ended, digits-ended, fraction-ended}
+use Rattle.jiter_scan.proofs.OpenNumbers.{get-after, ended}
 
 -- ---- a number that is whole
-module _ (t : List ℕ) (j : ℕ) (h : slice_get t j ≡ None) (names : Bool) where
-  whole-ended : (s : Stage) → is_whole s ≡ true → number_from names s t j ≡ taken tt j
-  whole-ended stage.Zero whole =
-      ap (λ o. extent_then (after_zero j o) (tail_at t)) h
-      ∙ ap (λ o. extent_then (fraction_from t j o) (exponent_at t)) h
-      ∙ ap (exponent_from t j) h
-  whole-ended (stage.Digits room) whole = digits-ended t j h room
-  whole-ended stage.Fraction whole = fraction-ended t j h
-  whole-ended stage.Exponent whole = ap (taken tt) (run-ended t j h)
-  whole-ended stage.Minus whole = absurd (false≢true whole)
-  whole-ended stage.Point whole = absurd (false≢true whole)
-  whole-ended stage.Letter whole = absurd (false≢true whole)
-  whole-ended stage.Sign whole = absurd (false≢true whole)
-
 nothing-after : (w : List ℕ) → slice_get w (length w) ≡ None
 nothing-after [] = refl
 nothing-after (c ∷ w) = nothing-after w
@@ -81,6 +67,30 @@ integral-no_float (c ∷ cs) v h =
     (λ q r. if_gives (nat_le (decimal_of cs) (2 ^ 63)) _ _ _ r (λ q g. absurd (cc)) (λ q g. absurd (cc)))
     (λ q r. if_gives (nat_lt (decimal_of (c ∷ cs)) (2 ^ 63)) _ _ _ r (λ q g. absurd (cc)) (λ q g. absurd (cc)))
 
+-- the digits of a number go on to its end, where no byte shows a float
+pub int-digits : (t : List ℕ) (i at e : ℕ) → i ≤ at → e ≤ length t → is_integral (slice_range t i e) ≡ true
+    → decimal_at t at ≡ taken tt e → int_part_at t at ≡ taken tt e
+int-digits t i at e low within integral read =
+    let part : (j : ℕ) × (int_part_at t at ≡ taken tt j) × (tail_at t j ≡ taken tt e) = extent_then-taken _ _ _ _ read in
+    let j = part.0 in
+    let f = extent_then-taken _ _ _ _ part.2 in
+    let digits = int_part_at-sound t at j part.1 in
+    let fraction = fraction_at-sound t j f.0 f.1 in
+    let exponent = exponent_at-sound t f.0 e f.2 in
+    let start = stands-length t at j digits.0 digits.1 in
+    let end : j ≤ e = omega (
+      arith,
+      stands-length t j f.0 fraction.0 fraction.1,
+      stands-length t f.0 e exponent.0 exponent.1,
+    ) in
+    elim (cases_lt j e) [
+      | inl ahead ↦ absurd
+          (integral-no_float (slice_range t i e) (slice_range t i e)
+          (sym (integral-is (slice_range t i e) integral)
+          ∙ number_value-tail t i j e (omega (arith, low, start)) ahead (omega (arith, end, within)) part.2))
+      | inr past ↦ let same : j ≡ e = omega (arith, past, end) in part.1 ∙ ap (taken tt) same
+    ]
+
 pub int-found : (x : Number) (e : ℕ) (n : ℤ) → int_of (taken x e) ≡ Some n → x ≡ integer n
 int-found (integer m) e n h = let same : m ≡ n = cc in ap integer same
 int-found (big w) e n h = absurd (cc)
@@ -90,7 +100,7 @@ module _ (w : List ℕ) (s : Stage) (begun : IsBegun w s) (whole : is_whole s �
   extent-whole : number_extent false w 0 ≡ taken tt (length w)
   extent-whole =
       subst (λ v. number_extent false v 0 ≡ number_from false s v (length w)) (append-nil w) (begun.goes false [])
-      ∙ whole-ended w (length w) (nothing-after w) false s whole
+      ∙ ended w (length w) (nothing-after w) false s ∙ ap (λ b. at_end b (length w)) whole
 
   is-text : IsNumberText false w
   is-text = subst (IsNumberText false) (whole-range w) (number_extent-sound w false 0 (length w) extent-whole)
@@ -110,28 +120,8 @@ module _ (w : List ℕ) (s : Stage) (begun : IsBegun w s) (whole : is_whole s �
     -- its digits go on to its end
     pub begun-digits : int_part_at w (minus_end w 0) ≡ taken tt (length w)
     begun-digits =
-        let at = minus_end w 0 in
-        let e = length w in
-        let read = extent-digits w 0 e begun-some extent-whole in
-        let part : (j : ℕ) × (int_part_at w at ≡ taken tt j) × (tail_at w j ≡ taken tt e) =
-        extent_then-taken _ _ _ _ read in
-        let j = part.0 in
-        let f = extent_then-taken _ _ _ _ part.2 in
-        let fraction = fraction_at-sound w j f.0 f.1 in
-        let exponent = exponent_at-sound w f.0 e f.2 in
-        let low : j ≤ e = omega (
-          arith,
-          stands-length w j f.0 fraction.0 fraction.1,
-          stands-length w f.0 e exponent.0 exponent.1,
-        ) in
-        elim (cases_lt j e) [
-          | inl ahead ↦
-              let float_text = number_value-tail w 0 j e (omega arith) ahead low part.2 in
-              absurd
-              (integral-no_float w w
-              (sym (integral-is w integral) ∙ subst (λ v. number_value v ≡ float v) (whole-range w) float_text))
-          | inr past ↦ let same : j ≡ e = omega (arith, past, low) in part.1 ∙ ap (taken tt) same
-        ]
+        int-digits w 0 (minus_end w 0) (length w) (omega arith) (omega arith) (ap is_integral (whole-range w) ∙ integral)
+        (extent-digits w 0 (length w) begun-some extent-whole)
 
     pub begun-big : int_of (number_at false w 0) ≡ None → number_value w ≡ big w
     begun-big none =

@@ -6,7 +6,7 @@ use Rattle.jiter_scan.specs.Ascii as ascii
 use Rattle.jiter_scan.specs.Kind.{expected_value, invalid_number}
 use Rattle.jiter_scan.specs.Number.{float, number_value, is_float_byte}
 use Rattle.jiter_scan.specs.NumberDecoder.{IsMinusTo}
-use Rattle.jiter_scan.specs.NumberReading.{extent_then, int_part_at, fraction_at, exponent_at, decimal_at}
+use Rattle.jiter_scan.specs.NumberReading.{int_part_at, decimal_at}
 use Rattle.jiter_scan.specs.NumberReading.{number_extent, int_at, integer_after, float_seen}
 use Rattle.jiter_scan.specs.Scanned.{Scanned, taken, failed}
 use Rattle.jiter_scan.specs.Word.{Extent, word_at}
@@ -41,12 +41,6 @@ pub record IsDecimalFrom (t : List ℕ) (i j : ℕ) : Type 0 where
 abbrev pub extent_end : Found → Scanned (Unit {0})
 extent_end (found.Int j e) = taken tt e
 extent_end (found.Float e) = taken tt e
-
--- an integer from i to before e, with its first digit at j, or another decimal number
-abbrev pub IsDecimalExtent : List ℕ → ℕ → Found → Type 0
-IsDecimalExtent t i (found.Int j e) = (j ≡ i) × (int_part_at t i ≡ taken tt e) × (i < e) × (e ≤ length t)
-IsDecimalExtent t i (found.Float e) =
-    (k : ℕ) × (i < k) × (k < e) × (e ≤ length t) × (extent_then (fraction_at t k) (exponent_at t) ≡ taken tt e)
 
 -- the text from i to before e, as a float
 pub record IsFloatText (t : List ℕ) (i e : ℕ) : Type 0 where

@@ -1,16 +1,16 @@
 //! Finds where numbers end, without their values (RFC 8259, 6).
 ghost use Rattle.std.specs.Prelude.{◌≡◌, ◌+◌, ◌<◌, ◌≤◌, Bool, IfOk, IfSome, IfNone, length, slice_get};
 ghost use Rattle.jiter_scan.specs.Digits.{digit_run_end};
-ghost use Rattle.jiter_scan.specs.NumberReading.{extent_then, digits_from, after_zero, within_limit, int_part_at};
-ghost use Rattle.jiter_scan.specs.NumberReading.{fraction_at, exponent_at, power_from, decimal_at, number_extent};
+ghost use Rattle.jiter_scan.specs.NumberReading.{after_zero, within_limit, int_part_at, number_extent};
 ghost use Rattle.jiter_scan.specs.NumberDecoder.{IsMinusTo};
-ghost use Rattle.jiter_scan.specs.NumberExtent.{IsDecimalExtent, IsDecimalFrom, IsExtent, IsNameFrom, extent_end, minus_end};
+ghost use Rattle.jiter_scan.specs.NumberExtent.{IsDecimalFrom, IsExtent, IsNameFrom, extent_end, minus_end};
 ghost use Rattle.jiter_scan.specs.NumberExtent.{name_extent};
 ghost use Rattle.jiter_scan.specs.Scanned.{Scans, taken};
 
-use crate::decimal::{digit_run_end, digits_end, is_digit};
+use crate::decimal::{digits_end, is_digit};
 use crate::errors::{Fault, FaultKind, fault_at};
 use crate::fast_number::{FastNumber, padded_number_at};
+use crate::partial_number::{Stage, is_int_stage, stages_end};
 use crate::word::{byte_at, word_end};
 
 /// How many bytes the fast path may read for a short number: a minus, and 65 from its first digit on.
@@ -18,24 +18,6 @@ pub const NUMBER_REACH: usize = 66;
 
 // The most digits that an integer part may have.
 const DIGIT_LIMIT: usize = 4300;
-
-fn some_digits_end(bytes: &[u8], from: usize) -> Result<usize, Fault>
-    requires { from ≤ length bytes.now }
-    ensures value { Scans (taken tt) result
-        (digits_from bytes.now from (slice_get bytes.now from)) }
-    ensures place { IfOk result (λ e. (from ≤ e) × (e ≤ length bytes.now)) }
-{
-    match byte_at(bytes, from) {
-        None => Err(fault_at(FaultKind::EofWhileParsingValue, from)),
-        Some(byte) => {
-            if is_digit(byte) {
-                Ok(digit_run_end(bytes, from))
-            } else {
-                Err(fault_at(FaultKind::InvalidNumber, from))
-            }
-        }
-    }
-}
 
 // No digit may follow a leading zero.
 fn zero_end(bytes: &[u8], at: usize) -> Result<usize, Fault>
@@ -83,69 +65,6 @@ pub(crate) fn int_part_end(bytes: &[u8], at: usize) -> Result<usize, Fault>
             }
         }
     }
-}
-
-fn fraction_end(bytes: &[u8], at: usize) -> Result<usize, Fault>
-    requires { at ≤ length bytes.now }
-    ensures value { Scans (taken tt) result (fraction_at bytes.now at) }
-    ensures place { IfOk result (λ e. (at ≤ e) × (e ≤ length bytes.now)) }
-{
-    match byte_at(bytes, at) {
-        None => Ok(at),
-        Some(byte) => {
-            if byte == b'.' {
-                some_digits_end(bytes, at + 1)
-            } else {
-                Ok(at)
-            }
-        }
-    }
-}
-
-// The letter of the exponent is before `at`.
-fn power_end(bytes: &[u8], at: usize) -> Result<usize, Fault>
-    requires { at ≤ length bytes.now }
-    ensures value { Scans (taken tt) result (power_from bytes.now at (slice_get bytes.now at)) }
-    ensures place { IfOk result (λ e. (at ≤ e) × (e ≤ length bytes.now)) }
-{
-    match byte_at(bytes, at) {
-        None => Err(fault_at(FaultKind::EofWhileParsingValue, at)),
-        Some(byte) => {
-            if byte == b'+' || byte == b'-' {
-                some_digits_end(bytes, at + 1)
-            } else {
-                some_digits_end(bytes, at)
-            }
-        }
-    }
-}
-
-fn exponent_end(bytes: &[u8], at: usize) -> Result<usize, Fault>
-    requires { at ≤ length bytes.now }
-    ensures value { Scans (taken tt) result (exponent_at bytes.now at) }
-    ensures place { IfOk result (λ e. (at ≤ e) × (e ≤ length bytes.now)) }
-{
-    match byte_at(bytes, at) {
-        None => Ok(at),
-        Some(byte) => {
-            if byte == b'e' || byte == b'E' {
-                power_end(bytes, at + 1)
-            } else {
-                Ok(at)
-            }
-        }
-    }
-}
-
-// The tail is the fraction and the exponent; each may be missing.
-pub(crate) fn tail_end(bytes: &[u8], at: usize) -> Result<usize, Fault>
-    requires { at ≤ length bytes.now }
-    ensures value { Scans (taken tt) result
-        (extent_then (fraction_at bytes.now at) (exponent_at bytes.now)) }
-    ensures place { IfOk result (λ e. (at ≤ e) × (e ≤ length bytes.now)) }
-{
-    let end = fraction_end(bytes, at)?;
-    exponent_end(bytes, end)
 }
 
 // What a number is, and where it ends.
@@ -199,33 +118,23 @@ fn name_end(
     }
 }
 
-fn decimal_extent(bytes: &[u8], from: usize) -> Result<Extent, Fault>
-    requires { from ≤ length bytes.now }
-    ensures value { Scans extent_end result (decimal_at bytes.now from) }
-    ensures parts { IfOk result (λ extent. IsDecimalExtent bytes.now from extent) }
-{
-    let int_part = int_part_end(bytes, from)?;
-    let end = tail_end(bytes, int_part)?;
-    if end == int_part {
-        Ok(Extent::Int(from, end))
-    } else {
-        Ok(Extent::Float(end))
-    }
-}
-
-// The slow path reads part by part.
+// The slow path goes through the stages of the number.
+#[tactic(auto, using(crate::proofs::NumberStarts::found_extent, crate::proofs::NumberStarts::found_int))]
 pub(crate) fn number_extent(bytes: &[u8], at: usize, allow_inf_nan: bool) -> Result<Extent, Fault>
     requires { at < length bytes.now }
     ensures value { Scans extent_end result (number_extent allow_inf_nan bytes.now at) }
     ensures parts { IfOk result (λ extent. IsExtent bytes.now at extent) }
 {
     let from = minus_end(bytes, at);
-    match name_from(bytes, at, from) {
-        None => decimal_extent(bytes, from),
-        Some(name) => {
-            let end = name_end(bytes, at, from, name, allow_inf_nan)?;
-            Ok(Extent::Float(end))
-        }
+    if let Some(name) = name_from(bytes, at, from) {
+        let end = name_end(bytes, at, from, name, allow_inf_nan)?;
+        return Ok(Extent::Float(end));
+    }
+    let (stage, end, ended) = stages_end(Stage::Minus, bytes, from);
+    match ended {
+        Ok(()) if is_int_stage(stage) => Ok(Extent::Int(from, end)),
+        Ok(()) => Ok(Extent::Float(end)),
+        Err(fault) => Err(fault),
     }
 }
 

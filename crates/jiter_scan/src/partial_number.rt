@@ -7,18 +7,19 @@ ghost use Rattle.std.specs.Str.{IsAscii};
 ghost use Rattle.jiter_scan.specs.Number.{big, integer, is_float_byte, number_value};
 ghost use Rattle.jiter_scan.specs.NumberExtent.{minus_end};
 ghost use Rattle.jiter_scan.specs.NumberReading.{exponent_at, decimal_at, int_part_at, number_extent, number_at};
-ghost use Rattle.jiter_scan.specs.Scanned.{taken};
+ghost use Rattle.jiter_scan.specs.Scanned.{Scans, taken};
 ghost use Rattle.jiter_scan.specs.PartialNumber.{BeginsThere, Fits, GoesTo, HoldsNumber, IsBegun, Leads, at_end, begins_decimal};
 ghost use Rattle.jiter_scan.specs.PartialNumber.{int_of, is_int_stage, is_whole, kept_bytes, kind_view};
 ghost use Rattle.jiter_scan.specs.PartialNumber.{number_by, number_from, own_view, tail_at};
 
-use crate::decimal::is_digit;
+use crate::decimal::{digit_run_end, is_digit};
+use crate::errors::{Fault, FaultKind, fault_at};
 use crate::memory::{AllocFailed, push_text};
 use crate::number_decoder::{NumberInt, long_integer};
 use crate::number_extent::minus_end;
 use crate::text::ascii_text;
 use std::alloc::Global;
-use std::mem;
+use std::{cmp, mem};
 
 // How many digits an integer part may have after its first one.
 const MORE_DIGITS: usize = 4299;
@@ -98,161 +99,30 @@ fn first_stage(byte: u8) -> Stage
 }
 
 #[inline(always)]
-fn first_digit(byte: u8) -> Went
-    ensures leads { (names : Bool) (t : List ℕ) (j : ℕ) → slice_get t j ≡ Some byte
-        → decimal_at t j ≡ number_by names t j result }
-    ensures fits { Fits Stage.Minus byte result }
-{
-    if byte == b'0' {
-        Went::Taken(Stage::Zero)
-    } else if is_digit(byte) {
-        Went::Taken(Stage::Digits(MORE_DIGITS))
-    } else {
-        Went::Invalid
-    }
-}
-
-#[inline(always)]
-fn after_minus(byte: u8) -> Went
-    ensures leads { Leads Stage.Minus byte result }
-    ensures fits { Fits Stage.Minus byte result }
-{
-    if byte == b'I' {
-        Went::Named
-    } else {
-        first_digit(byte)
-    }
-}
-
-#[inline(always)]
-fn after_fraction(byte: u8) -> Went
-    ensures leads { (names : Bool) (t : List ℕ) (j : ℕ) → slice_get t j ≡ Some byte
-        → exponent_at t j ≡ number_by names t j result }
-    ensures fits { (s : Stage) → is_whole s ≡ true → Fits s byte result }
-{
-    if byte == b'e' || byte == b'E' {
-        Went::Taken(Stage::Letter)
-    } else {
-        Went::Over
-    }
-}
-
-#[inline(always)]
-fn after_int_part(byte: u8) -> Went
-    ensures leads { (names : Bool) (t : List ℕ) (j : ℕ) → slice_get t j ≡ Some byte
-        → tail_at t j ≡ number_by names t j result }
-    ensures fits { (s : Stage) → is_whole s ≡ true → Fits s byte result }
-{
-    if byte == b'.' {
-        Went::Taken(Stage::Point)
-    } else {
-        after_fraction(byte)
-    }
-}
-
-#[inline(always)]
-fn after_zero(byte: u8) -> Went
-    ensures leads { Leads Stage.Zero byte result }
-    ensures fits { Fits Stage.Zero byte result }
-{
-    if is_digit(byte) {
-        Went::Invalid
-    } else {
-        after_int_part(byte)
-    }
-}
-
-// The integer part may have `room` more digits.
-#[inline(always)]
-fn after_digit(room: usize, byte: u8) -> Went
-    ensures leads { Leads (Stage.Digits room) byte result }
-    ensures fits { Fits (Stage.Digits room) byte result }
-{
-    if is_digit(byte) {
-        if room == 0 {
-            Went::TooLong
-        } else {
-            Went::Taken(Stage::Digits(room - 1))
-        }
-    } else {
-        after_int_part(byte)
-    }
-}
-
-#[inline(always)]
-fn after_point(byte: u8) -> Went
-    ensures leads { Leads Stage.Point byte result }
-    ensures fits { Fits Stage.Point byte result }
-{
-    if is_digit(byte) {
-        Went::Taken(Stage::Fraction)
-    } else {
-        Went::Invalid
-    }
-}
-
-#[inline(always)]
-fn after_fraction_digit(byte: u8) -> Went
-    ensures leads { Leads Stage.Fraction byte result }
-    ensures fits { Fits Stage.Fraction byte result }
-{
-    if is_digit(byte) {
-        Went::Taken(Stage::Fraction)
-    } else {
-        after_fraction(byte)
-    }
-}
-
-#[inline(always)]
-fn after_sign(byte: u8) -> Went
-    ensures leads { Leads Stage.Sign byte result }
-    ensures fits { (s : Stage) → is_int_stage s ≡ false → Fits s byte result }
-{
-    if is_digit(byte) {
-        Went::Taken(Stage::Exponent)
-    } else {
-        Went::Invalid
-    }
-}
-
-#[inline(always)]
-fn after_letter(byte: u8) -> Went
-    ensures leads { Leads Stage.Letter byte result }
-    ensures fits { Fits Stage.Letter byte result }
-{
-    if byte == b'+' || byte == b'-' {
-        Went::Taken(Stage::Sign)
-    } else {
-        after_sign(byte)
-    }
-}
-
-#[inline(always)]
-fn after_exponent_digit(byte: u8) -> Went
-    ensures leads { Leads Stage.Exponent byte result }
-    ensures fits { Fits Stage.Exponent byte result }
-{
-    if is_digit(byte) {
-        Went::Taken(Stage::Exponent)
-    } else {
-        Went::Over
-    }
-}
-
-#[inline(always)]
+#[tactic(auto, using(crate::proofs::OpenNumbers::next_digits))]
 fn next_of(stage: Stage, byte: u8) -> Went
     ensures leads { Leads stage byte result }
     ensures fits { Fits stage byte result }
 {
+    if is_digit(byte) {
+        return match stage {
+            Stage::Minus if byte == b'0' => Went::Taken(Stage::Zero),
+            Stage::Minus => Went::Taken(Stage::Digits(MORE_DIGITS)),
+            Stage::Zero => Went::Invalid,
+            Stage::Digits(room) if room == 0 => Went::TooLong,
+            Stage::Digits(room) => Went::Taken(Stage::Digits(room - 1)),
+            Stage::Point | Stage::Fraction => Went::Taken(Stage::Fraction),
+            Stage::Letter | Stage::Sign | Stage::Exponent => Went::Taken(Stage::Exponent),
+        };
+    }
+    let letter = byte == b'e' || byte == b'E';
     match stage {
-        Stage::Minus => after_minus(byte),
-        Stage::Zero => after_zero(byte),
-        Stage::Digits(room) => after_digit(room, byte),
-        Stage::Point => after_point(byte),
-        Stage::Fraction => after_fraction_digit(byte),
-        Stage::Letter => after_letter(byte),
-        Stage::Sign => after_sign(byte),
-        Stage::Exponent => after_exponent_digit(byte),
+        Stage::Minus if byte == b'I' => Went::Named,
+        Stage::Letter if byte == b'+' || byte == b'-' => Went::Taken(Stage::Sign),
+        Stage::Minus | Stage::Point | Stage::Letter | Stage::Sign => Went::Invalid,
+        Stage::Zero | Stage::Digits(_) if byte == b'.' => Went::Taken(Stage::Point),
+        Stage::Zero | Stage::Digits(_) | Stage::Fraction if letter => Went::Taken(Stage::Letter),
+        Stage::Zero | Stage::Digits(_) | Stage::Fraction | Stage::Exponent => Went::Over,
     }
 }
 
@@ -271,36 +141,77 @@ fn integer_in(text: &[u8]) -> Option<i64>
 
 // The number has neither a point nor an exponent so far.
 #[inline(always)]
-fn is_int_stage(stage: Stage) -> bool
+pub(crate) fn is_int_stage(stage: Stage) -> bool
     ensures { result ≡ is_int_stage stage }
 {
+    matches!(stage, Stage::Minus | Stage::Zero | Stage::Digits(_))
+}
+
+// The bytes so far are a number.
+#[inline(always)]
+#[tactic(auto, using(crate::proofs::OpenNumbers::ended))]
+fn is_whole(stage: Stage) -> bool
+    ensures value { result ≡ is_whole stage }
+    ensures ends { (names : Bool) (t : List ℕ) (j : ℕ) → slice_get t j ≡ None
+        → number_from names stage t j ≡ at_end result j }
+{
+    !matches!(
+        stage,
+        Stage::Minus | Stage::Point | Stage::Letter | Stage::Sign
+    )
+}
+
+// Returns the stage after the digits at `at` that follow the first one of their part, and the index after them.
+#[inline(always)]
+fn run_end(stage: Stage, bytes: &[u8], at: usize) -> (Stage, usize)
+    requires { at ≤ length bytes.now }
+    ensures { GoesTo stage bytes.now at result.0 result.1 }
+{
     match stage {
-        Stage::Minus => true,
-        Stage::Zero => true,
-        Stage::Digits(_) => true,
-        Stage::Point => false,
-        Stage::Fraction => false,
-        Stage::Letter => false,
-        Stage::Sign => false,
-        Stage::Exponent => false,
+        Stage::Fraction | Stage::Exponent => (stage, digit_run_end(bytes, at)),
+        Stage::Digits(room) => {
+            let count = cmp::min(digit_run_end(bytes, at) - at, room);
+            (Stage::Digits(room - count), at + count)
+        }
+        _ => (stage, at),
     }
 }
 
-// Returns the stage after all bytes at `at` that continue the number, and the index after them.
-fn bytes_end(stage: Stage, piece: &[u8], at: usize) -> (Stage, usize)
-    requires { at ≤ length piece.now }
-    ensures { GoesTo stage piece.now at result.0 result.1 }
+// Returns the stage after all bytes at `at` that continue the number, the index after them, and the error if the number
+// can't end there.
+#[tactic(auto, using(std::proofs::lemmas::Option::gets, crate::proofs::NumberParts::goes_next))]
+pub(crate) fn stages_end(stage: Stage, bytes: &[u8], at: usize) -> (Stage, usize, Result<(), Fault>)
+    requires { at ≤ length bytes.now }
+    ensures goes { GoesTo stage bytes.now at result.0 result.1 }
+    ensures ends { Scans (λ _. taken tt result.1) result.2 (number_from false result.0 bytes.now result.1) }
 {
     let mut reached = stage;
     let mut end = at;
-    while end < piece.len() {
-        match next_of(reached, piece[end]) {
-            Went::Taken(next) => reached = next,
-            _ => break,
+    while end < bytes.len() {
+        match next_of(reached, bytes[end]) {
+            Went::Taken(next) => (reached, end) = run_end(next, bytes, end + 1),
+            Went::Over => return (reached, end, Ok(())),
+            Went::TooLong => {
+                return (
+                    reached,
+                    end,
+                    Err(fault_at(FaultKind::NumberOutOfRange, end + 1)),
+                );
+            }
+            Went::Named | Went::Invalid => {
+                return (reached, end, Err(fault_at(FaultKind::InvalidNumber, end)));
+            }
         }
-        end += 1;
     }
-    (reached, end)
+    if is_whole(reached) {
+        (reached, end, Ok(()))
+    } else {
+        (
+            reached,
+            end,
+            Err(fault_at(FaultKind::EofWhileParsingValue, end)),
+        )
+    }
 }
 
 /// Returns the stage that the bytes of the number at `at` reach, and the index after them. The number begins with a
@@ -311,7 +222,8 @@ pub fn begun_at(piece: &[u8], at: usize) -> (Stage, usize)
     requires begins { begins_decimal (slice_index piece.now at) ≡ true }
     ensures { BeginsThere piece.now at result.0 result.1 }
 {
-    bytes_end(first_stage(piece[at]), piece, at + 1)
+    let (stage, end, _) = stages_end(first_stage(piece[at]), piece, at + 1);
+    (stage, end)
 }
 
 /// A number that a chunk may truncate: its bytes so far, and the stage that they reach.
@@ -388,7 +300,7 @@ impl PartialNumber {
         ensures full { OnErr result (string_capacity self.old.text
             < string_len self.old.text + (length piece.now - at)) }
     {
-        let (after, end) = bytes_end(stage, piece, at + 1);
+        let (after, end, _) = stages_end(stage, piece, at + 1);
         self.take(after, piece, at, end)?;
         Ok(end - at)
     }
@@ -399,16 +311,7 @@ impl PartialNumber {
         ensures ends { (names : Bool) (t : List ℕ) (j : ℕ) → slice_get t j ≡ None
             → number_from names self.now.stage t j ≡ at_end result j }
     {
-        match self.stage {
-            Stage::Zero => true,
-            Stage::Digits(_) => true,
-            Stage::Fraction => true,
-            Stage::Exponent => true,
-            Stage::Minus => false,
-            Stage::Point => false,
-            Stage::Letter => false,
-            Stage::Sign => false,
-        }
+        is_whole(self.stage)
     }
 
     fn small_integer(&self) -> Option<i64>

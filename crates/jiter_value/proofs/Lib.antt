@@ -22,5 +22,6 @@ pub mod Pointing
 pub mod Shapes
 pub mod Placed
 pub mod Repeats
+pub mod Taking
 pub mod KeptKeys
 pub mod DuplicateKeys

@@ -1,7 +1,7 @@
 -- A key that its object has already, and what its reading is.
 use Rattle.std.proofs.Common.{◌≡◌, ◌≢◌, ℕ, zero, suc, ◌<◌, true, false, List, [], ◌∷◌, length}
 use Rattle.std.proofs.Common.{take, drop, map, refl, sym, ap, ◌∙◌, arith, cond, subst}
-use Rattle.std.specs.Prelude.{◌||◌, reverse, string_bytes, Option, Some, None, Result, Err}
+use Rattle.std.specs.Prelude.{◌||◌, Bool, reverse, string_bytes, Option, Some, None, Result, Err}
 use Rattle.std.specs.Str.{bytes_eq}
 use Rattle.jiter_scan.specs.Kind.{Kind, duplicate_key}
 use Rattle.jiter_scan.specs.Scanned.{taken, failed}
@@ -16,10 +16,11 @@ use Rattle.jiter_steps.specs.Tree.{Text, Tree}
 use Rattle.jiter_steps.specs.Unique.{own_bytes, is_among, after_its_colon}
 use Rattle.jiter_steps.proofs.Calls.Resumed.{if_forgiven-no, resume-fault}
 use Rattle.jiter_value.specs.Settings.{Keeping, lent_unique, forgives, rules_as, answer_as}
-use Rattle.jiter_value.specs.Stacks.{Member, member_view, frames, HaveKeyBase, refused_in, key_in, meaning}
-use Rattle.jiter_value.specs.Turns.{Proceeds, IsWithin}
+use Rattle.jiter_value.specs.Stacks.{Member, member_view, frames, HaveKeyBase, IsFree, StandsAtKey, refused_in, key_in}
+use Rattle.jiter_value.specs.Stacks.{meaning}
+use Rattle.jiter_value.specs.Turns.{IsKeyRead, Proceeds, IsWithin}
 use Rattle.jiter_value.specs.UniqueKeys.{has_key, innermost_base, StopsAtKey, GivesUnique, WhereUniqueRefused}
-use Rattle.jiter_value.specs.UniqueKeys.{GivesUniqueWhole}
+use Rattle.jiter_value.specs.UniqueKeys.{GivesUniqueWhole, fault_at_key, object_has_key}
 use Rattle.jiter_value.specs.Reading.{GivesWhole}
 use Rattle.jiter_value.proofs.MadeTexts.{answer_as-unique}
 use Rattle.jiter_value.proofs.WholeTextAnswers.{answer-none, answer-fault, answer-refused}
@@ -41,36 +42,55 @@ has_key-among : (key : List ℕ) (ms : List Member)
 has_key-among key [] = refl
 has_key-among key (m ∷ ms) = ap (λ b. bytes_eq key (text_view m.0).bytes || b) (has_key-among key ms)
 
+either-way : {A : Type 0} (b : Bool) (x y : A) → x ≡ y → cond b x y ≡ y
+either-way true x y is = is
+either-way false x y is = refl
+
 -- The fault of a key, where this is read of it.
-module _ (t : List ℕ) (os : List Open) (n : ℕ) (ms : List Member) (i : ℕ) (stands : HaveKeyBase os n (length ms)) where
-  abbrev AllocFailed : Option (Kind × ℕ)
-  AllocFailed = refused_in lent_unique t os ms i
+module _ (made : Keeping) (t : List ℕ) (os : List Open) (n : ℕ) (ms : List Member) (i : ℕ)
+    (stands : HaveKeyBase os n (length ms)) where
+  abbrev Refused : Option (Kind × ℕ)
+  Refused = refused_in made t os ms i
 
   refused-read : (os : List Open) → HaveKeyBase os n (length ms) → (k : Text) (e : ℕ) → string_at whole t i ≡ taken k e
-      → refused_in lent_unique t os ms i
-      ≡ cond (has_key k.bytes (drop (innermost_base os) ms)) (after_its_colon k.bytes (step t colon e)) None
+      → refused_in made t os ms i ≡ cond made.unique
+      (cond (has_key k.bytes (drop (innermost_base os) ms)) (after_its_colon k.bytes (step t colon e)) None) None
   refused-read [] b k e is = absurd b
   refused-read (o ∷ os) b k e is =
       let among = has_key-among k.bytes (drop o.base ms) in
       rw (is, among) refl
 
   refused-failed : (os : List Open) → HaveKeyBase os n (length ms) → (k : Kind) (j : ℕ)
-      → string_at whole t i ≡ failed k j
-      → refused_in lent_unique t os ms i ≡ None
+      → string_at whole t i ≡ failed k j → refused_in made t os ms i ≡ None
   refused-failed [] b k j is = absurd b
-  refused-failed (o ∷ os) b k j is = rw is refl
+  refused-failed (o ∷ os) b k j is = rw is (either-way made.unique None None refl)
 
-  pub no-key : (k : Kind) (j : ℕ) → string_at whole t i ≡ failed k j → AllocFailed ≡ None
+  pub no-key : (k : Kind) (j : ℕ) → string_at whole t i ≡ failed k j → Refused ≡ None
   no-key k j is = refused-failed os stands k j is
 
-  pub new-key : (k : Text) (e : ℕ) → string_at whole t i ≡ taken k e
-      → has_key k.bytes (drop (innermost_base os) ms) ≡ false → AllocFailed ≡ None
-  new-key k e is other = refused-read os stands k e is ∙ (rw other refl)
+  pub no-colon : (k : Text) (e : ℕ) (x : Kind) (j : ℕ) → string_at whole t i ≡ taken k e → step t colon e ≡ failed x j
+      → Refused ≡ None
+  no-colon k e x j is fails =
+      let has = has_key k.bytes (drop (innermost_base os) ms) in
+      refused-read os stands k e is
+      ∙ ap (λ s. cond made.unique (cond has (after_its_colon k.bytes s) None) None) fails
+      ∙ either-way made.unique (cond has None None) None (either-way has None None refl)
 
-  pub old-key : (k : Text) (e : ℕ) → string_at whole t i ≡ taken k e
-      → has_key k.bytes (drop (innermost_base os) ms) ≡ true
-      → AllocFailed ≡ after_its_colon k.bytes (step t colon e)
-  old-key k e is same = refused-read os stands k e is ∙ (rw same refl)
+  pub key-read : made.unique ≡ true → (k : Text) (e : ℕ) → string_at whole t i ≡ taken k e
+      → Refused ≡ cond (has_key k.bytes (drop (innermost_base os) ms)) (after_its_colon k.bytes (step t colon e)) None
+  key-read unique k e is = refused-read os stands k e is ∙ (rw unique refl)
+
+-- The same where the key was read: a repeated key's fault.
+pub refused-key : (t : List ℕ) (s : Stacks) (i e j : ℕ) (k : Text) → StandsAtKey s → IsKeyRead lent_unique t i e j k
+    → refused_in lent_unique t (reverse s.nest.items) s.members.items i ≡ fault_at_key k.bytes s t e
+refused-key t s i e j k stands h =
+    key-read lent_unique t (reverse s.nest.items) (length s.items.items) s.members.items i stands refl h.key e h.read
+    ∙ ap (λ x. fault_at_key x.bytes s t e) (sym h.kept)
+
+pub free-key : (t : List ℕ) (s : Stacks) (i e j : ℕ) (k : Text) → StandsAtKey s → IsKeyRead lent_unique t i e j k
+    → object_has_key k.bytes s ≡ false → IsFree lent_unique t s i
+free-key t s i e j k stands h new =
+    refused-key t s i e j k stands h ∙ ap (λ b. cond b (after_its_colon k.bytes (step t colon e)) None) new
 
 -- A repeated key's fault is that of the reading: no container forgives it.
 refused-part : {K A P : Type 0} (r : Rules K A) (c : Container P A) (t : List ℕ) (n : ℕ) (parts : List P) (j : ℕ)

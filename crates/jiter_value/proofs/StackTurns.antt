@@ -123,7 +123,7 @@ pub scalar-taken : {A : Type 0} (i : ℕ) (x : Scanned A) (a : A) (e : ℕ) → 
 scalar-taken i (taken b d) a e h = cc
 scalar-taken i (failed k j) a e h = absurd (cc)
 
-scalar-failed : {A : Type 0} (i : ℕ) (x : Scanned A) (k : Kind) (j stop : ℕ) → scalar_at i x ≡ fault k j stop
+pub scalar-failed : {A : Type 0} (i : ℕ) (x : Scanned A) (k : Kind) (j stop : ℕ) → scalar_at i x ≡ fault k j stop
     → (x ≡ failed k j) × (stop ≡ i)
 scalar-failed i (taken b d) k j stop h = absurd (cc)
 scalar-failed i (failed l m) k j stop h = (cc, cc)

@@ -1,6 +1,6 @@
 -- Where turns lead.
-use Rattle.std.proofs.Common.{◌≡◌, ◌≢◌, ◌∙◌, inl, inr, ℕ, ◌+◌, ◌≤◌, List, ap, arith, length, refl, subst, sym, take}
-use Rattle.std.proofs.Common.{take-take}
+use Rattle.std.proofs.Common.{◌≡◌, ◌≢◌, ◌∙◌, inl, inr, ℕ, ◌+◌, ◌≤◌, List, ap, arith, eqb, false, length, not, refl, subst, sym, take}
+use Rattle.std.proofs.Common.{take-take, true}
 use Rattle.std.proofs.lemmas.List.{length-take}
 use Rattle.jiter_value.proofs.KeptKeys.{key_count}
 use Rattle.std.specs.Prelude.{OnOk, Result, Ok, Err}
@@ -19,6 +19,11 @@ use Rattle.jiter_value.specs.declared.stacks.Slot.TheVariants as slot
 use Rattle.jiter_value.specs.declared.stacks.Stacks.{Stacks}
 use Rattle.jiter_value.specs.declared.stacks.State.{State}
 use Rattle.jiter_value.specs.declared.stacks.State.TheVariants as state
+
+pub not-once : (n : ℕ) → not (eqb n 0) ≡ true → n ≡ 0 → ⊥
+not-once n on is =
+    let no : false ≡ true = rw is at on in
+    absurd (cc)
 
 -- A state at which more is awaited,
 pub goes-on : (a : State) → a ≢ state.Done → a ≢ state.GivenUp → GoesOn a

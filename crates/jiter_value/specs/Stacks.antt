@@ -4,8 +4,6 @@ use Rattle.std.specs.Prelude.{vec_len, vec_capacity, Option, None}
 use Rattle.std.specs.declared.alloc.Global.{Global}
 use Rattle.std.specs.declared.borrow.CowStr.{CowStr}
 use Rattle.jiter_scan.specs.Kind.{Kind, eof_object}
-use Rattle.jiter_scan.specs.Scanned.{Scanned, taken, failed}
-use Rattle.jiter_steps.specs.StringReading.{string_at, whole}
 use Rattle.jiter_steps.specs.Tree.{Text, Tree, array, object, items_of, members_of}
 use Rattle.jiter_steps.specs.Read.{Reading, done, fault, if_forgiven}
 use Rattle.jiter_steps.specs.Step.{end_kind_of}
@@ -53,25 +51,6 @@ pub record LeavesKeys (old new : List Member) : Type 0 where
 -- The members have the first of these keys.
 abbrev pub HaveKeys : List (List ℕ) → List Member → Type 0
 HaveKeys ks ms = keys_of ms ≡ take (length ms) ks
-
--- the key at j, as it is kept, if one is read there
-abbrev pub key_seen : Keeping → Scanned Text → List (List ℕ)
-key_seen made (taken k e) = (made.text k).bytes ∷ []
-key_seen made (failed k x) = []
-
--- the members' keys, and the key at j where one is awaited there
-abbrev pub keys_then : Keeping → List ℕ → List Member → State → ℕ → List (List ℕ)
-keys_then made t ms state.Key j = keys_of ms ++ key_seen made (string_at whole t j)
-keys_then made t ms state.Root j = keys_of ms
-keys_then made t ms state.Item j = keys_of ms
-keys_then made t ms state.Member j = keys_of ms
-keys_then made t ms state.Done j = keys_of ms
-keys_then made t ms state.GivenUp j = keys_of ms
-
--- The members that are left have the first of the keys that there were, and of the key at j where one is awaited there.
-pub record KeepsKeys (made : Keeping) (t : List ℕ) (old : List Member) (a : State) (j : ℕ) (new : List Member) : Type 0
-  where
-    pub keys : keys_of new ≡ take (length new) (keys_then made t old a j)
 
 -- all members but the last
 abbrev pub but_last : List Member → List Member

@@ -2,19 +2,21 @@
 use Rattle.std.specs.Prelude.{◌≡◌, ◌⊎◌, ℕ, ◌+◌, ◌≤◌, ◌<◌, Result, Ok, Err, OnOk, IfOk, Bool, true, false, List}
 use Rattle.std.specs.Prelude.{length}
 use Rattle.jiter_scan.specs.Kind.{fault_kind}
+use Rattle.jiter_scan.specs.Scanned.{taken}
 use Rattle.jiter_scan.specs.declared.errors.Fault.{Fault}
 use Rattle.jiter_scan.specs.declared.memory.AllocFailed.{AllocFailed}
 use Rattle.jiter_steps.specs.Frames.{resolve_step}
 use Rattle.jiter_steps.specs.Node.{nesting_limit}
 use Rattle.jiter_steps.specs.Read.{Reading as Answer, fault, value_at}
-use Rattle.jiter_steps.specs.Step.{Step, closed, stuck, step, container_first, container_step}
-use Rattle.jiter_steps.specs.Tree.{Tree}
+use Rattle.jiter_steps.specs.Step.{Step, closed, stuck, step, colon, container_first, container_step}
+use Rattle.jiter_steps.specs.StringReading.{string_at, whole}
+use Rattle.jiter_steps.specs.Tree.{Text, Tree}
 use Rattle.jiter_value.specs.Settings.{Keeping, forgives, rules_as}
 use Rattle.jiter_steps.specs.declared.parse.ContainerKind.{ContainerKind}
 use Rattle.jiter_steps.specs.declared.read_error.ReadError.{ReadError}
 use Rattle.jiter_steps.specs.declared.read_error.ReadError.TheVariants as error
 use Rattle.jiter_value.specs.Size.{value_size, key_size, after_size, held, left_at}
-use Rattle.jiter_value.specs.Stacks.{from_value, from_key, after, meaning, Stands, StandsAtKey}
+use Rattle.jiter_value.specs.Stacks.{from_value, from_key, after, meaning, HaveKeys, Stands, StandsAtKey}
 use Rattle.jiter_value.specs.declared.settings.Settings.{Settings}
 use Rattle.jiter_value.specs.declared.stacks.Slot.{Slot}
 use Rattle.jiter_value.specs.declared.stacks.Slot.TheVariants as slot
@@ -124,6 +126,23 @@ pub record IsKeyAt (made : Keeping) (t : List ℕ) (old : Stacks) (i : ℕ) (new
   pub held : value_size new slot.Member ≡ key_size old + 1
   pub ahead : i < j
   pub within : j < length t
+
+-- The key at i ends before e and its colon before j, and this is kept of it.
+pub record IsKeyRead (made : Keeping) (t : List ℕ) (i e j : ℕ) (k : Text) : Type 0 where
+  pub key : Text
+  pub read : string_at whole t i ≡ taken key e
+  pub kept : k ≡ made.text key
+  pub colon : step t colon e ≡ taken tt j
+  pub within : (i < e) × (e ≤ length t)
+
+-- A turn at the key at i proceeds, and knows the keys of the members then; or it is stopped, and nothing has changed.
+pub record HasTakenKey (made : Keeping) (p : Settings) (t : List ℕ) (i : ℕ) (old new : Stacks) (r : ℕ × State)
+    (stopped : Bool) (Knows : List (List ℕ) → Type 0) (Refuses : Type 0) : Type 0 where
+  pub leads : stopped ≡ false → Proceeds made p t i (left t old i) (key_size old + 1) (from_key made p t old i) new r
+  pub keys : stopped ≡ false
+      → OnOk (outcome new r.1) ((ks : List (List ℕ)) × Knows ks × HaveKeys ks new.members.items)
+  pub refused : stopped ≡ true → Refuses
+  pub same : stopped ≡ true → new ≡ old
 
 -- From the place i on the reading is given up at e, since memory was refused.
 pub record IsRefusedAt (t : List ℕ) (i : ℕ) (s : Stacks) (e : ℕ) : Type 0 where

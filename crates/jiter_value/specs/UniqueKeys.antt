@@ -1,14 +1,16 @@
 -- What a reading returns that refuses repeated keys.
-use Rattle.std.specs.Prelude.{◌≡◌, ℕ, ◌≤◌, Bool, List, [], ◌∷◌, length, reverse, Result, Ok, Err, Option, Some, None}
-use Rattle.std.specs.Prelude.{string_bytes}
+use Rattle.std.specs.Prelude.{◌≡◌, ℕ, ◌≤◌, Bool, List, [], ◌∷◌, drop, length, reverse, Result, Ok, Err, Option, Some, None}
+use Rattle.std.specs.Prelude.{if◌then◌else◌, string_bytes}
 use Rattle.std.specs.List.{list_any}
 use Rattle.std.specs.Str.{bytes_eq}
 use Rattle.jiter_scan.specs.Kind.{Kind, fault_kind, duplicate_key}
 use Rattle.jiter_steps.specs.Parse.{Gives}
 use Rattle.jiter_steps.specs.Read.{Reading, done, fault}
 use Rattle.jiter_steps.specs.ReadError.{WhereRefused}
+use Rattle.jiter_steps.specs.Step.{step, colon}
 use Rattle.jiter_steps.specs.StringDecoder.{text_view}
 use Rattle.jiter_steps.specs.Tree.{Tree}
+use Rattle.jiter_steps.specs.Unique.{after_its_colon}
 use Rattle.jiter_steps.specs.declared.read_error.ReadError.TheVariants as error
 use Rattle.jiter_value.specs.Reading.{GivesWhole}
 use Rattle.jiter_value.specs.Settings.{lent_unique}
@@ -31,6 +33,14 @@ has_key key ms = list_any (λ m. bytes_eq key (text_view m.0).bytes) ms
 abbrev pub innermost_base : List Open → ℕ
 innermost_base [] = 0
 innermost_base (o ∷ os) = o.base
+
+-- one of the members of the innermost object has this key
+abbrev pub object_has_key : List ℕ → Stacks → Bool
+object_has_key key s = has_key key (drop (innermost_base (reverse s.nest.items)) s.members.items)
+
+-- the fault of this key, which ends before e, where the innermost object has it already
+abbrev pub fault_at_key : List ℕ → Stacks → List ℕ → ℕ → Option (Kind × ℕ)
+fault_at_key key s t e = if object_has_key key s then after_its_colon key (step t colon e) else None
 
 -- the fault of a repeated key
 abbrev pub fault_of : Repeated → Kind × ℕ

@@ -178,12 +178,13 @@ fn last_named<'v, 's>(members: &'v JsonObject<'s>, name: &str) -> Option<&'v Jso
     ensures { option_map (λ v. view v.now) result
         ≡ last_such (λ key. bytes_eq key name.now) None (member_views members.now.items) }
 {
-    let mut found = None;
-    for i in 0..members.len() {
-        let member = &members[i];
+    let mut rest = members.len();
+    while rest > 0 {
+        rest -= 1;
+        let member = &members[rest];
         if member.0.as_str() == name {
-            found = Some(&member.1);
+            return Some(&member.1);
         }
     }
-    found
+    None
 }

@@ -82,14 +82,15 @@ fn last_spelled<'v, 's>(members: &'v JsonObject<'s>, token: &str) -> Option<&'v 
         ≡ last_such (λ name. bytes_eq (token_of name) token.now) None
         (member_views members.now.items) }
 {
-    let mut found = None;
-    for i in 0..members.len() {
-        let member = &members[i];
+    let mut rest = members.len();
+    while rest > 0 {
+        rest -= 1;
+        let member = &members[rest];
         if spells(token.as_bytes(), member.0.as_str().as_bytes()) {
-            found = Some(&member.1);
+            return Some(&member.1);
         }
     }
-    found
+    None
 }
 
 // Encodes the name byte by byte. Decoding the token instead would allocate.

@@ -1,16 +1,19 @@
 //! The turns of a reading. Each turn reads one scalar, opening bracket or key, and the steps after it. The position,
 //! the state and all results of the fast path are passed in registers.
-ghost use Rattle.std.specs.Prelude.{◌≡◌, ◌⊎◌, ◌+◌, ◌≤◌, ◌<◌, ℕ, List, IfOk, OnOk, length, true, false};
+ghost use Rattle.std.specs.Prelude.{◌≡◌, ◌⊎◌, ◌+◌, ◌≤◌, ◌<◌, ◌++◌, ◌∷◌, ℕ, [], Bool, List, IfOk, OnOk, length, not, true};
+ghost use Rattle.std.specs.Prelude.{false};
 ghost use Rattle.jiter_steps.specs.Node.{nesting_limit};
 ghost use Rattle.jiter_steps.specs.Parse.{Moves, Gives};
 ghost use Rattle.jiter_steps.specs.Read.{value_at};
 ghost use Rattle.jiter_steps.specs.ReadError.{WhereRefused};
+ghost use Rattle.jiter_steps.specs.StringDecoder.{text_view};
 ghost use Rattle.jiter_value.specs.Scratch.{HoldsNothing, IsCleared};
 ghost use Rattle.jiter_value.specs.Settings.{Keeping, rules_as};
-ghost use Rattle.jiter_value.specs.Size.{value_size, key_size};
-ghost use Rattle.jiter_value.specs.Stacks.{slot_of, from_value, from_key, HasRoom, StandsAtKey, IsFree};
-ghost use Rattle.jiter_value.specs.Stacks.{HaveKeys, KeepsKeys, LeavesKeys, keys_then};
-ghost use Rattle.jiter_value.specs.Turns.{GoesOn, HasGone, HasTurned, IsAtValue, Proceeds, MayGrowFor, left, outcome};
+ghost use Rattle.jiter_value.specs.Size.{value_size};
+ghost use Rattle.jiter_value.specs.Stacks.{slot_of, from_value, HasRoom, StandsAtKey, IsFree};
+ghost use Rattle.jiter_value.specs.Stacks.{HaveKeys, LeavesKeys, keys_of};
+ghost use Rattle.jiter_value.specs.Turns.{GoesOn, HasGone, HasTakenKey, HasTurned, IsAtValue, IsKeyRead, Proceeds};
+ghost use Rattle.jiter_value.specs.Turns.{MayGrowFor, left, outcome};
 ghost use Rattle.jiter_value.specs.Value.{view, MayGrowBy};
 ghost use Rattle.jiter_value.specs.declared.stacks.Stacks.{Stacks as StacksView};
 
@@ -25,6 +28,7 @@ use jiter_steps::parse::{ContainerKind, NESTING_LIMIT, Parser};
 use jiter_steps::read_error::ReadError;
 use smallvec::SmallVec;
 use std::alloc::Global;
+use std::borrow::CowStr;
 
 pub(crate) mod containers;
 pub(crate) mod duplicate_keys;
@@ -130,34 +134,36 @@ fn is_within_limit(stacks: &Stacks<'_>) -> bool
     true
 }
 
-// One turn at a key: the fast path if the key is plain, otherwise the slow path.
+// One turn at a key: the fast path if the key is plain, otherwise the slow path. If `keys` doesn't allow the key, it
+// stays where it is.
 #[inline(always)]
-fn key_turn<'s, T: StringStorage<'s>>(
+fn key_turn<'s, T: StringStorage<'s>, K: Keys<'s>>(
     reading: &mut Reading<'s>,
     texts: T,
+    keys: &mut K,
     bytes: &[u8],
     at: usize,
 ) -> (usize, State)
     requires texts { T.of texts bytes.now }
+    requires serves { K.serves keys.old T.made }
+    requires going { K.stopped keys.old ≡ false }
+    requires known { (ks : List (List ℕ)) × K.knows keys.old ks × HaveKeys ks reading.old.stacks.members.items }
     requires stands { StandsAtKey reading.old.stacks }
     requires levels { length reading.old.stacks.nest.items ≤ nesting_limit + 1 }
     requires within { at < length bytes.now }
-    requires free { IsFree T.made bytes.now reading.old.stacks at }
-    ensures leads { Proceeds T.made reading.old.settings bytes.now at (left bytes.now reading.old.stacks at)
-        (key_size reading.old.stacks + 1) (from_key T.made reading.old.settings bytes.now reading.old.stacks at)
-        reading.new.stacks result }
-    ensures keys { OnOk (outcome reading.new.stacks result.1)
-        (KeepsKeys T.made bytes.now reading.old.stacks.members.items State.Key at reading.new.stacks.members.items) }
+    ensures turned { HasTakenKey T.made reading.old.settings bytes.now at reading.old.stacks reading.new.stacks result
+        (K.stopped keys.new) (K.knows keys.new) (K.refuses keys.new bytes.now reading.old.stacks at) }
+    ensures serves { K.serves keys.new T.made }
     ensures settings { reading.new.settings ≡ reading.old.settings }
 {
     if is_within_limit(&reading.stacks) {
-        match fast_put_key(texts, &mut reading.stacks, bytes, at) {
+        match fast_put_key(reading, texts, keys, bytes, at) {
             (next, Plain::Put) => return (next, State::Member),
             (next, Plain::AllocFailed) => return (next, State::GivenUp),
             (_, Plain::Other) => {}
         }
     }
-    slow_key(reading, texts, bytes, at)
+    slow_key(reading, texts, keys, bytes, at)
 }
 
 #[inline(always)]
@@ -171,36 +177,46 @@ fn slot_of(state: State) -> Slot
     }
 }
 
-/// Decides before each key whether the reading may go on with it.
+/// Decides after each key whether the reading may go on with it.
 pub trait Keys<'s> {
-    // It serves readings of these bytes with this `Keeping`.
-    ghost serves: { Self → Keeping → List ℕ → Type 0 };
+    // It serves readings with this `Keeping`.
+    ghost serves: { Self → Keeping → Type 0 };
 
     // It knows these keys of the members on the stack.
     ghost knows: { Self → List (List ℕ) → Type 0 };
 
+    // It didn't allow a key.
+    ghost stopped: { Self → Bool };
+
     // It doesn't allow the key at this index.
     ghost refuses: { Self → List ℕ → StacksView → ℕ → Type 0 };
 
-    /// Returns whether the reading may go on with the key at `at`.
-    fn may_stand(
+    /// Returns whether the reading may go on with the key at `at`. The key ends before `end`, and its colon follows.
+    fn admits(
         &mut self,
         alloc: Global,
-        tape: &mut Vec<u8>,
         stacks: &Stacks<'s>,
         bytes: &[u8],
         at: usize,
+        end: usize,
+        key: &CowStr<'s>,
     ) -> bool
-        requires serves { (made : Keeping) × serves self.old made bytes.now }
+        requires read { (made : Keeping) × (after : ℕ) × serves self.old made
+            × IsKeyRead made bytes.now at end after (text_view key.now) }
+        requires going { stopped self.old ≡ false }
         requires stands { StandsAtKey stacks.now }
-        requires within { at < length bytes.now }
         requires known { (ks : List (List ℕ)) × knows self.old ks × HaveKeys ks stacks.now.members.items }
-        ensures free { (made : Keeping) → serves self.old made bytes.now → result ≡ true
+        ensures free { (made : Keeping) → serves self.old made → result ≡ true
             → IsFree made bytes.now stacks.now at }
-        ensures known { (made : Keeping) → serves self.old made bytes.now → result ≡ true
-            → knows self.new (keys_then made bytes.now stacks.now.members.items State.Key at) }
+        ensures known { result ≡ true
+            → knows self.new (keys_of stacks.now.members.items ++ (text_view key.now).bytes ∷ []) }
         ensures refused { result ≡ false → refuses self.new bytes.now stacks.now at }
-        ensures serves { (made : Keeping) → (t : List ℕ) → serves self.old made t → serves self.new made t };
+        ensures stopped { stopped self.new ≡ not result }
+        ensures serves { (made : Keeping) → serves self.old made → serves self.new made };
+
+    /// Returns whether it didn't allow a key.
+    fn has_stopped(&self) -> bool
+        ensures { result ≡ stopped self.now };
 }
 
 /// Allows every key.
@@ -208,22 +224,30 @@ pub trait Keys<'s> {
 pub struct AnyKey;
 
 impl<'s> Keys<'s> for AnyKey {
-    ghost serves = { λ k made t. made.unique ≡ false };
+    ghost serves = { λ k made. made.unique ≡ false };
 
     ghost knows = { λ k ks. Unit {0} };
+
+    ghost stopped = { λ k. false };
 
     ghost refuses = { λ k t s j. ⊥ };
 
     #[inline(always)]
-    fn may_stand(
+    fn admits(
         &mut self,
         _alloc: Global,
-        _tape: &mut Vec<u8>,
         _stacks: &Stacks<'s>,
         _bytes: &[u8],
         _at: usize,
+        _end: usize,
+        _key: &CowStr<'s>,
     ) -> bool {
         true
+    }
+
+    #[inline(always)]
+    fn has_stopped(&self) -> bool {
+        false
     }
 }
 
@@ -280,7 +304,8 @@ impl<'s> Reading<'s> {
         bytes: &[u8],
     ) -> State
         requires texts { T.of texts bytes.now }
-        requires serves { K.serves keys.old T.made bytes.now }
+        requires serves { K.serves keys.old T.made }
+        requires going { K.stopped keys.old ≡ false }
         requires begun { (i : ℕ) × HasGone T.made T.wants bytes.now i self.old }
         requires goes_on { GoesOn self.old.state }
         requires known { (ks : List (List ℕ)) × K.knows keys.old ks × HaveKeys ks self.old.stacks.members.items }
@@ -300,10 +325,11 @@ impl<'s> Reading<'s> {
                 State::Done => break 'turning,
                 State::GivenUp => break 'turning,
                 State::Key => {
-                    if !keys.may_stand(self.alloc, &mut self.tape, &self.stacks, bytes, at) {
+                    let turned = key_turn(self, texts, keys, bytes, at);
+                    if keys.has_stopped() {
                         break 'turning;
                     }
-                    key_turn(self, texts, bytes, at)
+                    turned
                 }
                 _ => value_turn::<T, ONCE>(self, texts, bytes, at, slot_of(state)),
             };

@@ -105,7 +105,7 @@ pub whole-part : (a b : Option (List ℕ)) (bs : List ℕ) → Appends a b bs �
 whole-part a b bs h = (length bs, subst (Appends a b) (sym (take-length bs)) h)
 
 -- bytes that are appended, and a prefix of more of them
-prefix-more : (a b c : Option (List ℕ)) (xs ys all : List ℕ) → Appends a b xs → AppendsPrefix b c ys
+pub prefix-more : (a b c : Option (List ℕ)) (xs ys all : List ℕ) → Appends a b xs → AppendsPrefix b c ys
     → xs ++ ys ≡ all → AppendsPrefix a c all
 prefix-more a b c xs ys all more prefix is =
     let written = xs ++ take prefix.0 ys in

@@ -1,3 +1,9 @@
+pub mod ArrayWritten
 pub mod Cut
+pub mod Items
+pub mod ItemsLaw
+pub mod ItemsRead
+pub mod ItemsWritten
 pub mod Line
 pub mod Log
+pub mod Progress

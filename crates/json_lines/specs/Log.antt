@@ -89,6 +89,10 @@ abbrev pub refusals_among : List Answer → ℕ
 refusals_among [] = 0
 refusals_among (a ∷ more) = refusals_in a.outcome + refusals_among more
 
+-- known bytes stay at the front of others
+abbrev pub Grows : Option (List ℕ) → Option (List ℕ) → Type 0
+Grows old new = (bs : List ℕ) × Appends old new bs
+
 -- What is written of a whole log, whose first line has this number: what became of each of its lines, in their order.
 pub record WritesAll (becomes : List ℕ → Seen → Type 0) (name : List ℕ) (first : ℕ) (t : List ℕ) (counts : Counts)
     (out out' err err' bad bad' : Option (List ℕ)) : Type 0 where

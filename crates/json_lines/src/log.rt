@@ -1,14 +1,16 @@
 //! Logs, read line by line.
-ghost use Rattle.std.specs.Prelude.{◌≡◌, ◌↔◌, IfOk, IfSome, IsTrue, OnErr, OnOk, Some};
+ghost use Rattle.std.specs.Prelude.{◌≡◌, ◌↔◌, [], IfOk, IfSome, IsTrue, OnErr, OnOk, Some};
 ghost use Rattle.std.specs.Io.Buffered.{reader_remaining};
-ghost use Rattle.std.specs.Io.KnownBytes.{Appends};
+ghost use Rattle.std.specs.Io.KnownBytes.{Appends, Keeps, append_known};
 ghost use Rattle.jiter_print.specs.Written.{AppendsPrefix};
 ghost use Rattle.json_lines.specs.Line.{refused};
-ghost use Rattle.json_lines.specs.Log.{IsBlankLine, WritesAll, WritesPart, chomp, ended, kept_of, refusal_of};
+ghost use Rattle.json_lines.specs.Log.{Grows, IsBlankLine, WritesAll, WritesPart, chomp, ended, kept_of, refusal_of};
 
 use crate::line::{Convert, Outcome, refusal_line};
+use crate::reading::read_line;
 use jiter_print::write_line;
 use jiter_scan::LinePosition;
+use memchr::memchr;
 use std::alloc::{AllocError, Global};
 use std::io;
 use std::io::{BufRead, BufReader, ErrorKind, Read, Write};
@@ -21,6 +23,15 @@ pub struct Counts {
     /// The lines with an error.
     pub refused: usize,
 }
+
+// No lines yet.
+pub(crate) const NONE: Counts = Counts {
+    texts: 0,
+    refused: 0,
+};
+
+// A batch of so many bytes is written.
+const BATCH: usize = 1 << 16;
 
 /// What the reports of a log name: where it comes from, and the number of its first line.
 #[derive(Debug, Clone, Copy)]
@@ -81,13 +92,99 @@ fn write_refused<E: Write, B: Write>(
     write_line(bad, kept.as_slice())
 }
 
+// Writes the texts that were collected, and forgets them.
+fn write_batch<O: Write>(out: &mut O, batch: &mut Vec<u8>) -> io::Result<()>
+    ensures whole { OnOk result (Appends (O.contents out.old) (O.contents out.new) batch.old.items) }
+    ensures part { AppendsPrefix (O.contents out.old) (O.contents out.new) batch.old.items }
+    ensures none { batch.new.items ≡ [] }
+{
+    if batch.is_empty() {
+        return Ok(());
+    }
+    let written = write_line(out, batch.as_slice());
+    batch.clear();
+    written
+}
+
+// Writes the batch before a read that may wait for more of the log, and where it is long.
+fn write_due<R: Read, O: Write>(
+    reader: &BufReader<R>,
+    out: &mut O,
+    batch: &mut Vec<u8>,
+) -> io::Result<()>
+    ensures kept { OnOk result (Keeps (append_known (O.contents out.old) batch.old.items)
+        (append_known (O.contents out.new) batch.new.items)) }
+    ensures part { OnErr result (AppendsPrefix (O.contents out.old) (O.contents out.new) batch.old.items
+        × (batch.new.items ≡ [])) }
+    ensures grows { Grows (O.contents out.old) (O.contents out.new) }
+{
+    if batch.len() < BATCH && memchr(b'\n', reader.buffer()).is_some() {
+        return Ok(());
+    }
+    write_batch(out, batch)
+}
+
+// Converts the lines of a log as `convert_log` does. Texts that aren't written yet are left in the batch.
+fn convert_lines<C: Convert, R: Read, O: Write, E: Write, B: Write>(
+    alloc: Global,
+    converter: &C,
+    origin: &Origin<'_>,
+    reader: &mut BufReader<R>,
+    batch: &mut Vec<u8>,
+    out: &mut O,
+    err: &mut E,
+    bad: &mut B,
+) -> io::Result<Counts>
+    requires { batch.old.items ≡ [] }
+    ensures all { IfOk result (λ counts. IfSome (reader_remaining R.remaining reader.old)
+        (λ t. WritesAll (C.becomes converter.now) origin.now.name.now origin.now.first_line t counts
+        (O.contents out.old) (append_known (O.contents out.new) batch.new.items) (E.contents err.old)
+        (E.contents err.new) (B.contents bad.old) (B.contents bad.new))) }
+    ensures part { OnErr result (IfSome (reader_remaining R.remaining reader.old)
+        (λ t. WritesPart (C.becomes converter.now) origin.now.name.now origin.now.first_line t
+        (O.contents out.old) (append_known (O.contents out.new) batch.new.items) (E.contents err.old)
+        (E.contents err.new) (B.contents bad.old) (B.contents bad.new))) }
+    ensures grows { Grows (O.contents out.old) (O.contents out.new) }
+{
+    let mut counts = NONE;
+    let mut buffer = Vec::new(alloc);
+    for line in origin.first_line..usize::MAX {
+        write_due(reader, out, batch)?;
+        buffer.clear();
+        if read_line(reader, &mut buffer)? == 0 {
+            return Ok(counts);
+        }
+        let bytes = without_end(buffer.as_slice());
+        if is_blank(bytes) {
+            continue;
+        }
+        match converter.convert(alloc, bytes)? {
+            Outcome::Text(text) => {
+                batch.extend_from_slice(text.as_slice())?;
+                counts.texts += 1;
+            }
+            Outcome::Refused(column, cause) => {
+                write_batch(out, batch)?;
+                let position = LinePosition { line, column };
+                let line = buffer.as_slice();
+                let cause = cause.as_str();
+                write_refused(alloc, origin.name, &position, line, cause, err, bad)?;
+                counts.refused += 1;
+            }
+        }
+    }
+    Err(io::Error::from(ErrorKind::Other))
+}
+
 /// Reads a log to its end. Writes what each line becomes: its text to `out`, and for an error `NAME:LINE:COLUMN: CAUSE` to
 /// `err` and the line itself to `bad`, in the order of the lines. Returns how many texts and errors there are.
 ///
 /// A line ends at `\n` or `\r\n`; the last one may have no end. A line of whitespace only is passed over, and counted as a
 /// line. Lines count from the origin's first line, and columns from 1, in bytes. What is written to `bad` has the line's own
-/// end; a last line without one gets `\n`. The memory in use doesn't grow with the number of lines: what a line becomes is
-/// written before the next one is read.
+/// end; a last line without one gets `\n`.
+///
+/// Texts are written together: before a read that may wait, before an error line, and at the end. So each line of a log that
+/// still grows is written at once, and the memory in use doesn't grow with the number of lines.
 ///
 /// # Errors
 ///
@@ -114,40 +211,10 @@ pub fn convert_log<C: Convert, R: Read, O: Write, E: Write, B: Write>(
         (O.contents out.old) (O.contents out.new) (E.contents err.old) (E.contents err.new)
         (B.contents bad.old) (B.contents bad.new))) }
 {
-    let mut counts = Counts {
-        texts: 0,
-        refused: 0,
-    };
-    let mut buffer = Vec::new(alloc);
-    for line in origin.first_line..usize::MAX {
-        buffer.clear();
-        if reader.read_until(b'\n', &mut buffer)? == 0 {
-            return Ok(counts);
-        }
-        let bytes = without_end(buffer.as_slice());
-        if is_blank(bytes) {
-            continue;
-        }
-        match converter.convert(alloc, bytes)? {
-            Outcome::Text(text) => {
-                write_line(out, text.as_slice())?;
-                counts.texts += 1;
-            }
-            Outcome::Refused(column, cause) => {
-                let position = LinePosition { line, column };
-                let line = buffer.as_slice();
-                write_refused(
-                    alloc,
-                    origin.name,
-                    &position,
-                    line,
-                    cause.as_str(),
-                    err,
-                    bad,
-                )?;
-                counts.refused += 1;
-            }
-        }
-    }
-    Err(io::Error::from(ErrorKind::Other))
+    let mut batch = Vec::new(alloc);
+    let counts = convert_lines(alloc, converter, origin, reader, &mut batch, out, err, bad);
+    let written = write_batch(out, &mut batch);
+    let counts = counts?;
+    written?;
+    Ok(counts)
 }

@@ -1,10 +1,13 @@
 //! How a program takes its words, reads its inputs and ends.
+use crate::items::convert_items;
 use crate::line::Convert;
-use crate::log::{Counts, Origin, convert_log};
+use crate::log::{Counts, NONE, Origin, convert_log};
+use crate::progress::{Progress, Reports, Watched};
 use clap::error::ErrorKind as WordsError;
 use clap::{Arg, ArgAction, ArgMatches, Command, value_parser};
 use std::alloc::{AllocError, Global};
-use std::io::{BufReader, ErrorKind, Read, Write};
+use std::fs::File;
+use std::io::{BufReader, ErrorKind, IsTerminal, Read, Write};
 use std::process::ExitCode;
 use std::{env, fs, io};
 
@@ -16,15 +19,16 @@ const BAD: &str =
     "Write each line with an error, as it is, to FILE; what FILE held before is lost. A last line without a line feed gets \
     one";
 
+const ITEMS: &str =
+    "The input is one array; each of its items is converted as a line is, and may be on several lines";
+
 const LOGS: &str = "The logs; standard input if there is none";
+
+const NO_PROGRESS: &str =
+    "Don't show how far each log is read. It is shown on standard error, if that is a terminal and standard output isn't one";
 
 // The bytes of a log that are read at once, at most.
 const CAPACITY: usize = 1 << 16;
-
-const NONE: Counts = Counts {
-    texts: 0,
-    refused: 0,
-};
 
 /// A program with words.
 pub trait Program {
@@ -49,6 +53,9 @@ pub trait Program {
 
 /// A program that reads inputs, one after the other.
 pub trait ReadInput {
+    /// Is called before each input, with its size in bytes if it is a file of known size. By default, it does nothing.
+    fn begin(&mut self, _size: Option<u64>) {}
+
     /// Reads an input to its end. Returns whether nothing in it was refused.
     ///
     /// # Errors
@@ -102,9 +109,19 @@ pub fn log_command<'a>(
         .long("bad")
         .value_name("FILE")
         .help(BAD);
+    let items = Arg::new(alloc, "items")
+        .long("items")
+        .action(ArgAction::SetTrue)
+        .help(ITEMS);
+    let no_progress = Arg::new(alloc, "no-progress")
+        .long("no-progress")
+        .action(ArgAction::SetTrue)
+        .help(NO_PROGRESS);
     base_command(alloc, name, about, LOGS)?
+        .arg(items)?
         .arg(first_line)?
-        .arg(bad)
+        .arg(bad)?
+        .arg(no_progress)
 }
 
 // Reports an error and returns the exit status. A closed pipe is no news to who closed it.
@@ -138,15 +155,27 @@ pub fn main_of<P: Program>(rt: &HostRuntime) -> ExitCode {
     }
 }
 
+// The size of a file, if it is an ordinary one.
+fn size_of(file: &File) -> Option<u64> {
+    let metadata = file.metadata().ok()?;
+    metadata.is_file().then_some(metadata.len())
+}
+
 fn read_file<I: ReadInput>(rt: &HostRuntime, name: &str, input: &mut I) -> io::Result<bool> {
     let file = fs::open(rt, name)?;
+    input.begin(size_of(&file));
     input.read(rt, name, file)
+}
+
+fn read_stdin<I: ReadInput>(rt: &HostRuntime, input: &mut I) -> io::Result<bool> {
+    input.begin(None);
+    input.read(rt, "<stdin>", rt.stdin())
 }
 
 // Reads one input, and returns the exit status after it.
 fn read_one<I: ReadInput>(rt: &HostRuntime, program: &str, name: &str, input: &mut I) -> u8 {
     let (name, read) = match name {
-        "-" => ("<stdin>", input.read(rt, "<stdin>", rt.stdin())),
+        "-" => ("<stdin>", read_stdin(rt, input)),
         _ => (name, read_file(rt, name, input)),
     };
     match read {
@@ -193,35 +222,82 @@ impl Write for Sink {
 struct Logs<'a, C, B> {
     converter: &'a C,
     first_line: usize,
+    items: bool,
     bad: B,
     counts: Counts,
+    shows_progress: bool,
+    size: Option<u64>,
 }
 
 impl<C: Convert, B: Write> ReadInput for Logs<'_, C, B> {
+    fn begin(&mut self, size: Option<u64>) {
+        self.size = size;
+    }
+
     fn read<R: Read + Drop>(
         &mut self,
         rt: &HostRuntime,
         name: &str,
         reader: R,
     ) -> io::Result<bool> {
-        let mut reader = BufReader::with_capacity(rt.alloc(), CAPACITY, reader)?;
+        let progress = progress_of(rt, self.shows_progress, self.size);
+        let progress = progress.as_ref();
+        let watched = Watched { reader, progress };
+        let mut reader = BufReader::with_capacity(rt.alloc(), CAPACITY, watched)?;
+        let mut err = Reports {
+            err: rt.stderr(),
+            progress,
+        };
         let origin = Origin {
             name,
             first_line: self.first_line,
         };
-        let counts = convert_log(
-            rt.alloc(),
-            self.converter,
-            &origin,
-            &mut reader,
-            &mut rt.stdout(),
-            &mut rt.stderr(),
-            &mut self.bad,
-        )?;
+        let converted = if self.items {
+            convert_items(
+                rt.alloc(),
+                self.converter,
+                &origin,
+                &mut reader,
+                &mut rt.stdout(),
+                &mut err,
+                &mut self.bad,
+            )
+        } else {
+            convert_log(
+                rt.alloc(),
+                self.converter,
+                &origin,
+                &mut reader,
+                &mut rt.stdout(),
+                &mut err,
+                &mut self.bad,
+            )
+        };
+        if let Some(progress) = progress {
+            progress.clear();
+        }
+        let counts = converted?;
         self.counts.texts = self.counts.texts.saturating_add(counts.texts);
         self.counts.refused = self.counts.refused.saturating_add(counts.refused);
         Ok(counts.refused == 0)
     }
+}
+
+// Whether to show how far a log is read: on a terminal that nothing else is written to.
+fn shows_progress(rt: &HostRuntime, matches: &ArgMatches<'_>) -> bool {
+    !matches.get_flag("no-progress") && rt.stderr().is_terminal() && !rt.stdout().is_terminal()
+}
+
+// The progress of an input, if it is to be shown. Without a clock, nothing is shown.
+fn progress_of(
+    rt: &HostRuntime,
+    shows: bool,
+    size: Option<u64>,
+) -> Option<Progress<'_, HostRuntime>> {
+    if !shows {
+        return None;
+    }
+    Progress::start(rt, size).ok()
 }
 
 fn convert_with<C: Convert, B: Write + Drop>(
@@ -234,8 +310,11 @@ fn convert_with<C: Convert, B: Write + Drop>(
     let mut logs = Logs {
         converter,
         first_line: matches.get_one::<usize>("first-line").unwrap_or(1),
+        items: matches.get_flag("items"),
         bad,
         counts: NONE,
+        shows_progress: shows_progress(rt, matches),
+        size: None,
     };
     let status = read_each(rt, program, matches, &mut logs);
     let Logs {
@@ -243,6 +322,9 @@ fn convert_with<C: Convert, B: Write + Drop>(
         bad: _bad,
         converter: _converter,
         first_line: _first_line,
+        items: _items,
+        shows_progress: _shows_progress,
+        size: _size,
     } = logs;
     (status, counts)
 }

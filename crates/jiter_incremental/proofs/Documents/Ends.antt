@@ -11,18 +11,15 @@ use Rattle.jiter_scan.specs.Kind.{Kind, fault_kind, is_forgiven, eof_object, eof
 use Rattle.jiter_scan.specs.PartialMode.{is_active}
 use Rattle.jiter_scan.specs.Stands.{Stands}
 use Rattle.jiter_scan.specs.declared.errors.Fault.{Fault}
-use Rattle.jiter_scan.proofs.OpenNumbers.{digits-ended, fraction-ended, run-ended}
+use Rattle.jiter_scan.proofs.OpenNumbers.{ended as number-ended}
 use Rattle.jiter_scan.proofs.Standing.{slice-stands}
 use Rattle.jiter_scan.proofs.WordLaws.{word_at-cut}
 use Rattle.jiter_scan.specs.Kind.{invalid_code_point}
-use Rattle.jiter_scan.specs.NumberReading.{after_minus, after_zero, digits_from, exponent_at, exponent_from, extent_then}
-use Rattle.jiter_scan.specs.NumberReading.{fraction_from, number_extent, power_from}
-use Rattle.jiter_scan.specs.PartialNumber.{is_whole, number_from, tail_at}
+use Rattle.jiter_scan.specs.NumberReading.{extent_then, number_extent}
+use Rattle.jiter_scan.specs.PartialNumber.{is_whole}
 use Rattle.jiter_scan.specs.PartialNumber.{at_end as ended_so}
 use Rattle.jiter_scan.specs.PartialMode.{allows_trailing_strings}
-use Rattle.jiter_scan.specs.Scanned.{Scanned, failed, taken}
-use Rattle.jiter_scan.specs.declared.partial_number.Stage.{Stage}
-use Rattle.jiter_scan.specs.declared.partial_number.Stage.TheVariants as stage
+use Rattle.jiter_scan.specs.Scanned.{Scanned, failed}
 use Rattle.jiter_scan.specs.declared.errors.FaultKind.{FaultKind}
 use Rattle.jiter_scan.specs.declared.errors.FaultKind.TheVariants as fault_of
 use Rattle.jiter_scan.specs.Word.{Extent}
@@ -173,20 +170,6 @@ step-past t row =
     ap (λ m. row m (slice_get t m)) (past_blanks-end t (length t) past)
     ∙ ap (row (length t)) (slice_get_past t (length t) past)
 
--- a number at its stage
-number-ended : (names : Bool) (s : Stage) (t : List ℕ) (j : ℕ) → slice_get t j ≡ None
-    → number_from names s t j ≡ ended_so (is_whole s) j
-number-ended names stage.Minus t j h = ap (after_minus names t j) h
-number-ended names stage.Zero t j h =
-    ap (λ o. extent_then (after_zero j o) (tail_at t)) h
-    ∙ ap (λ o. extent_then (fraction_from t j o) (exponent_at t)) h ∙ ap (exponent_from t j) h
-number-ended names (stage.Digits room) t j h = digits-ended t j h room
-number-ended names stage.Point t j h = ap (λ o. extent_then (digits_from t j o) (exponent_at t)) h
-number-ended names stage.Fraction t j h = fraction-ended t j h
-number-ended names stage.Letter t j h = ap (power_from t j) h
-number-ended names stage.Sign t j h = ap (digits_from t j) h
-number-ended names stage.Exponent t j h = ap (taken tt) (run-ended t j h)
-
 -- A scalar that begins at b is cut there, or has this fault.
 pub record CutAt (p : Settings) (t : List ℕ) (depth b : ℕ) (k : Kind) (i : ℕ) : Type 0 where
   pub byte : ℕ
@@ -237,7 +220,7 @@ module _ (d : Document) (t : List ℕ) (b : ℕ) (w : List ℕ) (from : TakenFro
         → number_extent p.allow_inf_nan t b ≡ ended_so all (length t)
     number-extent h all is =
         h.0.goes p.allow_inf_nan t b all-stand
-        ∙ number-ended p.allow_inf_nan d.number.stage t (b + length w) none-there
+        ∙ number-ended t (b + length w) none-there p.allow_inf_nan d.number.stage
         ∙ ap (λ x. ended_so x (b + length w)) is ∙ ap (ended_so all) at-end
 
     number-cut : HoldsScalar d token.Number w → is_whole d.number.stage ≡ false → CutAt p t depth b eof_value (length t)

@@ -1,6 +1,6 @@
 //! The fast path: scalars and keys that one look shows. All results stay in registers.
-ghost use Rattle.std.specs.Prelude.{◌≡◌, ◌+◌, ◌^◌, ◌≤◌, ◌<◌, ◌⊎◌, length, pos, slice_get, slice_index, Some};
-ghost use Rattle.std.specs.Prelude.{if◌then◌else◌};
+ghost use Rattle.std.specs.Prelude.{◌≡◌, ◌+◌, ◌^◌, ◌≤◌, ◌<◌, ◌⊎◌, ℕ, List, false, length, pos, slice_get, slice_index, Some};
+ghost use Rattle.std.specs.Prelude.{◌++◌, ◌∷◌, [], if◌then◌else◌, true, vec_capacity, vec_len};
 ghost use Rattle.jiter_scan.specs.Ascii as ascii;
 ghost use Rattle.jiter_scan.specs.Number.{minus_of};
 ghost use Rattle.jiter_scan.specs.Scan.{scan_stop};
@@ -10,16 +10,15 @@ ghost use Rattle.jiter_steps.specs.StringDecoder.{WantsMemory};
 ghost use Rattle.jiter_steps.specs.Tree.{int};
 ghost use Rattle.jiter_steps.specs.declared.parse.Start.{Start};
 ghost use Rattle.jiter_steps.specs.declared.read_error.ReadError.TheVariants as error;
-ghost use Rattle.jiter_value.specs.Stacks.{Stands, StandsAtKey, IsFree, HasRoom, KeepsKeys, LeavesKeys};
-ghost use Rattle.jiter_value.specs.declared.stacks.State.TheVariants as state;
+ghost use Rattle.jiter_value.specs.Stacks.{Stands, StandsAtKey, HasRoom, HaveKeys, LeavesKeys};
 ghost use Rattle.jiter_value.specs.Turns.{IsAtValue, IsPutAt, IsKeyAt, IsRefusedAt};
 ghost use Rattle.jiter_value.specs.Value.{view, MayGrowBy};
+ghost use Rattle.jiter_value.specs.declared.value.JsonValue.TheVariants.{Int};
 
 use crate::stacks::{Slot, Stacks, put_reserved};
 use crate::texts::{StringStorage, keep_lent};
-use crate::turns::Reading;
-use crate::turns::general::push_key;
 use crate::turns::scalar::literal_value;
+use crate::turns::{Keys, Reading};
 use crate::value::JsonValue;
 use jiter_scan::fast_number::{FastNumber, fast_number_at, signed};
 use jiter_scan::memory::{AllocFailed, copy_text};
@@ -277,26 +276,46 @@ pub fn fast_put_scalar<'s, T: StringStorage<'s>, const ONCE: bool, const SLOT: u
     }
 }
 
-/// Pushes a plain key, if its colon and a value follow and its stack has room. Returns the index of the value.
+/// Pushes a key, whose stack has room, with the integer 0 as a placeholder for its value. All bytes of the placeholder
+/// are written at once.
 #[inline(always)]
-pub fn fast_put_key<'s, T: StringStorage<'s>>(
+pub fn put_key<'s>(members: &mut Vec<(CowStr<'s>, JsonValue<'s>)>, key: CowStr<'s>)
+    requires { vec_len members.old < vec_capacity members.old }
+    ensures { members.new.items ≡ members.old.items ++ (key.entry, Int (pos 0)) ∷ [] }
+{
+    members.push_reserved((key, JsonValue::Int(0)));
+}
+
+/// Pushes a plain key, if its colon and a value follow, its stack has room and `keys` allows it. Returns the index of the
+/// value.
+#[inline(always)]
+pub fn fast_put_key<'s, T: StringStorage<'s>, K: Keys<'s>>(
+    reading: &mut Reading<'s>,
     texts: T,
-    stacks: &mut Stacks<'s>,
+    keys: &mut K,
     bytes: &[u8],
     at: usize,
 ) -> (usize, Plain)
     requires texts { T.of texts bytes.now }
-    requires stands { StandsAtKey stacks.old }
-    requires few { length stacks.old.nest.items ≤ nesting_limit }
+    requires serves { K.serves keys.old T.made }
+    requires going { K.stopped keys.old ≡ false }
+    requires known { (ks : List (List ℕ)) × K.knows keys.old ks × HaveKeys ks reading.old.stacks.members.items }
+    requires stands { StandsAtKey reading.old.stacks }
+    requires few { length reading.old.stacks.nest.items ≤ nesting_limit }
     requires within { at < length bytes.now }
-    requires free { IsFree T.made bytes.now stacks.old at }
-    ensures put { result.1 ≡ Plain.Put → IsKeyAt T.made bytes.now stacks.old at stacks.new result.0 }
-    ensures other { result.1 ≡ Plain.Other → stacks.new ≡ stacks.old }
-    ensures refused { result.1 ≡ Plain.AllocFailed → IsRefusedAt bytes.now at stacks.new result.0 }
+    ensures put { result.1 ≡ Plain.Put → IsKeyAt T.made bytes.now reading.old.stacks at reading.new.stacks result.0 }
     ensures keys { result.1 ≡ Plain.Put
-        → KeepsKeys T.made bytes.now stacks.old.members.items state.Key at stacks.new.members.items }
+        → (ks : List (List ℕ)) × K.knows keys.new ks × HaveKeys ks reading.new.stacks.members.items }
+    ensures going { result.1 ≡ Plain.Put → K.stopped keys.new ≡ false }
+    ensures other { result.1 ≡ Plain.Other → (reading.new ≡ reading.old) × (keys.new ≡ keys.old) }
+    ensures failed { result.1 ≡ Plain.AllocFailed → K.stopped keys.new ≡ false
+        → IsRefusedAt bytes.now at reading.new.stacks result.0 }
+    ensures refused { K.stopped keys.new ≡ true → K.refuses keys.new bytes.now reading.old.stacks at }
+    ensures stays { K.stopped keys.new ≡ true → reading.new.stacks ≡ reading.old.stacks }
+    ensures serves { K.serves keys.new T.made }
+    ensures settings { reading.new.settings ≡ reading.old.settings }
 {
-    if stacks.members.len() == stacks.members.capacity() {
+    if reading.stacks.members.len() == reading.stacks.members.capacity() {
         return (at, Plain::Other);
     }
     let Ok(to) = fast_string_end(bytes, at) else {
@@ -305,9 +324,14 @@ pub fn fast_put_key<'s, T: StringStorage<'s>>(
     let Some(next) = fast_colon(bytes, to + 1) else {
         return (at, Plain::Other);
     };
-    let key = CowStr::Borrowed(ascii_text(&bytes[at + 1..to]));
-    match push_key(texts, &mut stacks.members, bytes, at + 1, key) {
-        Ok(()) => (next, Plain::Put),
-        Err(refused) => refused_at(stacks, refused, next),
+    match keep_lent(texts, bytes, at + 1, ascii_text(&bytes[at + 1..to])) {
+        Ok(key) => {
+            if !keys.admits(reading.alloc, &reading.stacks, bytes, at, to + 1, &key) {
+                return (at, Plain::AllocFailed);
+            }
+            put_key(&mut reading.stacks.members, key);
+            (next, Plain::Put)
+        }
+        Err(refused) => refused_at(&mut reading.stacks, refused, next),
     }
 }

@@ -1,8 +1,6 @@
 //! The slow path: any scalar and any key, and their errors.
-ghost use Rattle.std.specs.Prelude.{◌≡◌, ◌≢◌, ◌+◌, ◌≤◌, ◌<◌, ◌++◌, ◌∷◌, [], OnOk, length};
+ghost use Rattle.std.specs.Prelude.{◌≡◌, ◌≢◌, ◌+◌, ◌≤◌, ◌<◌, ◌++◌, ◌∷◌, ℕ, List, [], OnOk, false, length};
 ghost use Rattle.std.specs.Prelude.{pos, slice_index};
-ghost use Rattle.std.specs.declared.alloc.Global.{Global};
-ghost use Rattle.std.specs.declared.borrow.CowStr.{CowStr as CowStrView};
 ghost use Rattle.jiter_scan.specs.Kind.{fault_kind};
 ghost use Rattle.jiter_steps.specs.Literal.{start_of};
 ghost use Rattle.jiter_steps.specs.Node.{nesting_limit};
@@ -11,19 +9,18 @@ ghost use Rattle.jiter_steps.specs.ReadError.{WhereRefused};
 ghost use Rattle.jiter_steps.specs.StringDecoder.{text_view};
 ghost use Rattle.jiter_steps.specs.declared.parse.Start.{Start};
 ghost use Rattle.jiter_value.specs.Size.{value_size, key_size};
-ghost use Rattle.jiter_value.specs.Stacks.{resume_with, from_value, from_key, key_fault, Stands, StandsAtKey, IsFree};
-ghost use Rattle.jiter_value.specs.Stacks.{KeepsKeys, LeavesKeys};
-ghost use Rattle.jiter_value.specs.StringStorage.{IsLentAt};
-ghost use Rattle.jiter_value.specs.Turns.{IsAtValue, Proceeds, MayGrowFor, left, outcome};
+ghost use Rattle.jiter_value.specs.Stacks.{resume_with, from_value, key_fault, HaveKeys, LeavesKeys, Stands, StandsAtKey};
+ghost use Rattle.jiter_value.specs.Turns.{HasTakenKey, IsAtValue, IsKeyRead, Proceeds, MayGrowFor, left, outcome};
 ghost use Rattle.jiter_value.specs.Value.{MayGrowBy};
 ghost use Rattle.jiter_value.specs.declared.value.JsonValue.TheVariants.{Int};
 
 use crate::settings::{Settings, forgives};
 use crate::stacks::{Slot, Stacks, State, give_up, no_memory, put, too_deep};
 use crate::texts::StringStorage;
-use crate::turns::Reading;
 use crate::turns::containers::{after_value, close_and_go_on};
+use crate::turns::fast::put_key;
 use crate::turns::scalar::scalar;
+use crate::turns::{Keys, Reading};
 use crate::value::JsonValue;
 use jiter_scan::errors::Fault;
 use jiter_scan::memory::{AllocFailed, make_room};
@@ -137,64 +134,96 @@ pub fn slow_scalar<'s, T: StringStorage<'s>>(
     }
 }
 
-/// Pushes a key, whose bytes begin at `from`, with the integer 0 as a placeholder for its value. All bytes of the
-/// placeholder are written at once.
+// Pushes a key with a placeholder for its value. Makes room if there is none.
 #[inline(always)]
-pub fn push_key<'s, T: StringStorage<'s>>(
-    texts: T,
+fn push_key<'s>(
     members: &mut Vec<(CowStr<'s>, JsonValue<'s>)>,
-    bytes: &[u8],
-    from: usize,
-    key: CowStr<'_>,
+    key: CowStr<'s>,
 ) -> Result<(), AllocFailed>
-    requires texts { T.of texts bytes.now }
-    requires lent { IsLentAt bytes.now from (text_view key) }
-    ensures { OnOk result ((kept : CowStrView Global)
-        × (text_view kept ≡ T.made.text (text_view key.entry))
-        × (members.new.items ≡ members.old.items ++ (kept, Int (pos 0)) ∷ [])) }
+    ensures { OnOk result (members.new.items ≡ members.old.items ++ (key.entry, Int (pos 0)) ∷ []) }
 {
-    let kept = texts.keep(bytes, from, key)?;
     if members.len() == members.capacity() {
         make_room(members)?;
     }
-    members.push_reserved((kept, JsonValue::Int(0)));
+    put_key(members, key);
     Ok(())
 }
 
-/// Reads any key at `at`, with its colon.
+// Goes on with the key at `at`, which ends before `end` and whose colon ends before `after`, if `keys` allows it.
+#[inline(always)]
+fn kept_key<'s, T: StringStorage<'s>, K: Keys<'s>>(
+    reading: &mut Reading<'s>,
+    keys: &mut K,
+    bytes: &[u8],
+    at: usize,
+    end: usize,
+    after: usize,
+    key: CowStr<'s>,
+) -> (usize, State)
+    requires serves { K.serves keys.old T.made }
+    requires going { K.stopped keys.old ≡ false }
+    requires known { (ks : List (List ℕ)) × K.knows keys.old ks × HaveKeys ks reading.old.stacks.members.items }
+    requires stands { StandsAtKey reading.old.stacks }
+    requires levels { length reading.old.stacks.nest.items ≤ nesting_limit + 1 }
+    requires read { IsKeyRead T.made bytes.now at end after (text_view key) }
+    requires within { (end ≤ after) × (after ≤ length bytes.now) }
+    ensures turned { HasTakenKey T.made reading.old.settings bytes.now at reading.old.stacks reading.new.stacks result
+        (K.stopped keys.new) (K.knows keys.new) (K.refuses keys.new bytes.now reading.old.stacks at) }
+    ensures serves { K.serves keys.new T.made }
+    ensures settings { reading.new.settings ≡ reading.old.settings }
+{
+    if !keys.admits(reading.alloc, &reading.stacks, bytes, at, end, &key) {
+        return (at, State::GivenUp);
+    }
+    let mut parser = Parser {
+        bytes,
+        index: after,
+    };
+    if let Err(fault) = parser.value_first() {
+        return fault_at_key::<T>(reading, bytes, parser.index, fault);
+    }
+    if reading.stacks.nest.len() > NESTING_LIMIT {
+        return too_deep(&mut reading.stacks, parser.index);
+    }
+    match push_key(&mut reading.stacks.members, key) {
+        Ok(()) => (parser.index, State::Member),
+        Err(refused) => no_memory(&mut reading.stacks, refused, parser.index),
+    }
+}
+
+/// Reads any key at `at`, with its colon. If `keys` doesn't allow it, nothing changes.
 #[inline(never)]
-pub fn slow_key<'s, T: StringStorage<'s>>(
+pub fn slow_key<'s, T: StringStorage<'s>, K: Keys<'s>>(
     reading: &mut Reading<'s>,
     texts: T,
+    keys: &mut K,
     bytes: &[u8],
     at: usize,
 ) -> (usize, State)
     requires texts { T.of texts bytes.now }
+    requires serves { K.serves keys.old T.made }
+    requires going { K.stopped keys.old ≡ false }
+    requires known { (ks : List (List ℕ)) × K.knows keys.old ks × HaveKeys ks reading.old.stacks.members.items }
     requires stands { StandsAtKey reading.old.stacks }
     requires levels { length reading.old.stacks.nest.items ≤ nesting_limit + 1 }
     requires within { at < length bytes.now }
-    requires free { IsFree T.made bytes.now reading.old.stacks at }
-    ensures leads { Proceeds T.made reading.old.settings bytes.now at (left bytes.now reading.old.stacks at)
-        (key_size reading.old.stacks + 1) (from_key T.made reading.old.settings bytes.now reading.old.stacks at)
-        reading.new.stacks result }
-    ensures keys { OnOk (outcome reading.new.stacks result.1)
-        (KeepsKeys T.made bytes.now reading.old.stacks.members.items State.Key at reading.new.stacks.members.items) }
+    ensures turned { HasTakenKey T.made reading.old.settings bytes.now at reading.old.stacks reading.new.stacks result
+        (K.stopped keys.new) (K.knows keys.new) (K.refuses keys.new bytes.now reading.old.stacks at) }
+    ensures serves { K.serves keys.new T.made }
     ensures settings { reading.new.settings ≡ reading.old.settings }
 {
     let mut parser = Parser { bytes, index: at };
     match parser.string(reading.alloc, &mut reading.tape, false) {
-        Ok(key) => match parser.object_colon() {
-            Ok(()) => {
-                if reading.stacks.nest.len() > NESTING_LIMIT {
-                    return too_deep(&mut reading.stacks, parser.index);
-                }
-                match push_key(texts, &mut reading.stacks.members, bytes, at + 1, key) {
-                    Ok(()) => (parser.index, State::Member),
-                    Err(refused) => no_memory(&mut reading.stacks, refused, parser.index),
-                }
+        Ok(key) => {
+            let end = parser.index;
+            if let Err(fault) = parser.colon() {
+                return fault_at_key::<T>(reading, bytes, parser.index, fault);
             }
-            Err(fault) => fault_at_key::<T>(reading, bytes, parser.index, fault),
-        },
+            match texts.keep(bytes, at + 1, key) {
+                Ok(kept) => { kept_key::<T, K>(reading, keys, bytes, at, end, parser.index, kept) }
+                Err(refused) => no_memory(&mut reading.stacks, refused, parser.index),
+            }
+        }
         Err(ReadError::Fault(fault)) => { fault_at_key::<T>(reading, bytes, parser.index, fault) }
         Err(ReadError::Memory(refused)) => no_memory(&mut reading.stacks, refused, parser.index),
     }

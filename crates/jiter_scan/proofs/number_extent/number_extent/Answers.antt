@@ -1,14 +1,19 @@
-use Rattle.std.proofs.Common.{sym}
-use Rattle.jiter_scan.proofs.NumberStarts.{decimal-extent, name-text}
+use Rattle.std.proofs.Common.{false, subst, sym, ◌∙◌}
+use Rattle.jiter_scan.specs.PartialNumber.{number_from}
+use Rattle.jiter_scan.specs.Scanned.{Scans, taken}
+use Rattle.jiter_scan.proofs.NumberStarts.{found_float, name-text}
 use Rattle.jiter_scan.proofs.number_extent.number_extent.Goals as goal
 
-pub returns-in-None-clause-parts : goal.returns-in-None-clause-parts
-returns-in-None-clause-parts c =
-    decimal-extent c.args.bytes.now c.args.at c.minus_end-from.result c.minus_end-from.ensures.minus
-    c.decimal_extent.result c.decimal_extent.ensures.value c.decimal_extent.ensures.parts
+pub returns-in-Some-clause-parts : goal.returns-in-Some-clause-parts
+returns-in-Some-clause-parts c =
+    name-text c.args.bytes.now c.args.at c.minus_end-from.result c.args.allow_inf_nan c.in-Some.name.now c.in_ok-end.end
+    c.in-Some.ensures.name (sym c.in_ok-end.ensures.value) c.in_ok-end.ensures.end.0 c.in_ok-end.ensures.end.1
 
-pub returns-in_ok-end-in-Some-clause-parts : goal.returns-in_ok-end-in-Some-clause-parts
-returns-in_ok-end-in-Some-clause-parts c =
-    let end = c.in_ok-end-in-Some in
-    name-text c.args.bytes.now c.args.at c.minus_end-from.result c.args.allow_inf_nan c.in-Some.name.now end.end
-    c.in-Some.ensures.name (sym end.ensures.value) end.ensures.end.0 end.ensures.end.1
+pub returns-in-Ok-2-clause-parts : goal.returns-in-Ok-2-clause-parts
+returns-in-Ok-2-clause-parts c =
+    let t = c.args.bytes.now in
+    let got = c.stages_end-stage.result in
+    let ends =
+    subst (λ r. Scans (λ _. taken tt got.1) r (number_from false got.0 t got.1)) c.in-Ok-2.is c.stages_end-stage.ensures.ends in
+    found_float t c.args.at c.minus_end-from.result got.0 got.1 c.minus_end-from.ensures.minus
+    c.stages_end-stage.ensures.goes ends (sym c.is_int_stage.ensures ∙ c.if-is_int_stage.false)

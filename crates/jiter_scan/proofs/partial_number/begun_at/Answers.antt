@@ -8,6 +8,6 @@ returns c =
     let t = c.args.piece.now in
     let at = c.args.at in
     let first = c.first_stage.ensures in
-    let got = c.bytes_end.result in
+    let got = c.stages_end-stage.result in
     begins-there c.first_stage.result got.0 t at (get_or t at 0) got.1 (slice_get-get_or t at 0 c.requires.within) first.leads
-    first.whole first.byte.0 first.byte.1 c.bytes_end.ensures
+    first.whole first.byte.0 first.byte.1 c.stages_end-stage.ensures.goes

@@ -1,27 +1,36 @@
-use Rattle.std.proofs.Common.{Bool, ℕ, List, ◌<◌, length, arith, ap, ◌∙◌, option_map}
+use Rattle.std.proofs.Common.{◌≡◌, ◌∙◌, ◌+◌, ◌-◌, ◌<◌, Bool, List, None, ap, arith, length, take, ℕ}
 use Rattle.std.specs.Str.{bytes_eq}
+use Rattle.jiter_value.specs.Access.{last_such}
 use Rattle.jiter_value.specs.Pointer.{token_of}
-use Rattle.jiter_value.specs.Value.{view}
+use Rattle.jiter_value.specs.Value.{member_views}
 use Rattle.jiter_value.proofs.Looking.{last_such_hit, last_such_miss}
-use Rattle.jiter_value.proofs.Pointing.{spelled_if, not_spelled_if}
+use Rattle.jiter_value.proofs.Pointing.{not_spelled_if, spelled_if}
 use Rattle.jiter_value.proofs.pointer.last_spelled.Goals as goal
-use Rattle.jiter_value.proofs.pointer.last_spelled.Goals.{then-spells, else-spells}
 
-pub loop-i-preserved : goal.loop-i-preserved
-loop-i-preserved c =
+pub returns-then-spells : goal.returns-then-spells
+returns-then-spells c =
     let token = c.args.token.now in
     let test : List ℕ → Bool = λ name. bytes_eq (token_of name) token in
     let members = c.args.members.now in
-    let member = c.index-member.result.now in
-    let at = c.index-member.ensures in
-    let name = c.as_bytes-in-loop-i.ensures.value ∙ c.as_str.ensures.value in
-    let told = c.spells.ensures in
-    let lt : c.loop-i.i < length members.items = omega (arith, c.loop-i-test.true, c.len-i-end.ensures, members.ok.0) in
-    elim c.if-spells.branch [
-      | then-spells w ↦ ap (option_map (λ v. view v.now)) w.found-is
-          ∙ last_such_hit test members.items c.loop-i.i member lt at
-          (spelled_if token _ _ _ _ c.as_bytes.ensures.value name told w.if-spells.true)
-      | else-spells w ↦ ap (option_map (λ v. view v.now)) w.found-is ∙ c.loop-i.invariant
-          ∙ last_such_miss test members.items c.loop-i.i member lt at
-          (not_spelled_if token _ _ _ _ c.as_bytes.ensures.value name told w.if-spells.false)
-    ]
+    let last = c.loop-rest.rest - 1 in
+    let name = c.as_bytes-in-loop-rest.ensures.value ∙ c.as_str.ensures.value in
+    let lt : last < length members.items = omega (arith, c.loop-rest-test.true, c.loop-rest.invariant.0) in
+    let next : last + 1 ≡ c.loop-rest.rest = omega (arith, c.loop-rest-test.true) in
+    last_such_hit test members.items last c.index-member.result.now lt c.index-member.ensures
+    (spelled_if token _ _ _ _ c.as_bytes.ensures.value name c.spells.ensures c.if-spells.true)
+    ∙ ap (λ n. last_such test None (member_views (take n members.items))) next ∙ c.loop-rest.invariant.1
+
+pub loop-rest-preserved : goal.loop-rest-preserved
+loop-rest-preserved c =
+    let token = c.args.token.now in
+    let test : List ℕ → Bool = λ name. bytes_eq (token_of name) token in
+    let members = c.args.members.now in
+    let last = c.loop-rest.rest - 1 in
+    let name = c.as_bytes-in-loop-rest.ensures.value ∙ c.as_str.ensures.value in
+    let lt : last < length members.items = omega (arith, c.loop-rest-test.true, c.loop-rest.invariant.0) in
+    let next : last + 1 ≡ c.loop-rest.rest = omega (arith, c.loop-rest-test.true) in (
+      omega (arith, c.loop-rest.invariant.0),
+      last_such_miss test members.items last c.index-member.result.now lt c.index-member.ensures
+          (not_spelled_if token _ _ _ _ c.as_bytes.ensures.value name c.spells.ensures c.if-spells.false)
+          ∙ ap (λ n. last_such test None (member_views (take n members.items))) next ∙ c.loop-rest.invariant.1,
+    )

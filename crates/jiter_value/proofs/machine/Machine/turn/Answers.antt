@@ -21,7 +21,7 @@ go-requires c κs =
       | else-not-begun-via-else-not-begun w ↦ rw w.reading-is (rw w.if-not-begun.false at c.self.invariant)
     ] in (
       (refl, tt),
-      (refl, (refl, ((past_blanks t 0, under.0), (under.1, (keys_of r.stacks.members.items, tt, own-keys r.stacks.members.items))))),
+      (refl, (refl, (refl, ((past_blanks t 0, under.0), (under.1, (keys_of r.stacks.members.items, tt, own-keys r.stacks.members.items)))))),
     )
 
 pub answer-requires-in-GivenUp-clause-over : goal.answer-requires-in-GivenUp-clause-over

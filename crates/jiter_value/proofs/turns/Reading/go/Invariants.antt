@@ -1,4 +1,4 @@
-use Rattle.std.proofs.Common.{◌≡◌, ℕ, List, eqb, not, true}
+use Rattle.std.proofs.Common.{◌≡◌, ℕ, List, eqb, false, not, true}
 use Rattle.jiter_value.specs.Stacks.{HaveKeys}
 use Rattle.jiter_value.specs.Turns.{GoesOn, HasCome, HasGone, left}
 use Rattle.jiter_value.proofs.Turning.{turns_left}
@@ -9,7 +9,8 @@ invariant-turning g l =
     ((i : ℕ) → HasGone g.T.StringStorage.made g.T.StringStorage.wants l.bytes i l.initial.self
     → HasCome g.T.StringStorage.made g.T.StringStorage.wants l.bytes i l.self.settings l.self.stacks l.at l.state)
     × (l.self.settings ≡ l.initial.self.settings)
-    × g.K.Keys.serves l.keys g.T.StringStorage.made l.bytes
+    × g.K.Keys.serves l.keys g.T.StringStorage.made
+    × (g.K.Keys.stopped l.keys ≡ false)
     × (GoesOn l.state → (ks : List (List ℕ)) × g.K.Keys.knows l.keys ks × HaveKeys ks l.self.stacks.members.items)
     × (not (eqb g.row.ONCE 0) ≡ true → (l.at ≡ l.initial.self.at) × (l.state ≡ l.initial.self.state)
     × (l.self.stacks ≡ l.initial.self.stacks))

@@ -17,8 +17,11 @@ go-state-requires g c κs =
         (
           c.requires.repeats,
           (
-            (i, come-first g.T.StringStorage.made g.T.StringStorage.wants c.args.self.now.settings t s i h c.requires.within),
-            (tt, ([], tt, no-keys s h)),
+            refl,
+            (
+              (i, come-first g.T.StringStorage.made g.T.StringStorage.wants c.args.self.now.settings t s i h c.requires.within),
+              (tt, ([], tt, no-keys s h)),
+            ),
           ),
         ),
       ),

@@ -21,10 +21,13 @@ go-state-requires c κs =
       (
         c.requires.texts,
         (
-          (refl, c.requires.texts),
+          refl,
           (
-            (i, come-first lent_unique ⊥ c.args.reading.now.settings t s i h c.requires.within),
-            (tt, ([], rw c.new.ensures.items (All-nil (HasKeys [])), no-keys s h)),
+            refl,
+            (
+              (i, come-first lent_unique ⊥ c.args.reading.now.settings t s i h c.requires.within),
+              (tt, ([], rw c.new.ensures.items (All-nil (HasKeys [])), no-keys s h)),
+            ),
           ),
         ),
       ),

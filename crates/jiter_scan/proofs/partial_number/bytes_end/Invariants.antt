@@ -1,9 +1,0 @@
-use Rattle.std.proofs.Common.{length, ◌-◌}
-use Rattle.jiter_scan.specs.PartialNumber.{GoesTo}
-use Rattle.jiter_scan.proofs.partial_number.bytes_end.Given as goal
-
-abbrev pub invariant-loop-end : goal.invariant-loop-end
-invariant-loop-end l = GoesTo l.fn.stage l.piece l.fn.at l.reached l.end
-
-abbrev pub decreases-loop-end : goal.decreases-loop-end
-decreases-loop-end l = length l.piece - l.end

@@ -1,0 +1,67 @@
+-- A turn at a key: it leads on, or it is stopped.
+use Rattle.std.proofs.Common.{◌≡◌, ◌+◌, ◌++◌, ◌∙◌, ℕ, Bool, true, false, List, ap, refl}
+use Rattle.std.specs.Prelude.{OnOk}
+use Rattle.jiter_scan.specs.Kind.{Kind}
+use Rattle.jiter_scan.specs.NumberReading.{extent_then}
+use Rattle.jiter_scan.specs.Scanned.{taken, failed}
+use Rattle.jiter_scan.specs.Word.{Extent}
+use Rattle.jiter_steps.specs.Step.{colon, object_colon, step, value_first}
+use Rattle.jiter_value.specs.Settings.{Keeping}
+use Rattle.jiter_value.specs.Size.{key_size}
+use Rattle.jiter_value.specs.Stacks.{HaveKeys, LeavesKeys, Member, from_key, keys_of}
+use Rattle.jiter_value.specs.Turns.{HasTakenKey, Proceeds, left, outcome}
+use Rattle.jiter_value.specs.declared.settings.Settings.{Settings}
+use Rattle.jiter_value.specs.declared.stacks.Stacks.{Stacks}
+use Rattle.jiter_value.specs.declared.stacks.State.{State}
+use Rattle.jiter_value.proofs.KeptKeys.{left-keys, weaker-on}
+use Rattle.jiter_value.proofs.Turning.{keys-left}
+
+module _ (made : Keeping) (p : Settings) (t : List ℕ) (i : ℕ) (old new : Stacks) (r : ℕ × State) (stopped : Bool)
+    (Knows : List (List ℕ) → Type 0) (Refuses : Type 0) where
+  pub taken-on : stopped ≡ false
+      → Proceeds made p t i (left t old i) (key_size old + 1) (from_key made p t old i) new r
+      → OnOk (outcome new r.1) ((ks : List (List ℕ)) × Knows ks × HaveKeys ks new.members.items)
+      → HasTakenKey made p t i old new r stopped Knows Refuses
+  taken-on going leads keys = record {
+    leads = λ _. leads;
+    keys = λ _. keys;
+    refused = λ h. absurd (cc (going, h));
+    same = λ h. absurd (cc (going, h));
+  }
+
+  pub taken-back : stopped ≡ true → Refuses → new ≡ old → HasTakenKey made p t i old new r stopped Knows Refuses
+  taken-back stop refused same = record {
+    leads = λ h. absurd (cc (stop, h));
+    keys = λ h. absurd (cc (stop, h));
+    refused = λ _. refused;
+    same = λ _. same;
+  }
+
+-- The members that are left have keys that are known.
+pub left-known : (ks : List (List ℕ)) (old : List Member) (s : Stacks) (a : State) (Knows : List (List ℕ) → Type 0)
+    → Knows ks → HaveKeys ks old → OnOk (outcome s a) (LeavesKeys old s.members.items)
+    → OnOk (outcome s a) ((ks : List (List ℕ)) × Knows ks × HaveKeys ks s.members.items)
+left-known ks old s a Knows known have =
+    weaker-on s a (λ kept. (ks, known, keys-left ks old s.members.items have kept))
+
+-- The same where more are known after theirs.
+pub more-known : (old : List Member) (more : List (List ℕ)) (s : Stacks) (a : State)
+    (Knows : List (List ℕ) → Type 0) → Knows (keys_of old ++ more) → OnOk (outcome s a) (LeavesKeys old s.members.items)
+    → OnOk (outcome s a) ((ks : List (List ℕ)) × Knows ks × HaveKeys ks s.members.items)
+more-known old more s a Knows known =
+    weaker-on s a (λ kept. (keys_of old ++ more, known, left-keys old s.members.items more kept))
+
+-- A colon, and where a value begins after it.
+first-taken : (x : Extent) (then : ℕ → Extent) (m : ℕ) → extent_then x then ≡ taken tt m → (j : ℕ) × (x ≡ taken tt j)
+first-taken (taken u j) then m is = (j, refl)
+first-taken (failed k j) then m is = absurd (cc)
+
+pub colon-taken : (t : List ℕ) (e m : ℕ) → object_colon t e ≡ taken tt m → (j : ℕ) × (step t colon e ≡ taken tt j)
+colon-taken t e m is = first-taken (step t colon e) (step t value_first) m is
+
+pub after-colon : (t : List ℕ) (e j : ℕ) (x : Extent) → step t colon e ≡ taken tt j → step t value_first j ≡ x
+    → object_colon t e ≡ x
+after-colon t e j x colon first = ap (λ c. extent_then c (step t value_first)) colon ∙ first
+
+pub at-colon : (t : List ℕ) (e j : ℕ) (k : Kind) → step t colon e ≡ failed k j → object_colon t e ≡ failed k j
+at-colon t e j k colon = ap (λ c. extent_then c (step t value_first)) colon

@@ -1,0 +1,98 @@
+use Rattle.std.proofs.Common.{◌≡◌, ◌++◌, ◌∷◌, ◌∙◌, [], ap, arith, length, refl, reverse}
+use Rattle.std.proofs.lemmas.List.{length-reverse}
+use Rattle.jiter_scan.specs.Kind.{fault_kind}
+use Rattle.jiter_scan.specs.Scanned.{failed, taken}
+use Rattle.jiter_steps.specs.Read.{scalar_at}
+use Rattle.jiter_steps.specs.StringDecoder.{text_view}
+use Rattle.jiter_value.specs.Stacks.{keys_of}
+use Rattle.jiter_value.specs.declared.stacks.State.TheVariants as state
+use Rattle.jiter_value.proofs.KeptKeys.{pushed-keys}
+use Rattle.jiter_value.proofs.Placed.{key-at}
+use Rattle.jiter_value.proofs.StackTurns.{key-begins, key-limit, colon-fails}
+use Rattle.jiter_value.proofs.Taking.{after-colon, more-known, taken-on}
+use Rattle.jiter_value.proofs.TurnOutcomes.{leads-weaker}
+use Rattle.jiter_value.proofs.turns.general.kept_key.Goals as goal
+
+pub returns-in-Err-clause-turned : goal.returns-in-Err-clause-turned
+returns-in-Err-clause-turned g c =
+    let made = g.T.StringStorage.made in
+    let a = c.args in
+    let p = a.reading.now.settings in
+    let t = a.bytes.now in
+    let s = a.reading.now.stacks in
+    let read = c.requires.read in
+    let f = c.in-Err.fault in
+    let k = fault_kind f.kind in
+    let asked = c.if-not-admits.ensures in
+    let e = c.fault_at_key.ensures in
+    let first = c.in-Err.ensures in
+    taken-on made p t a.at s _ _ _ _ _ asked.stopped
+    (leads-weaker e.leads (omega (arith, read.within.0, c.requires.within.0, first.moves.forward))
+    (omega (arith, read.within.0, c.requires.within.0, first.moves.forward)) (omega arith)
+    (colon-fails made p t (reverse s.nest.items) s.items.items s.members.items a.at read.key a.end f.index
+    c.value_first.new.self.index k c.requires.stands (asked.free made c.requires.serves refl)
+    (omega (arith, read.within.0, read.within.1)) (ap (scalar_at a.at) read.read)
+    (after-colon t a.end a.after (failed k f.index) read.colon first.value.0, first.value.1)))
+    (more-known s.members.items _ c.fault_at_key.new.reading.stacks c.fault_at_key.result.1
+    (g.K.Keys.knows c.admits.new.self) (asked.known refl) e.keys)
+
+pub returns-then-len-gt-NESTING_LIMIT-clause-turned : goal.returns-then-len-gt-NESTING_LIMIT-clause-turned
+returns-then-len-gt-NESTING_LIMIT-clause-turned g c =
+    let made = g.T.StringStorage.made in
+    let a = c.args in
+    let p = a.reading.now.settings in
+    let t = a.bytes.now in
+    let s = a.reading.now.stacks in
+    let os = reverse s.nest.items in
+    let es = s.items.items in
+    let ms = s.members.items in
+    let read = c.requires.read in
+    let m = c.value_first.new.self.index in
+    let asked = c.if-not-admits.ensures in
+    let first = c.in_default.ensures in
+    let full : length os ≡ 201 = omega
+    (arith, length-reverse s.nest.items, c.len.ensures.value, c.if-len-gt-NESTING_LIMIT.true, c.requires.levels) in
+    rw c.too_deep.ensures.place
+    (taken-on made p t a.at s c.too_deep.new.stacks (m, state.GivenUp) _ _ _ asked.stopped
+    (record {
+      within = (
+        omega (arith, read.within.0, c.requires.within.0, first.moves.forward),
+        omega (arith, first.inside),
+      );
+      reaches = rw c.too_deep.ensures.error
+          (key-begins made p t os es ms a.at read.key a.end m c.requires.stands (asked.free made c.requires.serves refl)
+          (omega (arith, read.within.0, read.within.1)) (ap (scalar_at a.at) read.read)
+          (after-colon t a.end a.after (taken tt m) read.colon first.value)
+          ∙ key-limit made p t (made.text read.key) os es ms m c.requires.stands full);
+      left = tt;
+      held = tt;
+    })
+    tt)
+
+pub returns-in-Ok-clause-turned : goal.returns-in-Ok-clause-turned
+returns-in-Ok-clause-turned g c =
+    let made = g.T.StringStorage.made in
+    let a = c.args in
+    let p = a.reading.now.settings in
+    let t = a.bytes.now in
+    let s = a.reading.now.stacks in
+    let ms = s.members.items in
+    let read = c.requires.read in
+    let m = c.value_first.new.self.index in
+    let asked = c.if-not-admits.ensures in
+    let first = c.in_default.ensures in
+    let put = key-at made t s c.push_key.new.members a.at a.end m read.key a.key _ c.requires.stands
+    (asked.free made c.requires.serves refl) (omega (arith, read.within.0, read.within.1))
+    (ap (scalar_at a.at) read.read) read.kept (after-colon t a.end a.after (taken tt m) read.colon first.value)
+    c.in-Ok.ensures (omega (arith, read.within.0, c.requires.within.0, first.moves.forward)) first.inside in
+    taken-on made p t a.at s _ _ _ _ _ asked.stopped
+    (record {
+      within = (omega (arith, put.ahead), omega (arith, put.within));
+      reaches = (
+        put.value p,
+        (put.stands, omega (arith, c.len.ensures.value, c.if-len-gt-NESTING_LIMIT.false), put.within),
+      );
+      left = omega (arith, put.ahead, put.within);
+      held = omega (arith, put.held);
+    })
+    (keys_of ms ++ (text_view a.key).bytes ∷ [], asked.known refl, pushed-keys ms _ a.key _ c.in-Ok.ensures)
