@@ -20,5 +20,5 @@ pub mod Extends
 pub mod Frames
 pub mod FirstFault
 pub mod Skip
-pub mod Fast
+pub mod Found
 pub mod Unique

@@ -1,26 +1,23 @@
-//! A reader with a position in the bytes. It reads literals, numbers, strings, and the steps between the parts of
-//! arrays and objects.
-ghost use Rattle.std.specs.Prelude.{◌≡◌, ◌+◌, ◌≤◌, ◌<◌, IfOk, OnOk, OnErr, IfSome, true, length, slice_get};
+//! A reader with a position in the bytes. It reads literals, numbers and strings, and goes to where a step ended.
+ghost use Rattle.std.specs.Prelude.{◌≡◌, ◌≤◌, ◌<◌, IfOk, None, OnOk, OnErr, true, length};
 ghost use Rattle.jiter_scan.specs.Kind.{fault_kind};
 ghost use Rattle.jiter_scan.specs.NumberReading.{number_at};
 ghost use Rattle.jiter_scan.specs.NumberDecoder.{number_view};
 ghost use Rattle.jiter_scan.specs.Scanned.{Scans, taken};
-ghost use Rattle.jiter_steps.specs.Blank.{past_blanks};
+ghost use Rattle.jiter_steps.specs.Found.{extent_of, step_of};
 ghost use Rattle.jiter_steps.specs.Literal.{start_of, word_of, literal_at};
-ghost use Rattle.jiter_steps.specs.Step.{step, closer_of, begins_part, end_kind_of, comma_kind_of};
-ghost use Rattle.jiter_steps.specs.Step.{container_first, container_comma, container_step};
-ghost use Rattle.jiter_steps.specs.Step.{colon, value_first, object_colon, document_end};
+ghost use Rattle.jiter_steps.specs.Step.{step, closer_of, begins_part, end_kind_of, comma_kind_of, document_end};
 ghost use Rattle.jiter_steps.specs.Read.{scalar_at};
 ghost use Rattle.jiter_steps.specs.ReadError.{WhereRefused};
 ghost use Rattle.jiter_steps.specs.StringReading.{string_at, text_form};
 ghost use Rattle.jiter_steps.specs.StringDecoder.{text_view, WantsMemory};
 
 use crate::blank::past_blanks;
-use crate::fast::peek;
 use crate::read_error::ReadError;
+use crate::step::Step;
 use crate::string_decoder::string_at;
 use jiter_scan::NumberAny;
-use jiter_scan::errors::{Fault, FaultKind};
+use jiter_scan::errors::{Fault, FaultKind, fault_at};
 use jiter_scan::number_decoder::number_at;
 use jiter_scan::word::word_end;
 use std::alloc::Global;
@@ -162,149 +159,38 @@ impl<'j> Parser<'j> {
         Self { bytes, index: 0 }
     }
 
-    #[cold]
-    fn fault(&self, kind: FaultKind) -> Fault
-        ensures { result ≡ record { kind = kind; index = self.now.index } }
-    {
-        Fault {
-            kind,
-            index: self.index,
-        }
-    }
-
-    // Skips whitespace. The byte after it is returned but not passed.
+    /// Moves to where a step ended. Fails with the error that it found there.
     #[inline(always)]
-    fn next_byte(&mut self) -> Option<u8>
+    pub fn go(&mut self, found: (usize, Option<FaultKind>)) -> Result<(), Fault>
+        requires { (self.old.index ≤ found.0) × (found.0 ≤ length self.old.bytes.now) }
         ensures moves { Moves self.old self.new }
-        ensures place { self.new.index ≡ past_blanks self.old.bytes.now self.old.index }
-        ensures value { result ≡ slice_get self.old.bytes.now self.new.index }
-        ensures inside { IfSome result (λ _. self.new.index < length self.old.bytes.now) }
+        ensures value { Leads result self.new.index (extent_of found.0 found.1) }
+        ensures place { self.new.index ≡ found.0 }
+        ensures ok { OnOk result (found.1 ≡ None) }
     {
-        let (at, byte) = peek(self.bytes, self.index);
+        let (at, fault) = found;
         self.index = at;
-        byte
-    }
-
-    /// Passes the opening bracket at the reader's position, and returns whether a part follows (RFC 8259, 4 and 5). The
-    /// reader is then at the part, or after the closing bracket. After an error it is at the error's index.
-    #[inline(always)]
-    pub fn first(&mut self, shape: ContainerKind) -> Result<bool, Fault>
-        requires { self.old.index < length self.old.bytes.now }
-        ensures moves { Moves self.old self.new }
-        ensures value { Steps result self.new.index
-            (step self.old.bytes.now (container_first shape) (self.old.index + 1)) }
-        ensures ahead { self.old.index < self.new.index }
-        ensures inside { IfOk result (λ more. more ≡ true
-            → self.new.index < length self.old.bytes.now) }
-    {
-        self.index += 1;
-        match self.next_byte() {
-            None => Err(self.fault(shape.end_kind())),
-            Some(byte) => {
-                if shape.begins_part(byte) {
-                    Ok(true)
-                } else if byte == shape.closer() {
-                    self.index += 1;
-                    Ok(false)
-                } else {
-                    Err(self.fault(FaultKind::KeyMustBeAString))
-                }
-            }
+        match fault {
+            None => Ok(()),
+            Some(kind) => Err(fault_at(kind, at)),
         }
     }
 
-    /// Returns whether another part follows the one before the reader's position (RFC 8259, 4 and 5). The reader is
-    /// then at the part, or after the closing bracket. After an error it is at the error's index.
+    /// Moves to where a step of a container ended. Returns `true` at a part, and `false` after the container.
     #[inline(always)]
-    pub fn step(&mut self, shape: ContainerKind) -> Result<bool, Fault>
+    pub fn step(&mut self, found: (usize, Step)) -> Result<bool, Fault>
+        requires { (self.old.index ≤ found.0) × (found.0 ≤ length self.old.bytes.now) }
         ensures moves { Moves self.old self.new }
-        ensures value { Steps result self.new.index
-            (step self.old.bytes.now (container_step shape self.old.bytes.now) self.old.index) }
-        ensures inside { IfOk result (λ more. more ≡ true
-            → self.new.index < length self.old.bytes.now) }
+        ensures value { Steps result self.new.index (step_of found.0 found.1) }
+        ensures place { self.new.index ≡ found.0 }
+        ensures part { IfOk result (λ more. more ≡ true → found.1 ≡ Step.Part) }
     {
-        match self.next_byte() {
-            None => Err(self.fault(shape.end_kind())),
-            Some(byte) => {
-                if byte == shape.closer() {
-                    self.index += 1;
-                    Ok(false)
-                } else if byte == b',' {
-                    self.index += 1;
-                    self.comma(shape)
-                } else {
-                    Err(self.fault(shape.comma_kind()))
-                }
-            }
-        }
-    }
-
-    #[inline(always)]
-    fn comma(&mut self, shape: ContainerKind) -> Result<bool, Fault>
-        ensures moves { Moves self.old self.new }
-        ensures value { Steps result self.new.index
-            (step self.old.bytes.now (container_comma shape) self.old.index) }
-        ensures inside { IfOk result (λ more. more ≡ true
-            → self.new.index < length self.old.bytes.now) }
-    {
-        match self.next_byte() {
-            None => Err(self.fault(FaultKind::EofWhileParsingValue)),
-            Some(byte) => {
-                if shape.begins_part(byte) {
-                    Ok(true)
-                } else if byte == shape.closer() {
-                    Err(self.fault(FaultKind::TrailingComma))
-                } else {
-                    Err(self.fault(FaultKind::KeyMustBeAString))
-                }
-            }
-        }
-    }
-
-    /// Passes the colon after a key and whitespace, up to the first byte of the value (RFC 8259, 4). After an error the
-    /// reader is at the error's index.
-    #[inline(always)]
-    pub fn object_colon(&mut self) -> Result<(), Fault>
-        ensures moves { Moves self.old self.new }
-        ensures value { Leads result self.new.index
-            (object_colon self.old.bytes.now self.old.index) }
-        ensures inside { OnOk result (self.new.index < length self.old.bytes.now) }
-    {
-        self.colon()?;
-        self.value_first()
-    }
-
-    /// Passes the colon after a key (RFC 8259, 4). After an error the reader is at the error's index.
-    #[inline(always)]
-    pub fn colon(&mut self) -> Result<(), Fault>
-        ensures moves { Moves self.old self.new }
-        ensures value { Leads result self.new.index
-            (step self.old.bytes.now colon self.old.index) }
-    {
-        match self.next_byte() {
-            None => Err(self.fault(FaultKind::EofWhileParsingObject)),
-            Some(byte) => {
-                if byte == b':' {
-                    self.index += 1;
-                    Ok(())
-                } else {
-                    Err(self.fault(FaultKind::ExpectedColon))
-                }
-            }
-        }
-    }
-
-    /// Skips whitespace up to the first byte of a value. Fails at the end of the input.
-    #[inline(always)]
-    pub fn value_first(&mut self) -> Result<(), Fault>
-        ensures moves { Moves self.old self.new }
-        ensures value { Leads result self.new.index
-            (step self.old.bytes.now value_first self.old.index) }
-        ensures inside { OnOk result (self.new.index < length self.old.bytes.now) }
-    {
-        match self.next_byte() {
-            None => Err(self.fault(FaultKind::EofWhileParsingValue)),
-            Some(_) => Ok(()),
+        let (at, step) = found;
+        self.index = at;
+        match step {
+            Step::Part => Ok(true),
+            Step::End => Ok(false),
+            Step::Fault(kind) => Err(fault_at(kind, at)),
         }
     }
 
@@ -316,7 +202,7 @@ impl<'j> Parser<'j> {
     {
         self.index = past_blanks(self.bytes, self.index);
         if self.index < self.bytes.len() {
-            return Err(self.fault(FaultKind::TrailingCharacters));
+            return Err(fault_at(FaultKind::TrailingCharacters, self.index));
         }
         Ok(())
     }

@@ -14,6 +14,7 @@ ghost use Rattle.jiter_steps.specs.Step.{opening};
 use crate::fast_skip::{REACH, fast_end, fast_first_inside, fast_run, fast_value_end};
 use crate::parse::{ContainerKind, NESTING_LIMIT, Parser, Start, start_of};
 use crate::raw_string::string_end;
+use crate::step::{first, member_value, next};
 use jiter_scan::errors::{Fault, FaultKind};
 use jiter_scan::number_extent::number_end;
 
@@ -42,7 +43,7 @@ fn value_inside(parser: &mut Parser<'_>, shape: ContainerKind) -> Result<bool, F
         ContainerKind::Array => Ok(true),
         ContainerKind::Object => {
             parser.index = string_end(parser.bytes, parser.index)?;
-            parser.object_colon()?;
+            parser.go(member_value(parser.bytes, parser.index))?;
             Ok(true)
         }
     }
@@ -59,7 +60,7 @@ fn first_inside(parser: &mut Parser<'_>, shape: ContainerKind) -> Result<bool, F
     ensures inside { IfOk result (λ more. more ≡ true
         → parser.new.index < length parser.old.bytes.now) }
 {
-    match parser.first(shape) {
+    match parser.step(first(parser.bytes, parser.index + 1, shape)) {
         Ok(true) => value_inside(parser, shape),
         Ok(false) => Ok(false),
         Err(fault) => Err(fault),
@@ -75,7 +76,7 @@ fn next_inside(parser: &mut Parser<'_>, shape: ContainerKind) -> Result<bool, Fa
     ensures inside { IfOk result (λ more. more ≡ true
         → parser.new.index < length parser.old.bytes.now) }
 {
-    match parser.step(shape) {
+    match parser.step(next(parser.bytes, parser.index, shape)) {
         Ok(true) => value_inside(parser, shape),
         Ok(false) => Ok(false),
         Err(fault) => Err(fault),

@@ -2,7 +2,7 @@ use Rattle.std.proofs.Common.{◌∙◌, ap, arith, sym}
 use Rattle.std.specs.Prelude.{Some}
 use Rattle.jiter_steps.proofs.Grammar.Blanks.{past_blanks-above}
 use Rattle.jiter_steps.proofs.Grammar.Places.{got}
-use Rattle.jiter_steps.proofs.fast.peek_for.Goals as goal
+use Rattle.jiter_steps.proofs.step.peek_for.Goals as goal
 
 pub returns-then-bytes-from-clause-place : goal.returns-then-bytes-from-clause-place
 returns-then-bytes-from-clause-place c =

@@ -3,7 +3,7 @@ use Rattle.std.specs.Prelude.{Some}
 use Rattle.std.proofs.lemmas.Bool.{eqb-true}
 use Rattle.jiter_steps.proofs.Grammar.Blanks.{past_blanks-above}
 use Rattle.jiter_steps.proofs.Grammar.Places.{got}
-use Rattle.jiter_steps.proofs.fast.is_before_another.Goals as goal
+use Rattle.jiter_steps.proofs.step.is_before_another.Goals as goal
 
 pub returns-then-from-bytes-clause-place : goal.returns-then-from-bytes-clause-place
 returns-then-from-bytes-clause-place c is =

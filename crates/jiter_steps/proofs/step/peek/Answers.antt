@@ -1,7 +1,7 @@
 use Rattle.std.proofs.Common.{arith, sym}
 use Rattle.jiter_steps.proofs.Grammar.Blanks.{past_blanks-above}
 use Rattle.jiter_steps.proofs.Grammar.Places.{got}
-use Rattle.jiter_steps.proofs.fast.peek.Goals as goal
+use Rattle.jiter_steps.proofs.step.peek.Goals as goal
 
 pub returns-then-byte-gt32-clause-place : goal.returns-then-byte-gt32-clause-place
 returns-then-byte-gt32-clause-place c =
