@@ -4,6 +4,7 @@ use Rattle.std.proofs.Common.{refl, ap, sym, subst, ◌∙◌, ◌≤◌, arith,
 use Rattle.std.specs.Prelude.{slice_get, Some}
 use Rattle.std.specs.List.{prefix_len, list_all}
 use Rattle.std.proofs.lemmas.Bool.{eqb-true}
+use Rattle.std.proofs.lemmas.Bool.Decides.{nat_tests}
 use Rattle.std.proofs.lemmas.List.{length-drop, get_or-drop}
 use Rattle.std.proofs.lemmas.Option.{slice_get_within, get_or_from_slice_get}
 use lib.Lanes.{chunk}
@@ -11,7 +12,7 @@ use Rattle.jiter_scan.specs.Scan.{is_plain, is_ascii, is_plain_ascii, run_end, s
 use Rattle.jiter_scan.specs.Simd.{failing, ascii_from}
 use Rattle.jiter_scan.proofs.Chunks.{list_all-failing, none_fails, run_end-on, run_end-through}
 use Rattle.jiter_scan.proofs.PlainRuns.{ascii_from-clear, IsAsciiTo-iff}
-use Rattle.jiter_scan.proofs.Runs.{run_end-ahead, run_end-within}
+use Rattle.jiter_scan.proofs.Runs.{run_end-ahead, run_end-stops, run_end-within}
 
 and-left : (a b : Bool) → (a && b) ≡ true → a ≡ true
 and-left true b h = refl
@@ -92,26 +93,32 @@ module _ (t : List ℕ) (i : ℕ) where
       let before = shorter is_plain_ascii is_plain plain-of (drop i t) in
       scan-on to (omega arith) (omega (arith, before)) inside
 
-  -- a quote that ends a run of plain bytes of ASCII ends the run of plain bytes
-  quote-same : (to : ℕ) → run_end is_plain_ascii t i ≡ to → slice_get t to ≡ Some 34
-      → prefix_len is_plain (drop i t) ≡ prefix_len is_plain_ascii (drop i t)
-  quote-same to h quote =
-      let n = prefix_len is_plain_ascii (drop i t) in
-      let place : to ≡ i + n = omega arith in
-      let here = subst (λ k. slice_get t k ≡ Some 34) place quote in
-      let inside = slice_get_within t (i + n) 34 here in
-      let byte : get_or (drop i t) n 0 ≡ 34 = get_or-drop i t n 0 ∙ get_or_from_slice_get t (i + n) 34 0 here in
-      same-end is_plain_ascii is_plain plain-of (drop i t) (omega (arith, inside, length-drop i t)) (ap is_plain byte)
+  -- a stop that ends a run of plain bytes of ASCII ends the run of plain bytes
+  module _ (to b : ℕ) (run : run_end is_plain_ascii t i ≡ to) (here : slice_get t to ≡ Some b)
+      (stops : is_plain b ≡ false) where
+    stop-same : prefix_len is_plain (drop i t) ≡ prefix_len is_plain_ascii (drop i t)
+    stop-same =
+        let n = prefix_len is_plain_ascii (drop i t) in
+        let place : to ≡ i + n = omega arith in
+        let at_n = subst (λ k. slice_get t k ≡ Some b) place here in
+        let inside = slice_get_within t (i + n) b at_n in
+        let byte : get_or (drop i t) n 0 ≡ b = get_or-drop i t n 0 ∙ get_or_from_slice_get t (i + n) b 0 at_n in
+        same-end is_plain_ascii is_plain plain-of (drop i t) (omega (arith, inside, length-drop i t))
+        (ap is_plain byte ∙ stops)
 
-  pub quote-stops : (to : ℕ) → run_end is_plain_ascii t i ≡ to → slice_get t to ≡ Some 34 → to ≡ scan_stop t i
-  quote-stops to h quote = omega (arith, quote-same to h quote)
+    pub ascii-stops : to ≡ scan_stop t i
+    ascii-stops = omega (arith, stop-same)
 
-  pub quote-ascii : (to : ℕ) → run_end is_plain_ascii t i ≡ to → slice_get t to ≡ Some 34 → IsAsciiTo t i to
-  quote-ascii to h quote =
-      let all : ascii_from t i ≡ true =
-      ap (λ n. list_all is_ascii (take n (drop i t))) (quote-same to h quote)
-      ∙ prefix-passes is_plain_ascii is_ascii ascii-of (drop i t) in
-      (IsAsciiTo-iff t i to true (quote-stops to h quote) (sym all)).0 refl
+    pub ascii-before : IsAsciiTo t i to
+    ascii-before =
+        let all : ascii_from t i ≡ true =
+        ap (λ n. list_all is_ascii (take n (drop i t))) stop-same
+        ∙ prefix-passes is_plain_ascii is_ascii ascii-of (drop i t) in
+        (IsAsciiTo-iff t i to true ascii-stops (sym all)).0 refl
+
+  -- and if it is below 80 hex, it is a stop
+  pub low-stops : (b : ℕ) → slice_get t (run_end is_plain_ascii t i) ≡ Some b → b < 128 → is_plain b ≡ false
+  low-stops b here low = grind (arith, nat_tests, run_end-stops is_plain_ascii t i b here)
 
   -- past a chunk of such bytes
   module _ (long : i + 16 ≤ length t) (none : failing is_plain_ascii (chunk i 16 t) ≡ 0) where

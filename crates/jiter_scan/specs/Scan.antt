@@ -1,8 +1,12 @@
 -- Runs of bytes, and where they end.
-use Rattle.std.specs.Prelude.{◌≡◌, ℕ, ◌+◌, ◌≤◌, ◌==◌, ◌||◌, ◌&&◌, Bool, true, not, List, [], ◌∷◌, drop, length, nat_lt}
-use Rattle.std.specs.Prelude.{slice_get, slice_range, Result, Ok, Err, Some}
+use Rattle.std.specs.Prelude.{◌≡◌, ℕ, ◌+◌, ◌<◌, ◌≤◌, ◌==◌, ◌||◌, ◌&&◌, Bool, true, not, List, [], ◌∷◌, drop, length, nat_lt}
+use Rattle.std.specs.Prelude.{slice_get, slice_range, IsTrue, Option, Result, Ok, Err, Some, None}
 use Rattle.std.specs.List.{prefix_len, AllPass}
 use Rattle.jiter_scan.specs.Ascii as ascii
+use Rattle.jiter_scan.specs.declared.errors.FaultKind.{FaultKind}
+use Rattle.jiter_scan.specs.declared.errors.FaultKind.TheVariants as fault
+use Rattle.jiter_scan.specs.declared.short_scan.Look.{Look}
+use Rattle.jiter_scan.specs.declared.short_scan.Look.TheVariants as look
 
 -- where the run of bytes that pass this test ends, if it begins at i
 abbrev pub run_end : (ℕ → Bool) → List ℕ → ℕ → ℕ
@@ -52,3 +56,15 @@ pub record GoesOnAt (t : List ℕ) (i j : ℕ) : Type 0 where
 abbrev pub FindsQuote : List ℕ → ℕ → Result ℕ ℕ → Type 0
 FindsQuote t i (Ok e) = IsQuoteAfter t i e
 FindsQuote t i (Err j) = GoesOnAt t i j
+
+-- the error of a string that goes on with this byte, which is no plain one, or ends with the input
+abbrev pub IsFaultOf : Option ℕ → FaultKind → Type 0
+IsFaultOf None k = k ≡ fault.EofWhileParsingString
+IsFaultOf (Some b) k = (b < ascii.space) × (k ≡ fault.ControlCharacterWhileParsingString)
+
+-- what a string from i on has at j, after its plain bytes
+abbrev pub IsLook : List ℕ → ℕ → ℕ → Look → Type 0
+IsLook t i j look.Plain = (slice_get t j ≡ Some ascii.quote) × IsAsciiTo t i j
+IsLook t i j look.Utf8 = slice_get t j ≡ Some ascii.quote
+IsLook t i j (look.Escaped a) = (slice_get t j ≡ Some ascii.backslash) × (IsTrue a → IsAsciiTo t i j)
+IsLook t i j (look.Fault k) = IsFaultOf (slice_get t j) k

@@ -1,9 +1,91 @@
-//! Scans strings of plain ASCII that most likely end within sixteen bytes.
-ghost use Rattle.std.specs.Prelude.{◌≤◌, length};
-ghost use Rattle.jiter_scan.specs.Scan.{FindsQuote};
+//! One look at a whole string, which most likely ends within sixteen bytes.
+ghost use Rattle.std.specs.Prelude.{◌≡◌, ◌≤◌, ℕ, IsTrue, length};
+ghost use Rattle.jiter_scan.specs.Scan.{FindsQuote, IsAsciiTo, IsLook, scan_stop};
 
-use crate::simd::{ascii_stops, scan_string};
+use crate::errors::FaultKind;
+use crate::simd::{ascii_stops, scan_string, string_stop};
+use crate::word::byte_at;
 use std::simd::prelude::*;
+
+/// What one look at a whole string found.
+#[derive(Clone, Copy, Debug, PartialEq, Eq)]
+pub enum Look {
+    /// The closing quote. All bytes of the string are plain and below 80 hex.
+    Plain,
+    /// The closing quote. All bytes of the string are plain. Whether they are UTF-8 is not tested.
+    Utf8,
+    /// The first backslash, and whether all bytes before it are below 80 hex. All of them are plain.
+    Escaped(bool),
+    /// An error, or the end of the input.
+    Fault(FaultKind),
+}
+
+// What the byte at `to`, the first one that is not plain, means to a string. `ascii` says whether all bytes before it
+// are below 80 hex.
+#[inline(always)]
+fn look_of(bytes: &[u8], to: usize, ascii: bool) -> Look
+    ensures { (i : ℕ) → to ≡ scan_stop bytes.now i → (IsTrue ascii → IsAsciiTo bytes.now i to)
+        → IsLook bytes.now i to result }
+{
+    match byte_at(bytes, to) {
+        None => Look::Fault(FaultKind::EofWhileParsingString),
+        Some(byte) => {
+            if byte == b'"' {
+                if ascii { Look::Plain } else { Look::Utf8 }
+            } else if byte == b'\\' {
+                Look::Escaped(ascii)
+            } else {
+                Look::Fault(FaultKind::ControlCharacterWhileParsingString)
+            }
+        }
+    }
+}
+
+// For a string that has fewer than sixteen bytes after `from`, or goes on after sixteen.
+#[inline(always)]
+fn far_look(bytes: &[u8], from: usize) -> (usize, Look)
+    requires { from ≤ length bytes.now }
+    ensures stop { result.0 ≡ scan_stop bytes.now from }
+    ensures within { (from ≤ result.0) × (result.0 ≤ length bytes.now) }
+    ensures means { IsLook bytes.now from result.0 result.1 }
+{
+    let (to, ascii) = scan_string(bytes, from);
+    (to, look_of(bytes, to, ascii))
+}
+
+/// Looks at the string whose first byte after the opening quote is at `from` (RFC 8259, 7).
+///
+/// Returns the index of the first byte that is not plain, or the length, and what is there. Fastest if that is a quote
+/// among the first sixteen bytes, and all bytes before it are below 80 hex.
+///
+/// # Requires
+///
+/// - `from` is at most the length.
+#[inline(always)]
+pub fn look_at(bytes: &[u8], from: usize) -> (usize, Look)
+    requires { from ≤ length bytes.now }
+    ensures stop { result.0 ≡ scan_stop bytes.now from }
+    ensures within { (from ≤ result.0) × (result.0 ≤ length bytes.now) }
+    ensures means { IsLook bytes.now from result.0 result.1 }
+{
+    if bytes.len() - from < 16 {
+        return far_look(bytes, from);
+    }
+    let found = ascii_stops(u8x16::from_slice(&bytes[from..]));
+    if found == 0 {
+        return far_look(bytes, from + 16);
+    }
+    let to = from + found.trailing_zeros() as usize;
+    let byte = bytes[to];
+    if byte == b'"' {
+        return (to, Look::Plain);
+    }
+    if byte >= 0x80 {
+        let stop = string_stop(bytes, to);
+        return (stop, look_of(bytes, stop, false));
+    }
+    (to, look_of(bytes, to, true))
+}
 
 // Scans a string that goes on after the first sixteen bytes, or has fewer.
 #[inline(always)]

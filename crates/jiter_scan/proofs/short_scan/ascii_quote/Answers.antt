@@ -1,11 +1,11 @@
-use Rattle.std.proofs.Common.{◌≡◌, ℕ, ◌+◌, ◌<◌, ◌≤◌, ◌∙◌, ap, sym, arith, get_or, length, List, Ok, Err}
+use Rattle.std.proofs.Common.{◌≡◌, ℕ, ◌+◌, ◌<◌, ◌≤◌, ◌∙◌, ap, refl, sym, arith, get_or, length, List, Ok, Err}
 use Rattle.std.specs.Prelude.{Result, Some, slice_get}
 use Rattle.std.proofs.lemmas.Option.{slice_get-get_or}
 use lib.Count.{count_trailing_zeros}
 use lib.Lanes.{chunk}
 use Rattle.jiter_scan.specs.Scan.{is_plain_ascii, run_end, FindsQuote}
 use Rattle.jiter_scan.specs.Simd.{failing}
-use Rattle.jiter_scan.proofs.AsciiRuns.{quote-stops, quote-ascii, text-through, ascii-again, ascii-through}
+use Rattle.jiter_scan.proofs.AsciiRuns.{ascii-stops, ascii-before, text-through, ascii-again, ascii-through}
 use Rattle.jiter_scan.proofs.Chunks.{run_end-near, run_end-stopped}
 use Rattle.jiter_scan.proofs.short_scan.ascii_quote.Goals as goal
 
@@ -57,7 +57,7 @@ returns-then-bytes-to-eq34 c =
     let found = c.ascii_stops-found in
     let end = run t i found.result (omega arith) found.ensures (omega arith) in
     let quote = quote-there t i found.result (omega arith) found.ensures (omega arith) c.if-bytes-to-eq34.true in
-    record { stop = quote-stops t i _ end quote; quote = quote; ascii = quote-ascii t i _ end quote }
+    record { stop = ascii-stops t i _ 34 end quote refl; quote = quote; ascii = ascii-before t i _ 34 end quote refl }
 
 pub returns-else-bytes-to-eq34 : goal.returns-else-bytes-to-eq34
 returns-else-bytes-to-eq34 c =

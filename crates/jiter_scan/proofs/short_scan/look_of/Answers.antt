@@ -1,0 +1,19 @@
+use Rattle.std.proofs.Common.{◌≡◌, ◌≢◌, ℕ, ◌<◌, false, refl, sym, ◌∙◌, arith, subst}
+use Rattle.std.specs.Prelude.{slice_get, Some}
+use Rattle.std.proofs.lemmas.Bool.Decides.{nat_tests}
+use Rattle.jiter_scan.specs.Scan.{is_plain, IsFaultOf}
+use Rattle.jiter_scan.specs.declared.errors.FaultKind.TheVariants as fault
+use Rattle.jiter_scan.proofs.Runs.{run_end-stops}
+use Rattle.jiter_scan.proofs.short_scan.look_of.Goals as goal
+
+control : (b : ℕ) → is_plain b ≡ false → b ≢ 34 → b ≢ 92 → b < 32
+control b stops quote backslash = grind (arith, nat_tests, stops, quote, backslash)
+
+pub returns-else-byte-eq92 : goal.returns-else-byte-eq92
+returns-else-byte-eq92 c i stop ascii =
+    let t = c.args.bytes.now in
+    let b = c.in-Some.byte in
+    let here : slice_get t c.args.to ≡ Some b = sym c.in-Some.ensures.value in
+    let stops = run_end-stops is_plain t i b (subst (λ j. slice_get t j ≡ Some b) stop here) in
+    subst (λ o. IsFaultOf o fault.ControlCharacterWhileParsingString) (sym here)
+    (control b stops c.if-byte-eq34.false c.if-byte-eq92.false, refl)
