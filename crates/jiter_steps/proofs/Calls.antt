@@ -13,6 +13,7 @@ pub mod Letters
 pub mod FastAnswers
 pub mod PlainRuns
 pub mod FastSkips
+pub mod Looks
 pub mod RawStrings
 pub mod Resumed
 pub mod SkipLaw
