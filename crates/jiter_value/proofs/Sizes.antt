@@ -67,6 +67,12 @@ after-part-size shape.Array (o ∷ os) es ms root b = refl
 after-part-size shape.Object [] es ms root b = absurd b
 after-part-size shape.Object (o ∷ os) es ms root b = refl
 
+pub item-size : (os : List Open) (es : List JsonValue) (ms : List Member)
+    → HaveBases slot.Item os (length es) (length ms)
+    → inside_size_in shape.Array os es ms ≡ frames_size (frames slot.Item os es ms)
+item-size [] es ms b = absurd b
+item-size (o ∷ os) es ms b = refl
+
 -- a key that awaits its value counts one
 pub key-size : (os : List Open) (es : List JsonValue) (before : List Member) (m : Member)
     → HaveKeyBase os (length es) (length before)

@@ -27,12 +27,12 @@ use Rattle.jiter_steps.specs.declared.parse.ContainerKind.TheVariants as shape
 use Rattle.jiter_steps.proofs.Reading.Values.{Advances}
 use Rattle.jiter_steps.proofs.Calls.Resumed.{IgnoresBegin, value_in-levels, value_in-limit, if_forgiven-no}
 use Rattle.jiter_steps.proofs.Calls.Resumed.{resume-fault}
-use Rattle.jiter_steps.proofs.Calls.Resumed.{resume-forgiven, step-to, step-stuck, items-value, key-value, key-failed}
+use Rattle.jiter_steps.proofs.Calls.Resumed.{step-to, step-stuck, items-value, key-value, key-failed}
 use Rattle.jiter_steps.proofs.Calls.Resumed.{colon-failed, container-begins}
 use Rattle.jiter_value.specs.Scratch.{HoldsNothing}
 use Rattle.jiter_value.specs.Settings.{Keeping, forgives, rules_as}
 use Rattle.jiter_value.specs.Stacks.{Member, member_view, last_key_of, last_key, but_last, frames, PartTree, built}
-use Rattle.jiter_value.specs.Stacks.{parts_above, frames_below, HaveBases, HaveKeyBase, key_in, key_fault_in}
+use Rattle.jiter_value.specs.Stacks.{parts_above, frames_below, HavePartBase, HaveBases, HaveKeyBase, key_in, container_fault_in}
 use Rattle.jiter_value.specs.Stacks.{refused_in}
 use Rattle.jiter_value.specs.Stacks.{after_in, container_in, slot_in, empty_tree, Stands}
 use Rattle.jiter_value.specs.Turns.{Fails, IsResolved}
@@ -203,6 +203,17 @@ module _ (made : Keeping) (p : Settings) (t : List ℕ) where
   outermost shape.Array n m b = b
   outermost shape.Object n m b = b
 
+  -- a fault follows a part
+  stuck-after : (h : ContainerKind) (o : Open) (os : List Open) (es : List JsonValue) (ms : List Member)
+      (root : JsonValue) (e : ℕ) (k : Kind) (j : ℕ) → step t (container_step h t) e ≡ stuck k j
+      → after_in made p t (slot_in h) (o ∷ os) es ms root e ≡ container_fault_in made p t h (o ∷ os) es ms k j j
+  stuck-after shape.Array o os es ms root e k j s = rw s refl
+  stuck-after shape.Object o os es ms root e k j s = rw s refl
+
+  alone : (h : ContainerKind) (n m : ℕ) → HavePartBase h [] n m → ⊥
+  alone shape.Array n m b = b
+  alone shape.Object n m b = b
+
   -- a part of the innermost container is awaited at j
   abbrev pub part_in : ContainerKind → List Open → List JsonValue → List Member → ℕ → Reading Tree
   part_in shape.Array os es ms j = value_from (rules_as made p) t (frames slot.Item os es ms) j
@@ -245,17 +256,26 @@ module _ (made : Keeping) (p : Settings) (t : List ℕ) where
         (after-to h o os es ms root e (stuck (fault_kind r.0.kind) j) r.3
         ∙ stuck-to h (frames_below h o os es ms) (parts_above h o.base es ms) (fault_kind r.0.kind) j r.4)
 
+    pub after-stuck : (os : List Open) (k : Kind) (j : ℕ) → HaveBases (slot_in h) os (length es) (length ms)
+        → step t (container_step h t) e ≡ stuck k j
+        → after_in made p t (slot_in h) os es ms root e ≡ container_fault_in made p t h os es ms k j j
+    after-stuck [] k j b s = absurd (outermost h (length es) (length ms) b)
+    after-stuck (o ∷ os) k j b s = stuck-after h o os es ms root e k j s
+
   -- A fault where a value is awaited.
+  pub fault-item : (os : List Open) (es : List JsonValue) (ms : List Member) (n m : ℕ) (k : Kind) (x stop : ℕ)
+      → HaveBases slot.Item os n m
+      → resume (rules_as made p) t (frames slot.Item os es ms) (fault k x stop)
+      ≡ container_fault_in made p t shape.Array os es ms k x stop
+  fault-item [] es ms n m k x stop b = absurd b
+  fault-item (o ∷ os) es ms n m k x stop b = refl
+
   pub fault-value : (os : List Open) (es : List JsonValue) (before : List Member) (m : Member) (k : Kind)
-      (x stop : ℕ) → HaveKeyBase os (length es) (length before) → forgives p.mode k ≡ true
-      → resume (rules_as made p) t (frames slot.Member os es (before ++ m ∷ [])) (fault k x stop) ≡ container_in made
-      p t
-      shape.Object os es before stop
-  fault-value [] es before m k x stop b ok = absurd b
-  fault-value (o ∷ os) es before m k x stop b ok =
-      rw (value-frames o os es before m b.0)
-      (resume-forgiven (rules_as made p) t (members_frame (map member_view (drop o.base before)) (text_view m.0))
-      (frames o.outer os es (take o.base before)) k x stop ok)
+      (x stop : ℕ) → HaveKeyBase os (length es) (length before)
+      → resume (rules_as made p) t (frames slot.Member os es (before ++ m ∷ [])) (fault k x stop)
+      ≡ container_fault_in made p t shape.Object os es before k x stop
+  fault-value [] es before m k x stop b = absurd b
+  fault-value (o ∷ os) es before m k x stop b = rw (value-frames o os es before m b.0) refl
 
   -- A value begins.
   module _ (s : Stacks) (a : Slot) (bases : Stands s a) (few : length s.nest.items ≤ 200) (i : ℕ) where
@@ -347,7 +367,7 @@ module _ (made : Keeping) (p : Settings) (t : List ℕ) where
   pub key-fails : (os : List Open) (es : List JsonValue) (ms : List Member) (j : ℕ) (k : Kind) (x stop : ℕ)
       → HaveKeyBase os (length es) (length ms) → refused_in made t os ms j ≡ None → j < length t
       → scalar_at j (string_at whole t j) ≡ fault k x stop
-      → key_in made p t os es ms j ≡ key_fault_in made p t os es ms k x stop
+      → key_in made p t os es ms j ≡ container_fault_in made p t shape.Object os es ms k x stop
   key-fails [] es ms j k x stop b free h v = absurd b
   key-fails (o ∷ os) es ms j k x stop b free h v =
       let key = scalar-failed j (string_at whole t j) k x stop v in
@@ -359,24 +379,31 @@ module _ (made : Keeping) (p : Settings) (t : List ℕ) where
   pub colon-fails : (os : List Open) (es : List JsonValue) (ms : List Member) (j : ℕ) (key : Text) (e x stop : ℕ)
       (k : Kind) → HaveKeyBase os (length es) (length ms) → refused_in made t os ms j ≡ None → j < length t
       → scalar_at j (string_at whole t j) ≡ done key e → (object_colon t e ≡ failed k x) × (stop ≡ x)
-      → key_in made p t os es ms j ≡ key_fault_in made p t os es ms k x stop
+      → key_in made p t os es ms j ≡ container_fault_in made p t shape.Object os es ms k x stop
   colon-fails [] es ms j key e x stop k b free h v s = absurd b
   colon-fails (o ∷ os) es ms j key e x stop k b free h v s =
       colon-failed (rules_as made p) t good (frames o.outer os es (take o.base ms)) (map member_view (drop o.base ms))
       j e x
       (made.text key) k h free (ap (seen_as (λ s e. made.text s)) (scalar-taken j
       (string_at whole t j) key e v)) s.0 ∙ ap
-      (key_fault_in made p t (o ∷ os) es ms k x) (sym s.1)
+      (container_fault_in made p t shape.Object (o ∷ os) es ms k x) (sym s.1)
 
-  pub key-kept : (os : List Open) (es : List JsonValue) (ms : List Member) (k : Kind) (x stop : ℕ)
-      → forgives p.mode k ≡ false → key_fault_in made p t os es ms k x stop ≡ fault k x stop
-  key-kept [] es ms k x stop bad = refl
-  key-kept (o ∷ os) es ms k x stop bad =
-      let fs = frames o.outer os es (take o.base ms) in
+  -- a fault that is not forgiven
+  pub fault-kept : (h : ContainerKind) (os : List Open) (es : List JsonValue) (ms : List Member) (k : Kind) (x stop : ℕ)
+      → forgives p.mode k ≡ false → container_fault_in made p t h os es ms k x stop ≡ fault k x stop
+  fault-kept h [] es ms k x stop bad = refl
+  fault-kept h (o ∷ os) es ms k x stop bad =
+      let fs = frames_below h o os es ms in
       ap (resume (rules_as made p) t fs)
-      (if_forgiven-no (rules_as made p) t (λ e. (rules_as made p).object 0 e (map member_view (drop o.base ms))) k x
-      stop bad)
+      (if_forgiven-no (rules_as made p) t (λ e. built h (parts_above h o.base es ms)) k x stop bad)
       ∙ resume-fault (rules_as made p) t fs k x stop bad
+
+  -- and one that is
+  pub fault-forgiven : (h : ContainerKind) (os : List Open) (es : List JsonValue) (ms : List Member) (k : Kind)
+      (x stop : ℕ) → HavePartBase h os (length es) (length ms) → forgives p.mode k ≡ true
+      → container_fault_in made p t h os es ms k x stop ≡ container_in made p t h os es ms stop
+  fault-forgiven h [] es ms k x stop b ok = absurd (alone h (length es) (length ms) b)
+  fault-forgiven h (o ∷ os) es ms k x stop b ok = rw ok refl
 
 -- a value that is there needs no key any more
 pub key-base : (os : List Open) (n m : ℕ) → HaveBases slot.Member os n m → HaveKeyBase os n m

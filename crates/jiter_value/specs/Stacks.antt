@@ -1,5 +1,5 @@
 -- What the two stacks hold, and what the rest of a text completes them to, where each text that is read is made so.
-use Rattle.std.specs.Prelude.{◌≡◌, ℕ, ◌-◌, ◌≤◌, ◌<◌, false, List, [], ◌∷◌, ◌++◌, length, take, drop, reverse, map}
+use Rattle.std.specs.Prelude.{◌≡◌, ℕ, ◌-◌, ◌≤◌, ◌<◌, false, List, [], ◌∷◌, length, take, drop, reverse, map}
 use Rattle.std.specs.Prelude.{vec_len, vec_capacity, Option, None}
 use Rattle.std.specs.declared.alloc.Global.{Global}
 use Rattle.std.specs.declared.borrow.CowStr.{CowStr}
@@ -118,14 +118,6 @@ module _ (made : Keeping) (p : Settings) (t : List ℕ) where
       key_from (rules_as made p) t (frames o.outer os items (take o.base members))
       (map member_view (drop o.base members)) j
 
-  -- where the key or its colon has this fault
-  abbrev pub key_fault_in : List Open → List JsonValue → List Member → Kind → ℕ → ℕ → Reading Tree
-  key_fault_in [] items members k x stop = fault k x stop
-  key_fault_in (o ∷ os) items members k x stop =
-      resume (rules_as made p) t (frames o.outer os items (take o.base members))
-      (if_forgiven (rules_as made p) (λ e. (rules_as made p).object 0 e (map member_view (drop o.base members))) k x
-      stop)
-
   -- where the innermost container has a value that ends at e
   abbrev pub after_in : Slot → List Open → List JsonValue → List Member → JsonValue → ℕ → Reading Tree
   after_in a [] items members root e = done (view root) e
@@ -143,6 +135,13 @@ module _ (made : Keeping) (p : Settings) (t : List ℕ) where
       resume (rules_as made p) t (frames_below h o os items members)
       (done (built h (parts_above h o.base items members)) e)
 
+  -- where a fault follows its parts
+  abbrev pub container_fault_in : ContainerKind → List Open → List JsonValue → List Member → Kind → ℕ → ℕ → Reading Tree
+  container_fault_in h [] items members k x stop = fault k x stop
+  container_fault_in h (o ∷ os) items members k x stop =
+      resume (rules_as made p) t (frames_below h o os items members)
+      (if_forgiven (rules_as made p) (λ e. built h (parts_above h o.base items members)) k x stop)
+
   -- The same of all that is held.
   abbrev pub resume_with : Stacks → Slot → Reading Tree → Reading Tree
   resume_with s a x = resume (rules_as made p) t (frames a (reverse s.nest.items) s.items.items s.members.items) x
@@ -153,14 +152,14 @@ module _ (made : Keeping) (p : Settings) (t : List ℕ) where
   abbrev pub from_key : Stacks → ℕ → Reading Tree
   from_key s j = key_in (reverse s.nest.items) s.items.items s.members.items j
 
-  abbrev pub key_fault : Stacks → Kind → ℕ → ℕ → Reading Tree
-  key_fault s k x stop = key_fault_in (reverse s.nest.items) s.items.items s.members.items k x stop
-
   abbrev pub after : Stacks → Slot → ℕ → Reading Tree
   after s a e = after_in a (reverse s.nest.items) s.items.items s.members.items s.root e
 
   abbrev pub container_ends : ContainerKind → Stacks → ℕ → Reading Tree
   container_ends h s e = container_in h (reverse s.nest.items) s.items.items s.members.items e
+
+  abbrev pub container_fault : ContainerKind → Stacks → Kind → ℕ → ℕ → Reading Tree
+  container_fault h s k x stop = container_fault_in h (reverse s.nest.items) s.items.items s.members.items k x stop
 
   -- What the rest of the text completes the machine to.
   abbrev pub meaning : Stacks → State → ℕ → Reading Tree

@@ -8,11 +8,10 @@ use Rattle.jiter_scan.specs.declared.memory.AllocFailed.{AllocFailed}
 use Rattle.jiter_steps.specs.Frames.{resolve_step}
 use Rattle.jiter_steps.specs.Node.{nesting_limit}
 use Rattle.jiter_steps.specs.Read.{Reading as Answer, fault, value_at}
-use Rattle.jiter_steps.specs.Step.{Step, closed, stuck, step, colon, container_first, container_step}
+use Rattle.jiter_steps.specs.Step.{Step, closed, stuck, step, colon}
 use Rattle.jiter_steps.specs.StringReading.{string_at, whole}
 use Rattle.jiter_steps.specs.Tree.{Text, Tree}
 use Rattle.jiter_value.specs.Settings.{Keeping, forgives, rules_as}
-use Rattle.jiter_steps.specs.declared.parse.ContainerKind.{ContainerKind}
 use Rattle.jiter_steps.specs.declared.read_error.ReadError.{ReadError}
 use Rattle.jiter_steps.specs.declared.read_error.ReadError.TheVariants as error
 use Rattle.jiter_value.specs.Size.{value_size, key_size, after_size, held, left_at}
@@ -25,8 +24,6 @@ use Rattle.jiter_value.specs.declared.stacks.State.{State}
 use Rattle.jiter_value.specs.declared.stacks.State.TheVariants as state
 use Rattle.jiter_value.specs.Value.{MayGrowBy}
 use Rattle.jiter_value.specs.declared.turns.Reading.{Reading}
-use Rattle.jiter_value.specs.declared.turns.containers.After.{After}
-use Rattle.jiter_value.specs.declared.turns.containers.After.TheVariants.{Bracket, Part}
 
 -- a value is awaited at j, within the limit
 abbrev pub IsAtValue : List ℕ → Stacks → Slot → ℕ → Type 0
@@ -148,11 +145,6 @@ pub record HasTakenKey (made : Keeping) (p : Settings) (t : List ℕ) (i : ℕ) 
 pub record IsRefusedAt (t : List ℕ) (i : ℕ) (s : Stacks) (e : ℕ) : Type 0 where
   pub error : (m : AllocFailed) × (s.error ≡ error.Memory m)
   pub within : (i ≤ e) × (e ≤ length t)
-
--- the step of a container whose bracket is at j, and after a part that ends at j
-abbrev pub container_goes : After → ContainerKind → List ℕ → ℕ → Step
-container_goes Bracket h t j = step t (container_first h) (j + 1)
-container_goes Part h t j = step t (container_step h t) j
 
 -- A container's fault at j is forgiven and ends it, or is why the reading was given up.
 abbrev pub IsResolved : Settings → Bool → ReadError → ℕ → Step → Type 0

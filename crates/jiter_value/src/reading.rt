@@ -19,6 +19,7 @@ use crate::value::JsonValue;
 use jiter_scan::{JsonError, JsonErrorType, PartialMode};
 use jiter_steps::parse::Parser;
 use jiter_steps::read_error::ReadError;
+use jiter_steps::step::value_first;
 use std::alloc::Global;
 
 /// Converts an error to the one that a public call returns. A failed allocation is reported at `index`, any other error
@@ -97,7 +98,7 @@ fn read_whole<'s, T: StringStorage<'s>>(
     ensures place { WhereRefused result (past_blanks parser.old.bytes.now 0 ≤ parser.new.index) }
     ensures cleared { IfOk result (λ v. IsCleared reading.new.stacks) }
 {
-    parser.value_first()?;
+    parser.go(value_first(parser.bytes, parser.index))?;
     let value = reading.run(texts, parser)?;
     finish_whole::<T>(parser, reading.settings, value)
 }

@@ -1,18 +1,19 @@
 //! Containers on the stacks: how one begins, goes on after a part and ends, and which errors are forgiven there.
 ghost use Rattle.std.specs.Prelude.{◌≡◌, ◌≢◌, ℕ, ◌+◌, ◌≤◌, ◌<◌, List, IfOk, IfSome, None, OnOk, OnErr, length};
 ghost use Rattle.std.specs.Prelude.{slice_index, true, false};
+ghost use Rattle.jiter_scan.specs.Kind.{fault_kind};
 ghost use Rattle.jiter_steps.specs.Literal.{start_of};
 ghost use Rattle.jiter_steps.specs.Node.{nesting_limit};
-ghost use Rattle.jiter_steps.specs.Parse.{Steps};
-ghost use Rattle.jiter_steps.specs.Fast.{IsNext, IsStuckAt};
+ghost use Rattle.jiter_steps.specs.Found.{step_of};
 ghost use Rattle.jiter_steps.specs.Read.{done};
 ghost use Rattle.jiter_steps.specs.ReadError.{WhereRefused};
-ghost use Rattle.jiter_steps.specs.Step.{Step, step, more, container_first, opening};
-ghost use Rattle.jiter_value.specs.Settings.{Keeping};
+ghost use Rattle.jiter_steps.specs.Step.{step, more, container_first, opening};
+ghost use Rattle.jiter_steps.specs.declared.read_error.ReadError.TheVariants as error;
+ghost use Rattle.jiter_value.specs.Settings.{Keeping, forgives};
 ghost use Rattle.jiter_value.specs.Size.{value_size, inside_size, after_size};
-ghost use Rattle.jiter_value.specs.Stacks.{resume_with, from_value, after, container_ends, Stands, StandsInside};
-ghost use Rattle.jiter_value.specs.Stacks.{slot_in, base_of, part_of, empty_tree, LeavesKeys};
-ghost use Rattle.jiter_value.specs.Turns.{IsAtValue, Proceeds, container_goes, IsResolved, MayGrowFor, left, outcome};
+ghost use Rattle.jiter_value.specs.Stacks.{resume_with, from_value, after, container_ends, container_fault, Stands};
+ghost use Rattle.jiter_value.specs.Stacks.{StandsInside, slot_in, base_of, part_of, empty_tree, LeavesKeys};
+ghost use Rattle.jiter_value.specs.Turns.{IsAtValue, Proceeds, IsResolved, MayGrowFor, left, outcome};
 ghost use Rattle.jiter_value.specs.Value.{MayGrowAt};
 ghost use Rattle.jiter_value.specs.declared.settings.Settings.{Settings as SettingsView};
 
@@ -21,21 +22,12 @@ use crate::stacks::{Open, Slot, Stacks, State, close, no_memory, object_of, put,
 use crate::texts::StringStorage;
 use crate::turns::Reading;
 use crate::value::JsonValue;
-use jiter_scan::errors::Fault;
+use jiter_scan::errors::{FaultKind, fault_at};
 use jiter_scan::memory::{AllocFailed, push_small};
-use jiter_steps::fast::{Next, fast_first, fast_step};
-use jiter_steps::parse::{ContainerKind, NESTING_LIMIT, Parser};
+use jiter_steps::parse::{ContainerKind, NESTING_LIMIT};
 use jiter_steps::read_error::ReadError;
+use jiter_steps::step::{Step, first, next};
 use std::alloc::Global;
-
-/// What comes before a step of a container.
-#[derive(Clone, Copy, Debug)]
-pub enum After {
-    /// The opening bracket.
-    Bracket,
-    /// An item or a member.
-    Part,
-}
 
 #[inline(always)]
 fn part_of(shape: ContainerKind) -> State
@@ -59,74 +51,32 @@ fn kind_of_container(slot: Slot) -> Option<ContainerKind>
     }
 }
 
-// Whether the step has no error, or one that is forgiven. If not, stores the error as the reading's.
-fn is_forgiven(stacks: &mut Stacks<'_>, step: Result<bool, Fault>, settings: Settings) -> bool
-    ensures resolved { (i j : ℕ) → (s : Step) → Steps step i s → IsStuckAt j s
-        → IsResolved settings result stacks.new.error j s }
-    ensures same { result ≡ true → stacks.new ≡ stacks.old }
-{
-    match step {
-        Ok(_) => true,
-        Err(fault) => {
-            if forgives(settings.mode, fault.kind) {
-                return true;
-            }
-            stacks.error = ReadError::Fault(fault);
-            false
-        }
-    }
-}
-
-// Whether the error at `at` is forgiven. The fast path reports where a step fails, but not why, so the step is read
-// again here.
+// Whether the error at `at` is forgiven. If not, stores it as the reading's.
 #[cold]
 #[inline(never)]
-fn is_stuck_forgiven<'j>(
-    stacks: &mut Stacks<'_>,
-    bytes: &'j [u8],
-    from: usize,
-    at: usize,
-    settings: Settings,
-    after: After,
-    shape: ContainerKind,
-) -> bool
-    requires within { from ≤ length bytes.now }
-    requires bracket { after ≡ After.Bracket → from < length bytes.now }
-    requires stuck { IsStuckAt at (container_goes after shape bytes.now from) }
-    ensures resolved { IsResolved settings result stacks.new.error at
-        (container_goes after shape bytes.now from) }
+fn is_forgiven(stacks: &mut Stacks<'_>, settings: Settings, kind: FaultKind, at: usize) -> bool
+    ensures value { result ≡ forgives settings.mode (fault_kind kind) }
+    ensures error { result ≡ false → stacks.new.error ≡ error.Fault (record { kind = kind; index = at }) }
     ensures same { result ≡ true → stacks.new ≡ stacks.old }
 {
-    let mut parser = Parser { bytes, index: from };
-    match after {
-        After::Bracket => is_forgiven(stacks, parser.first(shape), settings),
-        After::Part => is_forgiven(stacks, parser.step(shape), settings),
+    if forgives(settings.mode, kind) {
+        return true;
     }
+    stacks.error = ReadError::Fault(fault_at(kind, at));
+    false
 }
 
 // Whether a container that has no further part ends: by its closing bracket, or by an error that is forgiven.
 #[inline(always)]
-fn ends<'j>(
-    stacks: &mut Stacks<'_>,
-    bytes: &'j [u8],
-    from: usize,
-    at: usize,
-    what: Next,
-    settings: Settings,
-    after: After,
-    shape: ContainerKind,
-) -> bool
-    requires within { from ≤ length bytes.now }
-    requires bracket { after ≡ After.Bracket → from < length bytes.now }
-    requires step { IsNext at what (container_goes after shape bytes.now from) }
-    requires no_part { what ≢ Next.Part }
-    ensures resolved { IsResolved settings result stacks.new.error at
-        (container_goes after shape bytes.now from) }
+fn ends(stacks: &mut Stacks<'_>, settings: Settings, at: usize, step: Step) -> bool
+    requires { step ≢ Step.Part }
+    ensures resolved { IsResolved settings result stacks.new.error at (step_of at step) }
     ensures same { result ≡ true → stacks.new ≡ stacks.old }
 {
-    match what {
-        Next::End => true,
-        _ => is_stuck_forgiven(stacks, bytes, from, at, settings, after, shape),
+    match step {
+        Step::Part => unreachable!(),
+        Step::End => true,
+        Step::Fault(kind) => is_forgiven(stacks, settings, kind, at),
     }
 }
 
@@ -157,56 +107,22 @@ fn after_last<'s, T: StringStorage<'s>>(
         match kind_of_container(inside) {
             None => return (at, State::Done),
             Some(shape) => {
-                let (next, what) = fast_step(bytes, at, shape);
-                match what {
-                    Next::Part => return (next, part_of(shape)),
+                let (end, step) = next(bytes, at, shape);
+                match step {
+                    Step::Part => return (end, part_of(shape)),
                     _ => {}
                 }
-                if !ends(
-                    &mut reading.stacks,
-                    bytes,
-                    at,
-                    next,
-                    what,
-                    reading.settings,
-                    After::Part,
-                    shape,
-                ) {
-                    return (next, State::GivenUp);
+                if !ends(&mut reading.stacks, reading.settings, end, step) {
+                    return (end, State::GivenUp);
                 }
                 match close(reading.alloc, &mut reading.stacks, shape) {
                     Ok(outer) => inside = outer,
-                    Err(refused) => return no_memory(&mut reading.stacks, refused, next),
+                    Err(refused) => return no_memory(&mut reading.stacks, refused, end),
                 }
-                at = next;
+                at = end;
             }
         }
     }
-}
-
-// The slow path: an error follows the value, or the input ends.
-#[cold]
-#[inline(never)]
-fn slow_after<'s, T: StringStorage<'s>>(
-    reading: &mut Reading<'s>,
-    bytes: &[u8],
-    from: usize,
-    slot: Slot,
-) -> (usize, State)
-    requires stands { Stands reading.old.stacks slot }
-    requires levels { length reading.old.stacks.nest.items ≤ nesting_limit }
-    requires within { from ≤ length bytes.now }
-    ensures leads { Proceeds T.made reading.old.settings bytes.now from (left bytes.now reading.old.stacks from + 1)
-        (after_size reading.old.stacks slot) (after T.made reading.old.settings bytes.now reading.old.stacks slot from)
-        reading.new.stacks result }
-    ensures memory { WhereRefused (outcome reading.new.stacks result.1) (slot ≢ Slot.Root) }
-    ensures root { slot ≡ Slot.Root
-        → IfOk (outcome reading.new.stacks result.1) (λ a. a ≡ State.Done) }
-    ensures keys { OnOk (outcome reading.new.stacks result.1)
-        (LeavesKeys reading.old.stacks.members.items reading.new.stacks.members.items) }
-    ensures settings { reading.new.settings ≡ reading.old.settings }
-{
-    after_last::<T>(reading, bytes, from, slot)
 }
 
 /// Goes on after a value, up to the next value or key. The containers that end are closed out of line, so that their
@@ -234,11 +150,11 @@ pub fn after_value<'s, T: StringStorage<'s>>(
     match kind_of_container(slot) {
         None => (from, State::Done),
         Some(shape) => {
-            let (next, what) = fast_step(bytes, from, shape);
-            match what {
-                Next::Part => (next, part_of(shape)),
-                Next::End => close_and_go_on::<T>(reading, bytes, next, shape),
-                Next::Stuck => slow_after::<T>(reading, bytes, from, slot),
+            let (end, step) = next(bytes, from, shape);
+            match step {
+                Step::Part => (end, part_of(shape)),
+                Step::End => close_and_go_on::<T>(reading, bytes, end, shape),
+                Step::Fault(kind) => fault_inside::<T>(reading, bytes, end, end, kind, shape),
             }
         }
     }
@@ -266,6 +182,35 @@ pub fn close_and_go_on<'s, T: StringStorage<'s>>(
         Ok(outer) => after_last::<T>(reading, bytes, at, outer),
         Err(refused) => no_memory(&mut reading.stacks, refused, at),
     }
+}
+
+/// Handles an error at `index` in the innermost container, which has all its parts on the stacks. If the error is
+/// forgiven, the container ends at `at`.
+#[cold]
+#[inline(never)]
+pub fn fault_inside<'s, T: StringStorage<'s>>(
+    reading: &mut Reading<'s>,
+    bytes: &[u8],
+    at: usize,
+    index: usize,
+    kind: FaultKind,
+    shape: ContainerKind,
+) -> (usize, State)
+    requires stands { StandsInside shape reading.old.stacks }
+    requires levels { length reading.old.stacks.nest.items ≤ nesting_limit + 1 }
+    requires within { at ≤ length bytes.now }
+    ensures leads { Proceeds T.made reading.old.settings bytes.now at (left bytes.now reading.old.stacks at)
+        (inside_size shape reading.old.stacks) (container_fault T.made reading.old.settings bytes.now shape
+        reading.old.stacks (fault_kind kind) index at)
+        reading.new.stacks result }
+    ensures keys { OnOk (outcome reading.new.stacks result.1)
+        (LeavesKeys reading.old.stacks.members.items reading.new.stacks.members.items) }
+    ensures settings { reading.new.settings ≡ reading.old.settings }
+{
+    if !is_forgiven(&mut reading.stacks, reading.settings, kind, index) {
+        return (at, State::GivenUp);
+    }
+    close_and_go_on::<T>(reading, bytes, at, shape)
 }
 
 #[inline(always)]
@@ -396,22 +341,13 @@ pub fn begin<'s, T: StringStorage<'s>>(
         (LeavesKeys reading.old.stacks.members.items reading.new.stacks.members.items) }
     ensures settings { reading.new.settings ≡ reading.old.settings }
 {
-    let (next, what) = fast_first(bytes, at + 1, shape);
-    match what {
-        Next::Part => return open::<T>(reading, bytes, at, next, slot, shape),
+    let (end, step) = first(bytes, at + 1, shape);
+    match step {
+        Step::Part => return open::<T>(reading, bytes, at, end, slot, shape),
         _ => {}
     }
-    if !ends(
-        &mut reading.stacks,
-        bytes,
-        at,
-        next,
-        what,
-        reading.settings,
-        After::Bracket,
-        shape,
-    ) {
-        return (next, State::GivenUp);
+    if !ends(&mut reading.stacks, reading.settings, end, step) {
+        return (end, State::GivenUp);
     }
-    empty::<T>(reading, bytes, next, slot, shape)
+    empty::<T>(reading, bytes, end, slot, shape)
 }

@@ -26,9 +26,10 @@ use jiter_scan::number_extent::minus_end;
 use jiter_scan::simd::near_stop;
 use jiter_scan::text::{ascii_text, utf8_text};
 use jiter_scan::word::byte_at;
-use jiter_steps::fast::{fast_colon, fast_literal_end, fast_string_end, text_between};
+use jiter_steps::fast::{fast_literal_end, fast_string_end, text_between};
 use jiter_steps::parse::Literal;
 use jiter_steps::read_error::ReadError;
+use jiter_steps::step::member_value;
 use jiter_steps::string_decoder::decode_here;
 use std::alloc::Global;
 use std::borrow::CowStr;
@@ -321,7 +322,7 @@ pub fn fast_put_key<'s, T: StringStorage<'s>, K: Keys<'s>>(
     let Ok(to) = fast_string_end(bytes, at) else {
         return (at, Plain::Other);
     };
-    let Some(next) = fast_colon(bytes, to + 1) else {
+    let (next, None) = member_value(bytes, to + 1) else {
         return (at, Plain::Other);
     };
     match keep_lent(texts, bytes, at + 1, ascii_text(&bytes[at + 1..to])) {

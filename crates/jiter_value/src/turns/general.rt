@@ -8,36 +8,36 @@ ghost use Rattle.jiter_steps.specs.Read.{fault};
 ghost use Rattle.jiter_steps.specs.ReadError.{WhereRefused};
 ghost use Rattle.jiter_steps.specs.StringDecoder.{text_view};
 ghost use Rattle.jiter_steps.specs.declared.parse.Start.{Start};
-ghost use Rattle.jiter_value.specs.Size.{value_size, key_size};
-ghost use Rattle.jiter_value.specs.Stacks.{resume_with, from_value, key_fault, HaveKeys, LeavesKeys, Stands, StandsAtKey};
+ghost use Rattle.jiter_value.specs.Size.{value_size};
+ghost use Rattle.jiter_value.specs.Stacks.{resume_with, from_value, HaveKeys, LeavesKeys, Stands, StandsAtKey};
 ghost use Rattle.jiter_value.specs.Turns.{HasTakenKey, IsAtValue, IsKeyRead, Proceeds, MayGrowFor, left, outcome};
 ghost use Rattle.jiter_value.specs.Value.{MayGrowBy};
 ghost use Rattle.jiter_value.specs.declared.value.JsonValue.TheVariants.{Int};
 
-use crate::settings::{Settings, forgives};
-use crate::stacks::{Slot, Stacks, State, give_up, no_memory, put, too_deep};
+use crate::stacks::{Slot, State, give_up, no_memory, put, too_deep};
 use crate::texts::StringStorage;
-use crate::turns::containers::{after_value, close_and_go_on};
+use crate::turns::containers::{after_value, fault_inside};
 use crate::turns::fast::put_key;
 use crate::turns::scalar::scalar;
 use crate::turns::{Keys, Reading};
 use crate::value::JsonValue;
-use jiter_scan::errors::Fault;
+use jiter_scan::errors::{FaultKind, fault_at};
 use jiter_scan::memory::{AllocFailed, make_room};
 use jiter_steps::parse::{ContainerKind, NESTING_LIMIT, Parser};
 use jiter_steps::read_error::ReadError;
-use std::alloc::Global;
+use jiter_steps::step::{colon, value_first};
 use std::borrow::CowStr;
 
-// An error where a value is expected. If it is forgiven, it closes the innermost container, without the key that has no
-// value.
+// An error at `index` where a value is expected. If it is forgiven, it closes the innermost container, without the key
+// that has no value.
 #[cold]
 #[inline(never)]
 fn fault_at_value<'s, T: StringStorage<'s>>(
     reading: &mut Reading<'s>,
     bytes: &[u8],
     at: usize,
-    problem: Fault,
+    index: usize,
+    kind: FaultKind,
     slot: Slot,
 ) -> (usize, State)
     requires stands { Stands reading.old.stacks slot }
@@ -45,7 +45,7 @@ fn fault_at_value<'s, T: StringStorage<'s>>(
     requires within { at ≤ length bytes.now }
     ensures leads { Proceeds T.made reading.old.settings bytes.now at (left bytes.now reading.old.stacks at)
         (value_size reading.old.stacks slot) (resume_with T.made reading.old.settings bytes.now reading.old.stacks slot
-        (fault (fault_kind problem.kind) problem.index at))
+        (fault (fault_kind kind) index at))
         reading.new.stacks result }
     ensures memory { WhereRefused (outcome reading.new.stacks result.1) (slot ≢ Slot.Root) }
     ensures root { OnOk (outcome reading.new.stacks result.1) (slot ≢ Slot.Root) }
@@ -53,43 +53,14 @@ fn fault_at_value<'s, T: StringStorage<'s>>(
         (LeavesKeys reading.old.stacks.members.items reading.new.stacks.members.items) }
     ensures settings { reading.new.settings ≡ reading.old.settings }
 {
-    if !forgives(reading.settings.mode, problem.kind) {
-        return give_up(&mut reading.stacks, problem, at);
-    }
     match slot {
-        Slot::Item => close_and_go_on::<T>(reading, bytes, at, ContainerKind::Array),
+        Slot::Item => { fault_inside::<T>(reading, bytes, at, index, kind, ContainerKind::Array) }
         Slot::Member => {
             let _ = reading.stacks.members.pop();
-            close_and_go_on::<T>(reading, bytes, at, ContainerKind::Object)
+            fault_inside::<T>(reading, bytes, at, index, kind, ContainerKind::Object)
         }
-        Slot::Root => give_up(&mut reading.stacks, problem, at),
+        Slot::Root => give_up(&mut reading.stacks, fault_at(kind, index), at),
     }
-}
-
-// An error of a key or of its colon. If it is forgiven, it closes the object.
-#[cold]
-#[inline(never)]
-fn fault_at_key<'s, T: StringStorage<'s>>(
-    reading: &mut Reading<'s>,
-    bytes: &[u8],
-    at: usize,
-    problem: Fault,
-) -> (usize, State)
-    requires stands { StandsAtKey reading.old.stacks }
-    requires levels { length reading.old.stacks.nest.items ≤ nesting_limit + 1 }
-    requires within { at ≤ length bytes.now }
-    ensures leads { Proceeds T.made reading.old.settings bytes.now at (left bytes.now reading.old.stacks at)
-        (key_size reading.old.stacks) (key_fault T.made reading.old.settings bytes.now reading.old.stacks
-        (fault_kind problem.kind) problem.index at)
-        reading.new.stacks result }
-    ensures keys { OnOk (outcome reading.new.stacks result.1)
-        (LeavesKeys reading.old.stacks.members.items reading.new.stacks.members.items) }
-    ensures settings { reading.new.settings ≡ reading.old.settings }
-{
-    if !forgives(reading.settings.mode, problem.kind) {
-        return give_up(&mut reading.stacks, problem, at);
-    }
-    close_and_go_on::<T>(reading, bytes, at, ContainerKind::Object)
 }
 
 /// Reads any scalar where a value is expected, or handles the error there.
@@ -128,7 +99,7 @@ pub fn slow_scalar<'s, T: StringStorage<'s>>(
             Err(refused) => no_memory(&mut reading.stacks, refused, parser.index),
         },
         Err(ReadError::Fault(fault)) => {
-            fault_at_value::<T>(reading, bytes, parser.index, fault, slot)
+            fault_at_value::<T>(reading, bytes, parser.index, fault.index, fault.kind, slot)
         }
         Err(ReadError::Memory(refused)) => no_memory(&mut reading.stacks, refused, parser.index),
     }
@@ -175,19 +146,16 @@ fn kept_key<'s, T: StringStorage<'s>, K: Keys<'s>>(
     if !keys.admits(reading.alloc, &reading.stacks, bytes, at, end, &key) {
         return (at, State::GivenUp);
     }
-    let mut parser = Parser {
-        bytes,
-        index: after,
-    };
-    if let Err(fault) = parser.value_first() {
-        return fault_at_key::<T>(reading, bytes, parser.index, fault);
+    let (next, problem) = value_first(bytes, after);
+    if let Some(kind) = problem {
+        return fault_inside::<T>(reading, bytes, next, next, kind, ContainerKind::Object);
     }
     if reading.stacks.nest.len() > NESTING_LIMIT {
-        return too_deep(&mut reading.stacks, parser.index);
+        return too_deep(&mut reading.stacks, next);
     }
     match push_key(&mut reading.stacks.members, key) {
-        Ok(()) => (parser.index, State::Member),
-        Err(refused) => no_memory(&mut reading.stacks, refused, parser.index),
+        Ok(()) => (next, State::Member),
+        Err(refused) => no_memory(&mut reading.stacks, refused, next),
     }
 }
 
@@ -216,15 +184,25 @@ pub fn slow_key<'s, T: StringStorage<'s>, K: Keys<'s>>(
     match parser.string(reading.alloc, &mut reading.tape, false) {
         Ok(key) => {
             let end = parser.index;
-            if let Err(fault) = parser.colon() {
-                return fault_at_key::<T>(reading, bytes, parser.index, fault);
+            let (after, problem) = colon(bytes, end);
+            if let Some(kind) = problem {
+                return fault_inside::<T>(reading, bytes, after, after, kind, ContainerKind::Object);
             }
             match texts.keep(bytes, at + 1, key) {
-                Ok(kept) => { kept_key::<T, K>(reading, keys, bytes, at, end, parser.index, kept) }
-                Err(refused) => no_memory(&mut reading.stacks, refused, parser.index),
+                Ok(kept) => kept_key::<T, K>(reading, keys, bytes, at, end, after, kept),
+                Err(refused) => no_memory(&mut reading.stacks, refused, after),
             }
         }
-        Err(ReadError::Fault(fault)) => { fault_at_key::<T>(reading, bytes, parser.index, fault) }
+        Err(ReadError::Fault(fault)) => {
+            fault_inside::<T>(
+                reading,
+                bytes,
+                at,
+                fault.index,
+                fault.kind,
+                ContainerKind::Object,
+            )
+        }
         Err(ReadError::Memory(refused)) => no_memory(&mut reading.stacks, refused, parser.index),
     }
 }

@@ -1,4 +1,7 @@
-use Rattle.std.proofs.Common.{◌∙◌, refl, sym, arith, reverse, rules as library_rules}
+use Rattle.std.proofs.Common.{◌∙◌, ap, false, refl, subst, sym, arith, reverse, rules as library_rules}
+use Rattle.jiter_steps.specs.Frames.{resolve_step}
+use Rattle.jiter_value.specs.Settings.{forgives}
+use Rattle.jiter_value.specs.Turns.{IsResolved}
 use Rattle.jiter_value.proofs.KeptKeys.{leaves-then, kept-on}
 use Rattle.jiter_value.proofs.Shapes.{reaches-part, inside-stands, not-root}
 use Rattle.jiter_value.proofs.Sizes.{after-part-size}
@@ -12,18 +15,18 @@ returns-in-Part-clause-leads g c =
     let l = c.closing in
     let s = l.reading.stacks in
     let h = c.in-Some.shape in
-    let j = c.fast_step-next.result.0 in
+    let j = c.next-end.result.0 in
     let so_far = rw c.in-Some.ensures.some at l.invariant in
-    let next = rw c.in-Part.is at c.fast_step-next.ensures.next in
-    let lt = c.fast_step-next.ensures.part c.in-Part.is in
-    let forward = c.fast_step-next.ensures.within.0 in
+    let found = rw c.in-Part.is at c.next-end.ensures.is in
+    let lt = c.next-end.ensures.part c.in-Part.is in
+    let forward = c.next-end.ensures.within.0 in
     record {
       within = (omega (arith, so_far.0, forward), omega (arith, lt));
       reaches = rw c.part_of.ensures
           (reaches-part g.T.StringStorage.made p t s h j _
           (so_far.2
           ∙ after-more g.T.StringStorage.made p t h s.items.items s.members.items s.root l.at (reverse s.nest.items) j
-          so_far.3 next lt)
+          so_far.3 found lt)
           (inside-stands s h so_far.3) (λ array. so_far.4) (omega (arith, so_far.4)) lt);
       left = search library_rules;
       held = search library_rules;
@@ -33,14 +36,15 @@ pub returns-then-not-ends-clause-leads : goal.returns-then-not-ends-clause-leads
 returns-then-not-ends-clause-leads g c =
     let l = c.closing in
     let s = l.reading.stacks in
-    let j = c.fast_step-next.result.0 in
+    let j = c.next-end.result.0 in
     let so_far = rw c.in-Some.ensures.some at l.invariant in
     record {
-      within = (omega (arith, so_far.0, c.fast_step-next.ensures.within.0), c.fast_step-next.ensures.within.1);
+      within = (omega (arith, so_far.0, c.next-end.ensures.within.0), c.next-end.ensures.within.1);
       reaches = rw so_far.2
           (after-fails g.T.StringStorage.made c.args.reading.now.settings c.args.bytes.now c.in-Some.shape s.items.items s.members.items
           s.root l.at
-          (reverse s.nest.items) j c.ends.new.stacks.error so_far.3 (rw so_far.9 at c.if-not-ends.ensures.resolved));
+          (reverse s.nest.items) j c.ends.new.stacks.error so_far.3 (subst (IsResolved c.args.reading.now.settings false c.ends.new.stacks.error j) (sym c.next-end.ensures.is)
+          (rw so_far.9 at c.if-not-ends.ensures.resolved)));
       left = tt;
       held = tt;
     }
@@ -52,17 +56,17 @@ closing-preserved g c =
     let l = c.closing in
     let s = l.reading.stacks in
     let h = c.in-Some.shape in
-    let j = c.fast_step-next.result.0 in
+    let j = c.next-end.result.0 in
     let so_far = rw c.in-Some.ensures.some at l.invariant in
     let same = c.if-not-ends.ensures.same refl in
-    let forward = c.fast_step-next.ensures.within.0 in
+    let forward = c.next-end.ensures.within.0 in
     let fewer = rw same at c.in-Ok.ensures.nest in (
       omega (arith, so_far.0, forward),
-      c.fast_step-next.ensures.within.1,
+      c.next-end.ensures.within.1,
       so_far.2
           ∙ after-closed g.T.StringStorage.made p t h s.items.items s.members.items s.root l.at (reverse s.nest.items) j
           so_far.3
-          (rw so_far.9 at c.if-not-ends.ensures.resolved)
+          (ap (resolve_step (forgives p.mode)) c.next-end.ensures.is ∙ (rw so_far.9 at c.if-not-ends.ensures.resolved))
           ∙ (rw same at c.in-Ok.ensures.value g.T.StringStorage.made p t j),
       c.in-Ok.ensures.stands,
       omega (arith, so_far.4, fewer),

@@ -1,9 +1,10 @@
 use Rattle.std.proofs.Common.{ap, arith, reverse, rules as library_rules}
+use Rattle.jiter_scan.specs.Kind.{fault_kind}
 use Rattle.jiter_steps.specs.Frames.{resolve_step}
 use Rattle.jiter_value.specs.Settings.{forgives}
 use Rattle.jiter_value.proofs.Shapes.{reaches-part, inside-stands}
 use Rattle.jiter_value.proofs.Sizes.{after-part-size}
-use Rattle.jiter_value.proofs.StackTurns.{after-closed, after-more}
+use Rattle.jiter_value.proofs.StackTurns.{after-closed, after-more, after-stuck}
 use Rattle.jiter_value.proofs.TurnOutcomes.{leads-weaker}
 use Rattle.jiter_value.proofs.turns.containers.after_value.Goals as goal
 
@@ -14,16 +15,16 @@ returns-in-Part-clause-leads g c =
     let t = a.bytes.now in
     let s = a.reading.now.stacks in
     let h = c.in-Some.shape in
-    let j = c.fast_step-next.result.0 in
+    let j = c.next-end.result.0 in
     let stands = rw c.in-Some.ensures.some at c.requires.stands in
-    let next = rw c.in-Part.is at c.fast_step-next.ensures.next in
-    let lt = c.fast_step-next.ensures.part c.in-Part.is in
+    let found = rw c.in-Part.is at c.next-end.ensures.is in
+    let lt = c.next-end.ensures.part c.in-Part.is in
     record {
-      within = (c.fast_step-next.ensures.within.0, omega (arith, lt));
+      within = (c.next-end.ensures.within.0, omega (arith, lt));
       reaches = rw (c.part_of.ensures, c.in-Some.ensures.some)
           (reaches-part g.T.StringStorage.made p t s h j _
           (after-more g.T.StringStorage.made p t h s.items.items s.members.items s.root a.from (reverse s.nest.items) j
-          stands next lt)
+          stands found lt)
           (inside-stands s h stands) (λ array. c.requires.levels) (omega (arith, c.requires.levels)) lt);
       left = search library_rules;
       held = search library_rules;
@@ -36,12 +37,30 @@ returns-in-End-clause-leads g c =
     let t = a.bytes.now in
     let s = a.reading.now.stacks in
     let h = c.in-Some.shape in
-    let j = c.fast_step-next.result.0 in
+    let j = c.next-end.result.0 in
     let stands = rw c.in-Some.ensures.some at c.requires.stands in
-    let next = rw c.in-End.is at c.fast_step-next.ensures.next in
-    let forward = c.fast_step-next.ensures.within.0 in
+    let found = rw c.in-End.is at c.next-end.ensures.is in
+    let forward = c.next-end.ensures.within.0 in
     let size = after-part-size h (reverse s.nest.items) s.items.items s.members.items s.root stands in
     leads-weaker c.close_and_go_on.ensures.leads forward (omega (arith, forward))
     (rw c.in-Some.ensures.some (omega (arith, size)))
     (rw c.in-Some.ensures.some (after-closed g.T.StringStorage.made p t h s.items.items s.members.items s.root a.from
-    (reverse s.nest.items) j stands (ap (resolve_step (forgives p.mode)) next)))
+    (reverse s.nest.items) j stands (ap (resolve_step (forgives p.mode)) found)))
+
+pub returns-in-Fault-clause-leads : goal.returns-in-Fault-clause-leads
+returns-in-Fault-clause-leads g c =
+    let a = c.args in
+    let p = a.reading.now.settings in
+    let t = a.bytes.now in
+    let s = a.reading.now.stacks in
+    let h = c.in-Some.shape in
+    let j = c.next-end.result.0 in
+    let k = fault_kind c.in-Fault.kind in
+    let stands = rw c.in-Some.ensures.some at c.requires.stands in
+    let found = rw c.in-Fault.is at c.next-end.ensures.is in
+    let forward = c.next-end.ensures.within.0 in
+    let size = after-part-size h (reverse s.nest.items) s.items.items s.members.items s.root stands in
+    leads-weaker c.fault_inside.ensures.leads forward (omega (arith, forward))
+    (rw c.in-Some.ensures.some (omega (arith, size)))
+    (rw c.in-Some.ensures.some (after-stuck g.T.StringStorage.made p t h s.items.items s.members.items s.root a.from
+    (reverse s.nest.items) k j stands found))

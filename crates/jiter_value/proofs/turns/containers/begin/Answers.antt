@@ -1,5 +1,7 @@
-use Rattle.std.proofs.Common.{refl, arith}
-use Rattle.jiter_value.specs.Turns.{outcome}
+use Rattle.std.proofs.Common.{◌∙◌, ap, arith, false, refl, subst, sym}
+use Rattle.jiter_steps.specs.Frames.{resolve_step}
+use Rattle.jiter_value.specs.Settings.{forgives}
+use Rattle.jiter_value.specs.Turns.{IsResolved, outcome}
 use Rattle.jiter_value.proofs.TurnOutcomes.{leads-weaker, root-grows, refused-weaker, fault-grows}
 use Rattle.jiter_value.proofs.StackTurns.{begins-closed, begins-fails}
 use Rattle.jiter_value.proofs.turns.containers.begin.Goals as goal
@@ -7,14 +9,15 @@ use Rattle.jiter_value.proofs.turns.containers.begin.Goals as goal
 pub returns-then-not-ends : goal.returns-then-not-ends
 returns-then-not-ends g c =
     let a = c.args in
-    let r = c.if-not-ends.ensures.resolved in
+    let r = subst (IsResolved a.reading.now.settings false c.ends.new.stacks.error c.first-end.result.0)
+    (sym c.first-end.ensures.is) c.if-not-ends.ensures.resolved in
     record {
       leads = record {
-        within = (omega (arith, c.fast_first-next.ensures.within.0), c.fast_first-next.ensures.within.1);
+        within = (omega (arith, c.first-end.ensures.within.0), c.first-end.ensures.within.1);
         reaches = begins-fails g.T.StringStorage.made a.reading.now.settings a.bytes.now a.reading.now.stacks a.slot c.requires.at_value.0
             c.requires.at_value.1
             a.at
-            a.shape c.fast_first-next.result.0 c.ends.new.stacks.error c.requires.bracket r;
+            a.shape c.first-end.result.0 c.ends.new.stacks.error c.requires.bracket r;
         left = tt;
         held = tt;
       };
@@ -30,13 +33,14 @@ returns g c =
     let ends = c.if-not-ends.ensures in
     let empty = c.empty.ensures in
     let same = ends.same refl in
-    let forward = c.fast_first-next.ensures.within.0 in
+    let forward = c.first-end.ensures.within.0 in
     record {
       leads = leads-weaker (rw same at empty.leads) (omega (arith, forward)) (omega (arith, forward)) (omega arith)
           (begins-closed g.T.StringStorage.made a.reading.now.settings a.bytes.now a.reading.now.stacks a.slot c.requires.at_value.0
           c.requires.at_value.1 a.at
           a.shape
-          c.fast_first-next.result.0 c.requires.bracket ends.resolved);
+          c.first-end.result.0 c.requires.bracket
+          (ap (resolve_step (forgives a.reading.now.settings.mode)) c.first-end.ensures.is ∙ ends.resolved));
       memory = λ e. root-grows r _ (empty.root e) (refused-weaker r _ _ (λ other. absurd (other e)) empty.memory);
       keys = rw same at empty.keys;
       settings = empty.settings;

@@ -14,7 +14,7 @@ admits-requires g c κs =
     let t = c.args.bytes.now in
     let to = c.in-Ok.to in
     let found = c.in-Ok.ensures in
-    let colon = colon-taken t (to + 1) c.in-Some.next c.in-Some.ensures.value in (
+    let colon = colon-taken t (to + 1) c.member_value.result.0 (rw c.in_default-None.is-1 at c.member_value.ensures.value) in (
       (refl, tt),
       (
         (
@@ -42,13 +42,14 @@ returns-else-not-admits-clause-put g c = λ _.
     let t = a.bytes.now in
     let to = c.in-Ok.to in
     let found = c.in-Ok.ensures in
-    let colon = c.in-Some.ensures in
+    let colon = c.member_value.ensures in
+    let inside = colon.inside c.in_default-None.is-1 in
     let kept = c.in-Ok-keep_lent.ensures.value
     ∙ ap (λ w. made.text (record { owned = false; bytes = w })) c.ascii_text.ensures in
-    key-at made t a.reading.now.stacks c.put_key.new.members i (to + 1) c.in-Some.next (between t (i + 1) to)
+    key-at made t a.reading.now.stacks c.put_key.new.members i (to + 1) c.member_value.result.0 (between t (i + 1) to)
     c.in-Ok-keep_lent.key _ c.requires.stands (c.if-not-admits.ensures.free made c.requires.serves refl) c.requires.within
-    (ap (scalar_at i) (found.value false)) kept colon.value c.put_key.ensures
-    (omega (arith, found.within.0, colon.within.0)) colon.within.1
+    (ap (scalar_at i) (found.value false)) kept (rw c.in_default-None.is-1 at colon.value) c.put_key.ensures
+    (omega (arith, found.within.0, colon.within.0)) inside
 
 pub returns-else-not-admits-clause-keys : goal.returns-else-not-admits-clause-keys
 returns-else-not-admits-clause-keys g c = λ _.

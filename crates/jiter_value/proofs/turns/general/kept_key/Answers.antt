@@ -13,27 +13,28 @@ use Rattle.jiter_value.proofs.Taking.{after-colon, more-known, taken-on}
 use Rattle.jiter_value.proofs.TurnOutcomes.{leads-weaker}
 use Rattle.jiter_value.proofs.turns.general.kept_key.Goals as goal
 
-pub returns-in-Err-clause-turned : goal.returns-in-Err-clause-turned
-returns-in-Err-clause-turned g c =
+pub returns-in-Some-clause-turned : goal.returns-in-Some-clause-turned
+returns-in-Some-clause-turned g c =
     let made = g.T.StringStorage.made in
     let a = c.args in
     let p = a.reading.now.settings in
     let t = a.bytes.now in
     let s = a.reading.now.stacks in
     let read = c.requires.read in
-    let f = c.in-Err.fault in
-    let k = fault_kind f.kind in
+    let k = fault_kind c.in-Some.kind in
     let asked = c.if-not-admits.ensures in
-    let e = c.fault_at_key.ensures in
-    let first = c.in-Err.ensures in
+    let e = c.fault_inside.ensures in
+    let first = c.value_first-next.ensures in
+    let j = c.value_first-next.result.0 in
+    let value = rw c.in-Some.is at first.value in
     taken-on made p t a.at s _ _ _ _ _ asked.stopped
-    (leads-weaker e.leads (omega (arith, read.within.0, c.requires.within.0, first.moves.forward))
-    (omega (arith, read.within.0, c.requires.within.0, first.moves.forward)) (omega arith)
-    (colon-fails made p t (reverse s.nest.items) s.items.items s.members.items a.at read.key a.end f.index
-    c.value_first.new.self.index k c.requires.stands (asked.free made c.requires.serves refl)
+    (leads-weaker e.leads (omega (arith, read.within.0, c.requires.within.0, first.within.0))
+    (omega (arith, read.within.0, c.requires.within.0, first.within.0)) (omega arith)
+    (colon-fails made p t (reverse s.nest.items) s.items.items s.members.items a.at read.key a.end j j k
+    c.requires.stands (asked.free made c.requires.serves refl)
     (omega (arith, read.within.0, read.within.1)) (ap (scalar_at a.at) read.read)
-    (after-colon t a.end a.after (failed k f.index) read.colon first.value.0, first.value.1)))
-    (more-known s.members.items _ c.fault_at_key.new.reading.stacks c.fault_at_key.result.1
+    (after-colon t a.end a.after (failed k j) read.colon value, refl)))
+    (more-known s.members.items _ c.fault_inside.new.reading.stacks c.fault_inside.result.1
     (g.K.Keys.knows c.admits.new.self) (asked.known refl) e.keys)
 
 pub returns-then-len-gt-NESTING_LIMIT-clause-turned : goal.returns-then-len-gt-NESTING_LIMIT-clause-turned
@@ -47,22 +48,24 @@ returns-then-len-gt-NESTING_LIMIT-clause-turned g c =
     let es = s.items.items in
     let ms = s.members.items in
     let read = c.requires.read in
-    let m = c.value_first.new.self.index in
+    let m = c.value_first-next.result.0 in
     let asked = c.if-not-admits.ensures in
-    let first = c.in_default.ensures in
+    let first = c.value_first-next.ensures in
+    let value = rw c.in_default.is at first.value in
+    let inside = first.inside c.in_default.is in
     let full : length os ≡ 201 = omega
     (arith, length-reverse s.nest.items, c.len.ensures.value, c.if-len-gt-NESTING_LIMIT.true, c.requires.levels) in
     rw c.too_deep.ensures.place
     (taken-on made p t a.at s c.too_deep.new.stacks (m, state.GivenUp) _ _ _ asked.stopped
     (record {
       within = (
-        omega (arith, read.within.0, c.requires.within.0, first.moves.forward),
-        omega (arith, first.inside),
+        omega (arith, read.within.0, c.requires.within.0, first.within.0),
+        omega (arith, inside),
       );
       reaches = rw c.too_deep.ensures.error
           (key-begins made p t os es ms a.at read.key a.end m c.requires.stands (asked.free made c.requires.serves refl)
           (omega (arith, read.within.0, read.within.1)) (ap (scalar_at a.at) read.read)
-          (after-colon t a.end a.after (taken tt m) read.colon first.value)
+          (after-colon t a.end a.after (taken tt m) read.colon value)
           ∙ key-limit made p t (made.text read.key) os es ms m c.requires.stands full);
       left = tt;
       held = tt;
@@ -78,13 +81,15 @@ returns-in-Ok-clause-turned g c =
     let s = a.reading.now.stacks in
     let ms = s.members.items in
     let read = c.requires.read in
-    let m = c.value_first.new.self.index in
+    let m = c.value_first-next.result.0 in
     let asked = c.if-not-admits.ensures in
-    let first = c.in_default.ensures in
+    let first = c.value_first-next.ensures in
+    let value = rw c.in_default.is at first.value in
+    let inside = first.inside c.in_default.is in
     let put = key-at made t s c.push_key.new.members a.at a.end m read.key a.key _ c.requires.stands
     (asked.free made c.requires.serves refl) (omega (arith, read.within.0, read.within.1))
-    (ap (scalar_at a.at) read.read) read.kept (after-colon t a.end a.after (taken tt m) read.colon first.value)
-    c.in-Ok.ensures (omega (arith, read.within.0, c.requires.within.0, first.moves.forward)) first.inside in
+    (ap (scalar_at a.at) read.read) read.kept (after-colon t a.end a.after (taken tt m) read.colon value)
+    c.in-Ok.ensures (omega (arith, read.within.0, c.requires.within.0, first.within.0)) inside in
     taken-on made p t a.at s _ _ _ _ _ asked.stopped
     (record {
       within = (omega (arith, put.ahead), omega (arith, put.within));
