@@ -272,19 +272,6 @@ impl PartialString {
         self.escape.is_none() && self.text.is_whole()
     }
 
-    /// Takes bytes that are plain and below 80 hex. If the allocation fails, nothing changes.
-    #[inline(always)]
-    pub fn add_plain(&mut self, bytes: &[u8]) -> Result<(), AllocFailed>
-        requires even { IsEven self.old }
-        requires plain { Pass is_plain_ascii bytes.now }
-        ensures taken { (w : List ℕ) → HasTaken self.old w → OnOk result (HasTaken self.new (w ++ bytes.now)) }
-        ensures ok { OnOk result (self.new ≡ grown self.old bytes.now) }
-        ensures refused { OnErr result (self.new ≡ self.old) }
-        ensures some { OnErr result (0 < length bytes.now) }
-    {
-        self.text.add_ascii(bytes)
-    }
-
     /// Returns whether the string is UTF-8 if it ends here: with its closing quote, or with the input if `keep` is set.
     /// With `keep`, an incomplete character at its end is left out.
     ///
