@@ -1,12 +1,11 @@
 //! Strings, decoded and raw, and those that are plain.
 ghost use Rattle.std.specs.Prelude.{◌<◌, length};
 
-use jiter_scan::simd::{near_stop, scan_string};
-use jiter_scan::word::byte_at;
-use jiter_steps::fast::{fast_string_end, text_between};
+use jiter_scan::short_scan::look_at;
+use jiter_scan::simd::scan_string;
 use jiter_steps::raw_string::{raw_string_at, string_end};
 use jiter_steps::read_error::ReadError;
-use jiter_steps::string_decoder::string_at;
+use jiter_steps::string_decoder::{checked_text, string_at};
 use std::alloc::{AllocError, Global};
 use std::borrow::CowStr;
 use std::io;
@@ -94,24 +93,19 @@ pub fn answer_raw(rt: &HostRuntime, alloc: Global, bytes: &[u8], at: usize) -> i
     println!(rt; "{told}, kept {kept}")
 }
 
-/// The index of the closing quote, if all before it is plain ASCII, otherwise of the first byte that is not plain.
-pub fn answer_plain_text_end(rt: &HostRuntime, bytes: &[u8], at: usize) -> io::Result<()>
+/// What one look at the string finds, and its index.
+pub fn answer_look(rt: &HostRuntime, bytes: &[u8], at: usize) -> io::Result<()>
     requires { at < length bytes.now }
 {
-    match fast_string_end(bytes, at) {
-        Ok(to) => println!(rt; "quote at {to}"),
-        Err(from) => println!(rt; "stop at {}", near_stop(bytes, from)),
-    }
+    let (to, look) = look_at(bytes, at + 1);
+    println!(rt; "{look:?} at {to}")
 }
 
-/// The text between the quote at the mark and the next one, if nothing else stops it.
-pub fn answer_text_between(rt: &HostRuntime, bytes: &[u8], at: usize) -> io::Result<()>
+/// The text from the mark to the first byte that is not plain, or the index of its error.
+pub fn answer_checked_text(rt: &HostRuntime, bytes: &[u8], at: usize, keep: bool) -> io::Result<()>
     requires { at < length bytes.now }
 {
     let (to, _) = scan_string(bytes, at + 1);
-    let text = match byte_at(bytes, to) {
-        Some(b'"') => text_between(bytes, at, to),
-        _ => None,
-    };
+    let text = checked_text(bytes, at + 1, to, keep);
     println!(rt; "{text:?}")
 }
