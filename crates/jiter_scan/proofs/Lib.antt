@@ -18,7 +18,6 @@ pub mod OpenNumbers
 pub mod NumberParts
 pub mod OpenValues
 pub mod NumberLaws
-pub mod Pins
 pub mod Computed
 pub mod Lanes
 pub mod Chunks

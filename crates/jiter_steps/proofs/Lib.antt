@@ -6,7 +6,6 @@ pub mod Grammar
 pub mod OpenEscapes
 pub mod OpenStrings
 pub mod OpenTexts
-pub mod Pins
 pub mod Reading
 pub mod StringsWithin
 pub mod Unique

@@ -6,7 +6,6 @@ pub mod QuotedKeys
 pub mod ParsedBy
 pub mod ParsedDocuments
 pub mod ParsedUnique
-pub mod Pins
 pub mod TurnOutcomes
 pub mod Turning
 pub mod Ended
