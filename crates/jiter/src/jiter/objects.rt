@@ -178,8 +178,8 @@ impl<'j> Jiter<'j> {
             result self.old self.new }
         ensures colon { EndsWithColon result self.old.text self.new.position }
     {
-        let found = self.first_member()?;
-        self.key_bytes(found)
+        let first = self.first_member()?;
+        self.key_bytes(first)
     }
 
     /// Moves past the comma after a member and returns the bytes of the next key, or `None` at the object's end
@@ -197,8 +197,8 @@ impl<'j> Jiter<'j> {
         ensures reads { Reads never (option_map raw_view) (key_step raw self.old) result self.old self.new }
         ensures colon { EndsWithColon result self.old.text self.new.position }
     {
-        let found = known_next(self.parser.bytes, self.parser.index, ContainerKind::Object);
-        self.key_bytes(found)
+        let next = known_next(self.parser.bytes, self.parser.index, ContainerKind::Object);
+        self.key_bytes(next)
     }
 
     /// Steps into the next object and returns its first key, decoded, or `None` if it is empty (RFC 8259, 4).
@@ -229,8 +229,8 @@ impl<'j> Jiter<'j> {
         ensures* after { sem 𝓛 (LeavesReader (first_key_memory self.old.text (value_place self.old)) (option_map (λ x. x.now))
             (reply_seen key_bytes (next self.old (object_read whole self.old))) result self.entry) }
     {
-        let found = self.first_member()?;
-        self.key(alloc, found)
+        let first = self.first_member()?;
+        self.key(alloc, first)
     }
 
     /// Steps into the object that you peeked, as [`Jiter::next_object`] does.
@@ -290,8 +290,8 @@ impl<'j> Jiter<'j> {
         ensures* after { sem 𝓛 (LeavesReader (next_key_memory self.old) (option_map (λ x. x.now))
             (reply_seen key_bytes (key_step whole self.old)) result self.entry) }
     {
-        let found = known_next(self.parser.bytes, self.parser.index, ContainerKind::Object);
-        self.key(alloc, found)
+        let next = known_next(self.parser.bytes, self.parser.index, ContainerKind::Object);
+        self.key(alloc, next)
     }
 
     /// Steps into the next object and returns its first key and the key's index, or `None` if it is empty
@@ -309,8 +309,8 @@ impl<'j> Jiter<'j> {
         ensures colon { EndsWithColon result self.old.text self.new.position }
         ensures index { KeyIsAt (step self.old.text object_first (value_place self.old + 1)) result }
     {
-        let found = self.first_member()?;
-        self.key_cow(alloc, found)
+        let first = self.first_member()?;
+        self.key_cow(alloc, first)
     }
 
     /// Moves past the comma after a member and returns the next key and its index, or `None` at the object's end
@@ -328,7 +328,7 @@ impl<'j> Jiter<'j> {
         ensures colon { EndsWithColon result self.old.text self.new.position }
         ensures index { KeyIsAt (step self.old.text (object_step self.old.text) self.old.position) result }
     {
-        let found = known_next(self.parser.bytes, self.parser.index, ContainerKind::Object);
-        self.key_cow(alloc, found)
+        let next = known_next(self.parser.bytes, self.parser.index, ContainerKind::Object);
+        self.key_cow(alloc, next)
     }
 }

@@ -5,8 +5,8 @@ use Rattle.jiter.specs.Jiter.{key_bytes}
 use Rattle.jiter.proofs.ReadLaws.{error-seen}
 use Rattle.jiter.proofs.jiter.Jiter.next_object.Goals as goal
 
-pub returns-in_err-found : goal.returns-in_err-found
-returns-in_err-found c =
+pub returns-in_err-first : goal.returns-in_err-first
+returns-in_err-first c =
     let e = err_from_is_err_and c.from_residual.result c.from_residual.ensures.1 in
-    let read = error-seen _ key_bytes (c.in_err-found.ensures.refused whole) in
+    let read = error-seen _ key_bytes (c.in_err-first.ensures.refused whole) in
     rw (e.1, e.2) ((refl, (λ _. tt), read), record { reads = (_, read); colon = tt; after = tt })
