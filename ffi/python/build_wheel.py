@@ -1,17 +1,26 @@
-"""Builds the wheel for pip. It needs the standard library alone, so that an installation needs no network.
+"""Builds the wheel for pip: compiles src/ and links the library into it.
 
-If `make -C ffi` has built libjiter.so.0, the wheel has it, and is for x86-64 Linux. Otherwise the module looks for an
-installed library when it is imported.
+It needs a C compiler, Python's headers and libjiter.a, and of Python the standard library alone, so that an installation
+needs no network. The library is the one in the folder that the environment variable JITER_LIB_DIR names, else the one that
+`make -C ffi` built. CC and CFLAGS have their usual meaning.
 """
 
 import base64
+import glob
 import hashlib
 import os
 import re
+import shlex
+import subprocess
+import sys
+import sysconfig
+import tempfile
 import zipfile
 
 HERE = os.path.dirname(os.path.abspath(__file__))
-LIBRARY = f"{HERE}/../build/libjiter.so.0"
+FILES = ("__init__.py", "__init__.pyi", "_error.py", "py.typed")
+LIBRARIES = os.environ.get("JITER_LIB_DIR") or f"{HERE}/../build"
+FLAGS = ["-std=c11", "-O3", "-fPIC", "-shared", "-fvisibility=hidden", "-Wl,--exclude-libs,ALL", "-Wl,-z,relro,-z,now"]
 
 
 def read(path):
@@ -24,6 +33,29 @@ def project(key):
     return re.search(rf'^{key} = "(.*)"$', read(f"{HERE}/pyproject.toml").decode(), re.M)[1]
 
 
+def first_of(name, folders):
+    """Returns the first of these folders that has the file."""
+    for it in folders:
+        if os.path.exists(f"{it}/{name}"):
+            return os.path.abspath(it)
+    sys.exit(f"safelorim needs {name} and finds none in {' or '.join(folders)}: `make -C ffi`, or set JITER_LIB_DIR")
+
+
+def compile_module(path):
+    """Compiles src/ to this file, with the library in it."""
+    library = first_of("libjiter.a", [LIBRARIES])
+    header = first_of("jiter_c.h", [f"{HERE}/..", f"{library}/../include"])
+    compiler = shlex.split(os.environ.get("CC") or sysconfig.get_config_var("CC") or "cc")
+    words = [*compiler, *FLAGS, f"-I{header}", f"-I{sysconfig.get_paths()['include']}", *shlex.split(os.environ.get("CFLAGS", ""))]
+    subprocess.run([*words, "-o", path, *sorted(glob.glob(f"{HERE}/src/*.c")), f"{library}/libjiter.a"], check=True)
+
+
+def compiled():
+    with tempfile.TemporaryDirectory() as folder:
+        compile_module(f"{folder}/module")
+        return read(f"{folder}/module")
+
+
 def record(name, data):
     digest = base64.urlsafe_b64encode(hashlib.sha256(data).digest()).rstrip(b"=").decode()
     return f"{name},sha256={digest},{len(data)}\n"
@@ -31,22 +63,27 @@ def record(name, data):
 
 def build_wheel(wheel_directory, config_settings=None, metadata_directory=None):
     """Writes the wheel and returns its name, as PEP 517 asks."""
-    name, version, ships = project("name"), project("version"), os.path.exists(LIBRARY)
-    tag = "py3-none-linux_x86_64" if ships else "py3-none-any"
+    name, version = project("name"), project("version")
+    python = f"cp{sys.version_info[0]}{sys.version_info[1]}"
+    tag = f"{python}-{python}{sys.abiflags}-linux_x86_64"
     about = f"{name}-{version}.dist-info"
     metadata = f"Metadata-Version: 2.1\nName: {name}\nVersion: {version}\nSummary: {project('description')}\nLicense: MIT\n"
     metadata += f"Requires-Python: {project('requires-python')}\n"
-    pure = "false" if ships else "true"
-    files = {
-        f"{name}/__init__.py": read(f"{HERE}/{name}/__init__.py"),
-        f"{about}/METADATA": metadata.encode(),
-        f"{about}/WHEEL": f"Wheel-Version: 1.0\nGenerator: build_wheel\nRoot-Is-Purelib: {pure}\nTag: {tag}\n".encode(),
-    }
-    if ships:
-        files[f"{name}/libjiter.so.0"] = read(LIBRARY)
+    files = {f"{name}/{it}": read(f"{HERE}/src/{name}/{it}") for it in FILES}
+    files[f"{name}/_core{sysconfig.get_config_var('EXT_SUFFIX')}"] = compiled()
+    files[f"{about}/METADATA"] = metadata.encode()
+    files[f"{about}/WHEEL"] = f"Wheel-Version: 1.0\nGenerator: build_wheel\nRoot-Is-Purelib: false\nTag: {tag}\n".encode()
     files[f"{about}/RECORD"] = ("".join(record(*it) for it in files.items()) + f"{about}/RECORD,,\n").encode()
     wheel = f"{name}-{version}-{tag}.whl"
     with zipfile.ZipFile(os.path.join(wheel_directory, wheel), "w", zipfile.ZIP_DEFLATED) as archive:
         for path, data in files.items():
             archive.writestr(path, data)
     return wheel
+
+
+if __name__ == "__main__":
+    # For the tests: safelorim in this folder.
+    if len(sys.argv) != 2:
+        sys.exit("usage: build_wheel.py FOLDER")
+    with tempfile.TemporaryDirectory() as wheels:
+        zipfile.ZipFile(f"{wheels}/{build_wheel(wheels)}").extractall(sys.argv[1])

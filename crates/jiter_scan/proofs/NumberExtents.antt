@@ -38,7 +38,7 @@ module _ (t : List ℕ) where
   tail-parts i j e fraction exponent = ap (λ x. extent_then x (exponent_at t)) fraction ∙ exponent
 
   -- a decimal number begins with a digit
-  decimal-digit : (i e : ℕ) → decimal_at t i ≡ taken tt e → (c : ℕ) × (slice_get t i ≡ Some c) × (is_digit c ≡ true)
+  pub decimal-digit : (i e : ℕ) → decimal_at t i ≡ taken tt e → (c : ℕ) × (slice_get t i ≡ Some c) × (is_digit c ≡ true)
   decimal-digit i e h = by int_part.0 w.0 w.1 w.2.0
     where
       int_part : (j : ℕ) × (int_part_at t i ≡ taken tt j) × (extent_then (fraction_at t j) (exponent_at t) ≡ taken tt e)

@@ -5,14 +5,15 @@ use Rattle.std.proofs.Common.{◌-◌, ◌&&◌, ◌∷◌, [], drop, take, slic
 use Rattle.std.proofs.Math.Bool.{and-false}
 use Rattle.std.specs.Prelude.{Option, Some, None, slice_get, if◌then◌else◌, codes}
 use Rattle.std.proofs.lemmas.Bool.{cases_lt, eq-eqb, eqb-true, eqb-false, false≢true, ne_eqb}
-use Rattle.std.proofs.lemmas.Option.{slice_get-get_or, slice_get_within, get_or_from_slice_get}
-use Rattle.jiter_scan.specs.Number.{is_float_byte, is_integral}
+use Rattle.std.proofs.lemmas.Option.{same_Some, slice_get-get_or, slice_get_within, get_or_from_slice_get}
+use Rattle.jiter_scan.specs.Number.{is_float_byte, is_integral, number_value}
 use Rattle.jiter_scan.specs.NumberDecoder.{IsMinusTo}
 use Rattle.jiter_scan.specs.NumberExtent.{IsNameFrom, IsDecimalFrom, IsExtent, IsFloatText}
 use Rattle.jiter_scan.specs.NumberExtent.{minus_end, name_extent}
 use Rattle.jiter_scan.specs.NumberReading.{after_minus, extent_from, extent_then, fraction_at, exponent_at}
 use Rattle.jiter_scan.specs.NumberReading.{decimal_at, int_part_at, number_extent}
-use Rattle.jiter_scan.specs.NumberReading.{int_at, int_part_from, integer_after, integer_after_minus, integer_from}
+use Rattle.jiter_scan.specs.NumberReading.{int_at, int_part_from, int_seen, integer_after, integer_after_minus, integer_from}
+use Rattle.jiter_scan.specs.NumberReading.{integer_or_float, is_float_sign}
 use Rattle.jiter_scan.specs.PartialNumber.{GoesTo, is_int_stage, number_from, tail_at}
 use Rattle.jiter_scan.specs.Scanned.{taken}
 use Rattle.jiter_scan.specs.Stands.{Stands}
@@ -22,7 +23,9 @@ use Rattle.jiter_scan.specs.declared.partial_number.Stage.TheVariants as stage
 use Rattle.jiter_scan.specs.declared.number_extent.Extent.TheVariants as found
 use Rattle.jiter_scan.proofs.Choices.{if_case, if_gives, if-true, if-false}
 use Rattle.jiter_scan.proofs.NumberBytes.{given-ascii, IsMinusTo-le, IsAscii-decimal, IsAscii-name}
-use Rattle.jiter_scan.proofs.NumberExtents.{byte-got}
+use Rattle.jiter_scan.proofs.Digits.{digit-bounds}
+use Rattle.jiter_scan.proofs.FastNumbers.{tail-place}
+use Rattle.jiter_scan.proofs.NumberExtents.{byte-got, decimal-digit}
 use Rattle.jiter_scan.proofs.NumberParts.{goes-reads, integral-append}
 use Rattle.jiter_scan.proofs.NumberRows.{IntPart}
 use Rattle.jiter_scan.proofs.NumberSound.{int_part_at-sound}
@@ -141,6 +144,33 @@ module _ (t : List ℕ) (i j : ℕ) (inside : i < length t) (start : j ≡ minus
       let c = get_or t i 0 in
       let here = slice_get-get_or t i 0 inside in
       alone-decimal t i c here n (λ q. (h c here).1 q refl) (h c here).0)
+
+-- A decimal number that is its integer part alone is read as an integer.
+module _ (t : List ℕ) (i j e : ℕ) (inside : i < length t) (start : j ≡ minus_end t i)
+    (int_part : int_part_at t j ≡ taken tt e) (decimal : decimal_at t j ≡ taken tt e) where
+  -- its first byte is a digit, and no letter of a name
+  decimal-begins : IsDecimalFrom t i j
+  decimal-begins =
+      let d = decimal-digit t j e decimal in
+      let b = digit-bounds d.0 d.2 in
+      no-name t i j inside start
+      (λ c here.
+      let same = same_Some c d.0 (sym here ∙ d.1) in
+      (λ q. omega (arith, same, q, b.1), λ q. absurd (omega (arith, same, q, b.1))))
+
+  -- and no part of a float follows it
+  ended : (o : Option ℕ) → slice_get t e ≡ o
+      → integer_or_float t i e o ≡ taken (int_seen (number_value (slice_range t i e))) e
+  ended None h = refl
+  ended (Some c) h =
+      if_case (λ x. x ≡ taken (int_seen (number_value (slice_range t i e))) e) (is_float_sign c) _ _
+      (λ sign.
+      let tail = ap (λ x. extent_then x (tail_at t)) (sym int_part) ∙ decimal in
+      absurd (omega (arith, (tail-place t e e c h sign tail).0)))
+      (λ _. refl)
+
+  pub int_at-alone : int_at t i ≡ taken (int_seen (number_value (slice_range t i e))) e
+  int_at-alone = decimal-begins.integer ∙ ap (integer_after t i) int_part ∙ ended (slice_get t e) refl
 
 -- a decimal number goes through the stages from the one after its minus
 minus-stage : (t : List ℕ) (j : ℕ) → decimal_at t j ≡ number_from false stage.Minus t j

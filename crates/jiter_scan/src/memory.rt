@@ -96,18 +96,6 @@ pub fn split_off<T: Drop>(items: &mut Vec<T>, at: usize) -> Result<Vec<T>, Alloc
     }
 }
 
-/// Appends bytes.
-pub fn extend(bytes: &mut Vec<u8>, more: &[u8]) -> Result<(), AllocFailed>
-    ensures ok { OnOk result (bytes.new.items ≡ bytes.old.items ++ more.now) }
-    ensures err { OnErr result (bytes.new.items ≡ bytes.old.items) }
-    ensures full { OnErr result (vec_capacity bytes.old < vec_len bytes.old + length more.now) }
-{
-    match bytes.extend_from_slice(more) {
-        Ok(()) => Ok(()),
-        Err(error) => Err(AllocFailed { error }),
-    }
-}
-
 /// Appends `more` zeros.
 pub fn lengthen(bytes: &mut Vec<u8>, more: usize) -> Result<(), AllocFailed>
     requires { vec_len bytes.old + more < 2 ^ 64 }

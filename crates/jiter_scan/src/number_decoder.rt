@@ -247,9 +247,10 @@ pub(crate) fn long_integer<'j>(bytes: &'j [u8], from: usize, at: usize, end: usi
     integer_of(bytes, from, at, end, magnitude)
 }
 
-// The slow path finds where the number ends, then its value.
+/// Does what [`number_at`] does. Call it if the fast path found nothing: it finds where the number ends, then its value.
+#[cold]
 #[inline(never)]
-fn slow_number_at<'j>(
+pub fn slow_number_at<'j>(
     bytes: &'j [u8],
     at: usize,
     allow_inf_nan: bool,
@@ -305,11 +306,9 @@ pub(crate) fn is_float_sign(byte: u8) -> bool
     matches!(byte, b'.' | b'e' | b'E')
 }
 
-/// Returns the integer at `at` and the index after it (RFC 8259, 6). For a float, returns the index of the first byte
-/// that only a float has. That is the point, the exponent's letter, or the first letter of `NaN` or `Infinity`.
-///
-/// Fails as [`NumberInt::from_bytes`] does, except that a float is no error and any byte may follow the integer.
-pub fn int_at<'j>(bytes: &'j [u8], at: usize) -> Result<(Integer<'j>, usize), Fault>
+#[cold]
+#[inline(never)]
+fn slow_int_at<'j>(bytes: &'j [u8], at: usize) -> Result<(Integer<'j>, usize), Fault>
     requires { at < length bytes.now }
     ensures value { Scans (with_end integer_view) result (int_at bytes.now at) }
     ensures advances { IfOk result (EndsWithin at (length bytes.now)) }
@@ -324,6 +323,25 @@ pub fn int_at<'j>(bytes: &'j [u8], at: usize) -> Result<(Integer<'j>, usize), Fa
     }
     let number = long_integer(bytes, at, digits, end);
     Ok((Integer::Whole(number), end))
+}
+
+/// Returns the integer at `at` and the index after it (RFC 8259, 6). For a float, returns the index of the first byte
+/// that only a float has. That is the point, the exponent's letter, or the first letter of `NaN` or `Infinity`.
+///
+/// Fails as [`NumberInt::from_bytes`] does, except that a float is no error and any byte may follow the integer.
+pub fn int_at<'j>(bytes: &'j [u8], at: usize) -> Result<(Integer<'j>, usize), Fault>
+    requires { at < length bytes.now }
+    ensures value { Scans (with_end integer_view) result (int_at bytes.now at) }
+    ensures advances { IfOk result (EndsWithin at (length bytes.now)) }
+{
+    let digits = minus_end(bytes, at);
+    match fast_number_at(bytes, digits) {
+        FastNumber::Int(magnitude, end) => {
+            let number = integer_of(bytes, at, digits, end, magnitude);
+            Ok((Integer::Whole(number), end))
+        }
+        _ => slow_int_at(bytes, at),
+    }
 }
 
 fn begins_number(byte: u8) -> bool

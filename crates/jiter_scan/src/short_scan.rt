@@ -29,10 +29,10 @@ fn look_of(bytes: &[u8], to: usize, ascii: bool) -> Look
 {
     match byte_at(bytes, to) {
         None => Look::Fault(FaultKind::EofWhileParsingString),
-        Some(byte) => {
-            if byte == b'"' {
+        Some(stop) => {
+            if stop == b'"' {
                 if ascii { Look::Plain } else { Look::Utf8 }
-            } else if byte == b'\\' {
+            } else if stop == b'\\' {
                 Look::Escaped(ascii)
             } else {
                 Look::Fault(FaultKind::ControlCharacterWhileParsingString)

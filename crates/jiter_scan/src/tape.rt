@@ -1,7 +1,7 @@
 //! A tape: a buffer of which only the first bytes count. The bytes after them are free, so that sixteen can be written
 //! at once.
 ghost use Rattle.std.specs.Prelude.{◌≡◌, ◌+◌, ◌^◌, ◌<◌, ◌≤◌, ◌++◌, IfOk, OnOk, length, take};
-ghost use Rattle.std.specs.Prelude.{vec_len};
+ghost use Rattle.std.specs.Prelude.{slice_range, vec_len};
 ghost use Rattle.std.specs.Char.{encode_utf8};
 ghost use Rattle.std.specs.Simd.Lanes.{chunk};
 ghost use Rattle.jiter_scan.specs.Scan.{is_plain, is_ascii};
@@ -94,4 +94,24 @@ pub fn put_char(tape: &mut Vec<u8>, count: usize, c: char) -> usize
     tape[count + 2] = (0x80 + code / 64 % 64) as u8;
     tape[count + 3] = (0x80 + code % 64) as u8;
     count + 4
+}
+
+/// Writes the bytes from `from` up to before `stop` at the beginning of the tape, which grows if it must. Returns their
+/// count; at least sixteen free bytes follow.
+#[inline(always)]
+pub fn put_first(
+    tape: &mut Vec<u8>,
+    bytes: &[u8],
+    from: usize,
+    stop: usize,
+) -> Result<usize, AllocFailed>
+    requires within { (from ≤ stop) × (stop ≤ length bytes.now) }
+    ensures text { IfOk result (λ n. take n tape.new.items ≡ slice_range bytes.now from stop) }
+    ensures room { IfOk result (λ n. n + 16 ≤ vec_len tape.new) }
+{
+    if stop - from <= 16 && bytes.len() - from >= 16 && tape.len() >= 32 {
+        put_sixteen(tape, 0, u8x16::from_slice(&bytes[from..]));
+        return Ok(stop - from);
+    }
+    put_slice(tape, 0, &bytes[from..stop])
 }

@@ -1,5 +1,5 @@
 -- What the functions that read strings return.
-use Rattle.std.specs.Prelude.{◌≡◌, ℕ, ◌+◌, ◌≤◌, Bool, true, false, List, slice_get, take, Some, Result, IfOk}
+use Rattle.std.specs.Prelude.{◌≡◌, ℕ, ◌+◌, ◌≤◌, ◌++◌, Bool, true, false, List, slice_get, take, Some, Result, IfOk}
 use Rattle.std.specs.Str.{IsUtf8}
 use Rattle.std.specs.Char.{encode_utf8}
 use Rattle.std.specs.Cow.{cow_str_bytes}
@@ -13,7 +13,7 @@ use Rattle.jiter_scan.specs.Scanned.{Scans, with_end}
 use Rattle.jiter_steps.specs.ReadError.{UnlessRefused}
 use Rattle.jiter_steps.specs.Tree.{Text}
 use Rattle.jiter_steps.specs.StringReading.{HexDigits, number, bad, few, Event, part, over, Stop, closed, unclosed}
-use Rattle.jiter_steps.specs.StringReading.{cut, string_at, text_form, wrong}
+use Rattle.jiter_steps.specs.StringReading.{cut, event_at, string_at, text_form, wrong}
 use Rattle.jiter_steps.specs.declared.escape.Hex.{Hex}
 use Rattle.jiter_steps.specs.declared.escape.Hex.TheVariants as hex
 use Rattle.jiter_steps.specs.declared.escape.StringEvent.{StringEvent}
@@ -67,3 +67,9 @@ pub record Decodes (t : List ℕ) (i : ℕ) (keep : Bool) (tape : List ℕ) (siz
       Scans (with_end (λ n. record { owned = true; bytes = take n tape })) r (string_at (text_form keep) t i))
   pub text : IfOk result (λ r. IsUtf8 (take r.0 tape))
   pub prefix : IfOk result (λ r. r.0 ≤ size)
+
+-- The escape at i ends at j, and its character is put after these bytes.
+pub record PutsEscape (t : List ℕ) (i : ℕ) (tape next : List ℕ) (j : ℕ) : Type 0 where
+  pub bytes : List ℕ
+  pub is : part bytes true j ≡ event_at t i
+  pub put : next ≡ tape ++ bytes

@@ -5,7 +5,9 @@ ghost use Rattle.jiter_steps.specs.Blank.{is_blank, past_blanks};
 
 use std::simd::prelude::*;
 
-fn is_blank(byte: u8) -> bool
+/// Returns whether the byte is whitespace (RFC 8259, 2).
+#[inline(always)]
+pub fn is_blank(byte: u8) -> bool
     ensures { result ≡ is_blank byte }
 {
     matches!(byte, b' ' | b'\t' | b'\n' | b'\r')

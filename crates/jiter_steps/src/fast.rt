@@ -4,14 +4,13 @@ ghost use Rattle.std.specs.Prelude.{◌≡◌, ◌≢◌, ◌+◌, ◌≤◌, �
 ghost use Rattle.std.specs.Prelude.{Some, true};
 ghost use Rattle.std.specs.Str.{IsAscii};
 ghost use Rattle.jiter_scan.specs.Ascii as ascii;
-ghost use Rattle.jiter_scan.specs.Scan.{scan_stop, GoesOnAt, IsAsciiTo};
+ghost use Rattle.jiter_scan.specs.Scan.{scan_stop, GoesOnAt};
 ghost use Rattle.jiter_scan.specs.Scanned.{taken};
 ghost use Rattle.jiter_steps.specs.Literal.{literal_at};
 ghost use Rattle.jiter_steps.specs.StringReading.{string_at, text_form, between};
 
 use crate::parse::Literal;
 use jiter_scan::short_scan::ascii_quote;
-use jiter_scan::text::utf8_text;
 
 /// Returns the index of the closing quote of the string at `at` (RFC 8259, 7), if all bytes between the quotes are
 /// plain and below 80 hex. Otherwise returns the index from which to look for the first byte that is not plain: all
@@ -26,20 +25,6 @@ pub fn fast_string_end(bytes: &[u8], at: usize) -> Result<usize, usize>
     ensures rest { IfErr result (λ i. GoesOnAt bytes.now (at + 1) i) }
 {
     ascii_quote(bytes, at + 1)
-}
-
-/// Returns the string between the quotes at `at` and `to`. Its bytes are below 80 hex, and are not tested.
-#[inline(always)]
-pub(crate) fn ascii_between(bytes: &[u8], at: usize, to: usize) -> &str
-    requires within { (at < to) × (to < length bytes.now) }
-    requires stop { to ≡ scan_stop bytes.now (at + 1) }
-    requires quote { slice_get bytes.now to ≡ Some ascii.quote }
-    requires ascii { IsAsciiTo bytes.now (at + 1) to }
-    ensures text { result.now ≡ slice_range bytes.now (at + 1) to }
-    ensures value { (keep : Bool)
-        → string_at (text_form keep) bytes.now at ≡ taken (between bytes.now (at + 1) to) (to + 1) }
-{
-    utf8_text(&bytes[at + 1..to])
 }
 
 /// Returns the string between the quotes at `at` and `to`, if it is UTF-8 (RFC 8259, 8.1).

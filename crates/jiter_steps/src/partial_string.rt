@@ -4,21 +4,21 @@ ghost use Rattle.std.specs.Prelude.{◌≡◌, ◌+◌, ◌<◌, ◌≤◌, [], 
 ghost use Rattle.std.specs.Prelude.{◌++◌, ◌||◌, is_some, false, not, slice_get, slice_index, slice_range, string_bytes, take, true, ℕ};
 ghost use Rattle.jiter_scan.specs.Ascii as ascii;
 ghost use Rattle.jiter_scan.specs.Kind.{eof_string};
-ghost use Rattle.jiter_scan.specs.Scan.{Pass, is_plain, is_plain_ascii};
+ghost use Rattle.jiter_scan.specs.Scan.{IsLook, Pass, is_plain, is_plain_ascii, scan_stop};
 ghost use Rattle.jiter_scan.specs.Scanned.{failed};
 ghost use Rattle.jiter_steps.specs.PartialString.{Goes, HasTaken, HasTakenFrom, IsCountAt, IsEven, IsPart, IsTextWithin};
 ghost use Rattle.jiter_steps.specs.PartialString.{Wherever, grown, text_or};
 ghost use Rattle.jiter_steps.specs.PartialText.{IsWhole, with_text};
-ghost use Rattle.jiter_steps.specs.StringDecoder.{WantsMemory};
 ghost use Rattle.jiter_steps.specs.StringReading.{content_at, kept, text_form, whole};
 
 use crate::escape::{StringEnd, StringEvent, next_event, simple_escape_at};
-use crate::fast::{ascii_between, text_between};
 use crate::partial_escape::{PartialEscape, Spelled};
 use crate::partial_text::{FEW, PartialText};
-use crate::string_decoder::decode_whole;
+use crate::read_error::ReadError;
+use crate::string_decoder::{checked_text, decode};
 use jiter_scan::errors::FaultKind;
 use jiter_scan::memory::{AllocFailed, copy_text};
+use jiter_scan::short_scan::{Look, look_at};
 use jiter_scan::simd::{scan_string, string_stop};
 use jiter_scan::text::utf8_text;
 use std::alloc::Global;
@@ -60,19 +60,39 @@ fn decoded_within(
     tape: &mut Vec<u8>,
     piece: &[u8],
     at: usize,
+    stop: usize,
+    low: bool,
 ) -> Result<Option<(String, usize)>, AllocFailed>
     requires first { slice_get piece.now at ≡ Some ascii.quote }
-    requires backslash { WantsMemory piece.now at }
+    requires stop { stop ≡ scan_stop piece.now (at + 1) }
+    requires escaped { IsLook piece.now (at + 1) stop (Look.Escaped low) }
     ensures { IfOk result (λ found. IfSome found (λ x. IsTextWithin piece.now at (string_bytes x.0) x.1)) }
 {
-    match decode_whole(tape, piece, at) {
+    match decode(tape, piece, at, stop, low, false) {
         Ok((count, end)) => {
             let text = utf8_text(&tape.as_slice()[..count]);
             Ok(Some((copy_text(alloc, text)?, end)))
         }
-        Err(Some(refused)) => Err(refused),
-        Err(None) => Ok(None),
+        Err(ReadError::Memory(refused)) => Err(refused),
+        Err(ReadError::Fault(_)) => Ok(None),
     }
+}
+
+#[inline(always)]
+fn closed_within(
+    alloc: Global,
+    piece: &[u8],
+    at: usize,
+    to: usize,
+    text: &str,
+) -> Result<Option<(String, usize)>, AllocFailed>
+    requires first { slice_get piece.now at ≡ Some ascii.quote }
+    requires stop { to ≡ scan_stop piece.now (at + 1) }
+    requires last { slice_get piece.now to ≡ Some ascii.quote }
+    requires text { text.now ≡ slice_range piece.now (at + 1) to }
+    ensures { IfOk result (λ found. IfSome found (λ x. IsTextWithin piece.now at (string_bytes x.0) x.1)) }
+{
+    Ok(Some((copy_text(alloc, text)?, to + 1)))
 }
 
 /// Returns the string whose opening quote is at `at`, and the index after its closing quote, if the chunk has both. A
@@ -92,24 +112,14 @@ pub fn text_within(
     if piece[at] != b'"' {
         return Ok(None);
     }
-    let (to, low) = scan_string(piece, at + 1);
-    if to >= piece.len() {
-        return Ok(None);
-    }
-    if piece[to] != b'"' {
-        if piece[to] != b'\\' {
-            return Ok(None);
-        }
-        return decoded_within(alloc, tape, piece, at);
-    }
-    let found = if low {
-        Some(ascii_between(piece, at, to))
-    } else {
-        text_between(piece, at, to)
-    };
-    match found {
-        Some(text) => Ok(Some((copy_text(alloc, text)?, to + 1))),
-        None => Ok(None),
+    match look_at(piece, at + 1) {
+        (to, Look::Plain) => closed_within(alloc, piece, at, to, utf8_text(&piece[at + 1..to])),
+        (to, Look::Utf8) => match checked_text(piece, at + 1, to, false) {
+            Ok(text) => closed_within(alloc, piece, at, to, text),
+            Err(_) => Ok(None),
+        },
+        (stop, Look::Escaped(low)) => decoded_within(alloc, tape, piece, at, stop, low),
+        (_, Look::Fault(_)) => Ok(None),
     }
 }
 
@@ -260,19 +270,6 @@ impl PartialString {
         ensures { result ≡ true → IsEven self.now }
     {
         self.escape.is_none() && self.text.is_whole()
-    }
-
-    /// Takes bytes that are plain and below 80 hex. If the allocation fails, nothing changes.
-    #[inline(always)]
-    pub fn add_plain(&mut self, bytes: &[u8]) -> Result<(), AllocFailed>
-        requires even { IsEven self.old }
-        requires plain { Pass is_plain_ascii bytes.now }
-        ensures taken { (w : List ℕ) → HasTaken self.old w → OnOk result (HasTaken self.new (w ++ bytes.now)) }
-        ensures ok { OnOk result (self.new ≡ grown self.old bytes.now) }
-        ensures refused { OnErr result (self.new ≡ self.old) }
-        ensures some { OnErr result (0 < length bytes.now) }
-    {
-        self.text.add_ascii(bytes)
     }
 
     /// Returns whether the string is UTF-8 if it ends here: with its closing quote, or with the input if `keep` is set.

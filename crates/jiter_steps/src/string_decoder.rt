@@ -1,63 +1,86 @@
 //! Reads strings (RFC 8259, 7 and 8.1). A string without a backslash is borrowed from the input; any other is decoded.
-ghost use Rattle.std.specs.Prelude.{◌≡◌, ℕ, Bool, ◌+◌, ◌^◌, ◌<◌, ◌≤◌, length, true, false};
-ghost use Rattle.std.specs.Prelude.{List, slice_range, IfOk, IfErr, IsTrue, MatchResult, Some, None, take};
-ghost use Rattle.std.specs.Prelude.{drop};
-ghost use Rattle.std.specs.Prelude.{vec_len};
+ghost use Rattle.std.specs.Prelude.{◌≡◌, ◌≢◌, ℕ, Bool, ◌+◌, ◌^◌, ◌<◌, ◌≤◌, length, true, false, List, slice_get, slice_range};
+ghost use Rattle.std.specs.Prelude.{IfOk, IfErr, IfSome, IsTrue, MatchResult, Some, None, drop, take, vec_len};
 ghost use Rattle.std.specs.Str.{IsUtf8, IsValidUpTo};
-ghost use Rattle.std.specs.Str.Lossy.{utf8_valid_len, utf8_error_len};
-ghost use Rattle.simdutf8.specs.Error.{valid_up_to, error_len};
-ghost use Rattle.jiter_scan.specs.Scan.{IsAsciiTo};
+ghost use Rattle.std.specs.Char.{encode_utf8};
+ghost use Rattle.jiter_scan.specs.Scan.{is_stop, scan_stop, IsAsciiTo, IsLook};
 ghost use Rattle.jiter_scan.specs.Kind.{fault_kind, invalid_code_point};
 ghost use Rattle.jiter_scan.specs.Scanned.{Scans, with_end, taken, failed};
 ghost use Rattle.jiter_steps.specs.ReadError.{UnlessRefused, WhereRefused};
-ghost use Rattle.jiter_steps.specs.StringReading.{body_at, text_form, text_in_form, checked, string_at, whole};
-ghost use Rattle.jiter_steps.specs.StringDecoder.{text_view, stop_view};
-ghost use Rattle.jiter_steps.specs.StringDecoder.{Decodes, WantsMemory};
+ghost use Rattle.jiter_steps.specs.StringReading.{body_at, event_at, over, text_form, text_in_form, checked, string_at};
+ghost use Rattle.jiter_steps.specs.StringDecoder.{text_view, stop_view, Decodes, PutsEscape, WantsMemory};
 
+use crate::characters::valid_utf8_end;
 use crate::escape::{StringEnd, StringEvent, next_event, simple_escape_at};
 use crate::read_error::ReadError;
 use jiter_scan::errors::{Fault, FaultKind, fault_at};
 use jiter_scan::memory::{AllocFailed, copy_text};
+use jiter_scan::short_scan::{Look, look_at};
 use jiter_scan::simd::{both, copy_plain, scan_string};
-use jiter_scan::tape::put_char;
+use jiter_scan::tape::{put_char, put_first};
 use jiter_scan::text::utf8_text;
-use jiter_scan::word::byte_at;
 use std::alloc::Global;
 use std::borrow::CowStr;
 
-// Decodes to the beginning of the tape. Returns how many bytes that gives, whether they are known to be UTF-8, and how
-// the string ends.
+// Puts the character of the escape at `stop` after the first `end` bytes of the tape. Returns the index after the
+// escape, and how many bytes count then. The error is how the string ends, if no escape is there.
 #[inline(always)]
-fn decode(
+fn put_escape(
+    tape: &mut Vec<u8>,
+    end: usize,
+    bytes: &[u8],
+    stop: usize,
+) -> Result<(usize, usize), StringEnd>
+    requires within { stop ≤ length bytes.now }
+    requires stop { IfSome (slice_get bytes.now stop) (λ b. is_stop b ≡ true) }
+    requires room { end + 4 ≤ vec_len tape.old }
+    ensures put { IfOk result (λ r. PutsEscape bytes.now stop (take end tape.old.items) (take r.1 tape.new.items) r.0) }
+    ensures place { IfOk result (λ r. r.1 ≤ vec_len tape.new) }
+    ensures ending { IfErr result (λ s. over (stop_view s) ≡ event_at bytes.now stop) }
+    ensures same { IfErr result (λ _. tape.new ≡ tape.old) }
+{
+    let sign = simple_escape_at(bytes, stop);
+    if sign != 0 {
+        tape[end] = sign;
+        return Ok((stop + 2, end + 1));
+    }
+    match next_event(bytes, stop) {
+        StringEvent::Escape(c, after) => Ok((after, put_char(tape, end, c))),
+        StringEvent::End(ending) => Err(ending),
+    }
+}
+
+// Decodes to the beginning of the tape the string whose first byte is at `from`. Its bytes before `stop` are plain, and
+// `ascii` says whether they are below 80 hex. Returns how many bytes that gives, whether they are known to be UTF-8, and
+// how the string ends.
+#[inline(always)]
+fn decode_on(
     tape: &mut Vec<u8>,
     bytes: &[u8],
     from: usize,
+    stop: usize,
+    ascii: bool,
 ) -> Result<(usize, bool, StringEnd), AllocFailed>
-    requires { from ≤ length bytes.now }
+    requires within { from ≤ length bytes.now }
+    requires stop { stop ≡ scan_stop bytes.now from }
+    requires ascii { IsTrue ascii → IsAsciiTo bytes.now from stop }
     ensures text { IfOk result (λ r. take r.0 tape.new.items ≡ (body_at bytes.now from).bytes) }
     ensures utf8 { IfOk result (λ r. IsTrue r.1 → IsUtf8 (take r.0 tape.new.items)) }
     ensures within { IfOk result (λ r. r.0 ≤ vec_len tape.new) }
     ensures stop { IfOk result (λ r. stop_view r.2 ≡ (body_at bytes.now from).stop) }
 {
-    let mut at = from;
-    let mut count = 0;
-    let mut known = true;
+    let mut stop = stop;
+    let mut end = put_first(tape, bytes, from, stop)?;
+    let mut known = ascii;
     loop {
-        let (stop, end, low) = copy_plain(tape, count, bytes, at)?;
-        known = both(known, low);
-        let sign = simple_escape_at(bytes, stop);
-        if sign != 0 {
-            tape[end] = sign;
-            count = end + 1;
-            at = stop + 2;
-            continue;
-        }
-        match next_event(bytes, stop) {
-            StringEvent::Escape(c, after) => {
-                count = put_char(tape, end, c);
-                at = after;
+        match put_escape(tape, end, bytes, stop) {
+            Ok((at, count)) => {
+                let (next, filled, low) = copy_plain(tape, count, bytes, at)?;
+                stop = next;
+                end = filled;
+                known = both(known, low);
             }
-            StringEvent::End(ending) => return Ok((end, known, ending)),
+            Err(ending) => return Ok((end, known, ending)),
         }
     }
 }
@@ -78,13 +101,44 @@ fn checked_count(content: &[u8], known: bool, keep: bool) -> Result<usize, usize
     if known {
         return Ok(content.len());
     }
-    match simdutf8::compat::from_utf8(content) {
-        Ok(_) => Ok(content.len()),
-        Err(e) => match e.error_len() {
-            Some(_) => Err(e.valid_up_to()),
-            None if keep => Ok(e.valid_up_to()),
-            None => Err(e.valid_up_to()),
-        },
+    let (count, wrong) = valid_utf8_end(content);
+    if wrong {
+        return Err(count);
+    }
+    if keep {
+        return Ok(count);
+    }
+    if count == content.len() {
+        Ok(count)
+    } else {
+        Err(count)
+    }
+}
+
+/// Returns the text from `from` up to before `to`, if it is UTF-8 (RFC 8259, 8.1), and otherwise the index of the error.
+/// With `keep`, an incomplete character at its end is left out.
+///
+/// # Requires
+///
+/// - `from` is at most `to`, and `to` at most the length.
+#[inline(always)]
+pub fn checked_text<'j>(
+    bytes: &'j [u8],
+    from: usize,
+    to: usize,
+    keep: bool,
+) -> Result<&'j str, usize>
+    requires { (from ≤ to) × (to ≤ length bytes.now) }
+    ensures value { (e : ℕ) → MatchResult result
+        (λ text. checked keep from false (slice_range bytes.now from to) e
+        ≡ taken (record { owned = false; bytes = text.now }) e)
+        (λ i. checked keep from false (slice_range bytes.now from to) e ≡ failed invalid_code_point i) }
+    ensures within { IfErr result (λ i. (from ≤ i) × (i ≤ to)) }
+{
+    let content = &bytes[from..to];
+    match checked_count(content, false, keep) {
+        Ok(count) => Ok(utf8_text(&content[..count])),
+        Err(right) => Err(from + right),
     }
 }
 
@@ -95,18 +149,16 @@ fn borrow_text<'j>(
     from: usize,
     to: usize,
     end: usize,
-    ascii: bool,
     keep: bool,
-) -> Result<(CowStr<'j>, usize), Fault>
-    requires within { (from ≤ to) × (to ≤ length bytes.now) }
-    requires ascii { IsTrue ascii → IsAsciiTo bytes.now from to }
-    ensures { Scans (with_end text_view) result
-        (checked keep from false (slice_range bytes.now from to) end) }
+) -> Result<(CowStr<'j>, usize), ReadError>
+    requires { (from ≤ to) × (to ≤ length bytes.now) }
+    ensures value { UnlessRefused result (λ r. Scans (with_end text_view) r
+        (checked keep from false (slice_range bytes.now from to) end)) }
+    ensures memory { WhereRefused result ⊥ }
 {
-    let content = &bytes[from..to];
-    match checked_count(content, ascii, keep) {
-        Ok(count) => Ok((CowStr::Borrowed(utf8_text(&content[..count])), end)),
-        Err(right) => Err(fault_at(FaultKind::InvalidUnicodeCodePoint, from + right)),
+    match checked_text(bytes, from, to, keep) {
+        Ok(text) => Ok((CowStr::Borrowed(text), end)),
+        Err(index) => Err(ReadError::Fault(fault_at(FaultKind::InvalidUnicodeCodePoint, index))),
     }
 }
 
@@ -141,7 +193,59 @@ fn text_end(bytes: &[u8], ending: StringEnd, keep: bool) -> Result<usize, Fault>
     }
 }
 
-/// Does what [`decode_to`] does, and is inlined. A parse decodes its values with it.
+/// Does what [`decode`] does, and is inlined. A parse decodes its values with it.
+#[inline(always)]
+pub fn decode_inline(
+    tape: &mut Vec<u8>,
+    bytes: &[u8],
+    at: usize,
+    stop: usize,
+    ascii: bool,
+    keep: bool,
+) -> Result<(usize, usize), ReadError>
+    requires within { at < length bytes.now }
+    requires stop { stop ≡ scan_stop bytes.now (at + 1) }
+    requires escaped { IsLook bytes.now (at + 1) stop (Look.Escaped ascii) }
+    ensures { Decodes bytes.now at keep tape.new.items (vec_len tape.new) result }
+{
+    let (count, known, ending) = decode_on(tape, bytes, at + 1, stop, ascii)?;
+    let end = text_end(bytes, ending, keep)?;
+    match checked_count(&tape.as_slice()[..count], known, keep) {
+        Ok(fit) => Ok((fit, end)),
+        Err(right) => {
+            let fault = fault_at(FaultKind::InvalidUnicodeCodePoint, at + 1 + right);
+            Err(ReadError::Fault(fault))
+        }
+    }
+}
+
+/// Decodes the string at `at` to the beginning of the tape. Its first backslash is at `stop`, and `ascii` says whether
+/// all bytes before it are below 80 hex, as [`look_at`] reports them. Returns how many bytes the string has on the tape,
+/// and the index after its closing quote. Fails as [`string_at`] does, and `keep` means the same.
+///
+/// It isn't inlined: all callers share one copy of [`decode_inline`].
+///
+/// # Requires
+///
+/// - `stop` and `ascii` are what [`look_at`] returns for `at + 1`.
+#[inline(never)]
+pub fn decode(
+    tape: &mut Vec<u8>,
+    bytes: &[u8],
+    at: usize,
+    stop: usize,
+    ascii: bool,
+    keep: bool,
+) -> Result<(usize, usize), ReadError>
+    requires within { at < length bytes.now }
+    requires stop { stop ≡ scan_stop bytes.now (at + 1) }
+    requires escaped { IsLook bytes.now (at + 1) stop (Look.Escaped ascii) }
+    ensures { Decodes bytes.now at keep tape.new.items (vec_len tape.new) result }
+{
+    decode_inline(tape, bytes, at, stop, ascii, keep)
+}
+
+/// Does what [`decode_inline`] does, and finds the backslash itself.
 #[inline(always)]
 pub fn decode_here(
     tape: &mut Vec<u8>,
@@ -153,21 +257,11 @@ pub fn decode_here(
     requires backslash { WantsMemory bytes.now at }
     ensures { Decodes bytes.now at keep tape.new.items (vec_len tape.new) result }
 {
-    let (count, known, ending) = decode(tape, bytes, at + 1)?;
-    let end = text_end(bytes, ending, keep)?;
-    match checked_count(&tape.as_slice()[..count], known, keep) {
-        Ok(fit) => Ok((fit, end)),
-        Err(right) => {
-            let fault = fault_at(FaultKind::InvalidUnicodeCodePoint, at + 1 + right);
-            Err(ReadError::Fault(fault))
-        }
-    }
+    let found = scan_string(bytes, at + 1);
+    decode_inline(tape, bytes, at, found.0, found.1, keep)
 }
 
-/// Decodes the string at `at`, which has a backslash, to the beginning of the tape. Returns how many bytes it has
-/// there, and the index after its closing quote. Fails as [`string_at`] does, and `keep` means the same.
-///
-/// It isn't inlined: all callers share one copy of [`decode_here`].
+/// Does what [`decode`] does, and finds the backslash itself.
 #[inline(never)]
 pub fn decode_to(
     tape: &mut Vec<u8>,
@@ -189,39 +283,19 @@ fn decode_text<'j>(
     tape: &mut Vec<u8>,
     bytes: &'j [u8],
     at: usize,
+    stop: usize,
+    ascii: bool,
     keep: bool,
 ) -> Result<(CowStr<'j>, usize), ReadError>
     requires within { at < length bytes.now }
-    requires backslash { WantsMemory bytes.now at }
+    requires stop { stop ≡ scan_stop bytes.now (at + 1) }
+    requires escaped { IsLook bytes.now (at + 1) stop (Look.Escaped ascii) }
     ensures { UnlessRefused result (λ r. Scans (with_end text_view) r
         (string_at (text_form keep) bytes.now at)) }
 {
-    let (count, end) = decode_to(tape, bytes, at, keep)?;
+    let (count, end) = decode(tape, bytes, at, stop, ascii, keep)?;
     let own = copy_text(alloc, utf8_text(&tape.as_slice()[..count]))?;
     Ok((CowStr::Owned(own), end))
-}
-
-/// Decodes the string at `at` as [`decode_to`] does without `keep` (RFC 8259, 7 and 8.1). Fails with `Some` if an
-/// allocation failed, and with `None` for every other error.
-#[inline(always)]
-pub fn decode_whole(
-    tape: &mut Vec<u8>,
-    bytes: &[u8],
-    at: usize,
-) -> Result<(usize, usize), Option<AllocFailed>>
-    requires within { at < length bytes.now }
-    requires backslash { WantsMemory bytes.now at }
-    ensures value { IfOk result (λ r. (keep : Bool) → string_at (text_form keep) bytes.now at
-        ≡ taken (record { owned = true; bytes = take r.0 tape.new.items }) r.1) }
-    ensures text { IfOk result (λ r. IsUtf8 (take r.0 tape.new.items)) }
-    ensures prefix { IfOk result (λ r. r.0 ≤ vec_len tape.new) }
-    ensures advances { IfOk result (λ r. (at < r.1) × (r.1 ≤ length bytes.now)) }
-{
-    match decode_to(tape, bytes, at, false) {
-        Ok((count, end)) => Ok((count, end)),
-        Err(ReadError::Fault(_)) => Err(None),
-        Err(ReadError::Memory(refused)) => Err(Some(refused)),
-    }
 }
 
 /// Returns the string whose opening quote is at `at`, and the index after its closing quote (RFC 8259, 7 and 8.1). A
@@ -250,19 +324,15 @@ pub fn string_at<'j>(
     ensures advances { IfOk result (λ x. (at < x.1) × (x.1 ≤ length bytes.now)) }
     ensures memory { WhereRefused result (WantsMemory bytes.now at) }
 {
-    let (to, ascii) = scan_string(bytes, at + 1);
-    match byte_at(bytes, to) {
-        Some(b'"') => {
-            borrow_text(bytes, at + 1, to, to + 1, ascii, keep).map_err(ReadError::Fault)
+    match look_at(bytes, at + 1) {
+        (to, Look::Plain) => Ok((CowStr::Borrowed(utf8_text(&bytes[at + 1..to])), to + 1)),
+        (to, Look::Utf8) => borrow_text(bytes, at + 1, to, to + 1, keep),
+        (stop, Look::Escaped(ascii)) => decode_text(alloc, tape, bytes, at, stop, ascii, keep),
+        (to, Look::Fault(kind)) => {
+            if keep && to == bytes.len() {
+                return borrow_text(bytes, at + 1, to, to, keep);
+            }
+            Err(ReadError::Fault(fault_at(kind, to)))
         }
-        Some(b'\\') => decode_text(alloc, tape, bytes, at, keep),
-        Some(_) => Err(ReadError::Fault(fault_at(
-            FaultKind::ControlCharacterWhileParsingString,
-            to,
-        ))),
-        None if keep => {
-            borrow_text(bytes, at + 1, to, bytes.len(), ascii, keep).map_err(ReadError::Fault)
-        }
-        None => Err(ReadError::Fault(cut_short(bytes))),
     }
 }

@@ -77,7 +77,6 @@ fn answer_anywhere(
         "escape" => pieces::answer_escape(rt, bytes),
         "text" => pieces::answer_text(rt, alloc, bytes),
         "blanks" => reader::answer_blanks(rt, bytes, at),
-        "fast_colon" => reader::answer_plain_colon(rt, bytes, at),
         "null" => reader::answer_literal(rt, bytes, at, Literal::Null),
         "true" => reader::answer_literal(rt, bytes, at, Literal::True),
         "false" => reader::answer_literal(rt, bytes, at, Literal::False),

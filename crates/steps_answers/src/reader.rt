@@ -3,10 +3,11 @@ ghost use Rattle.std.specs.Prelude.{◌<◌, ◌≤◌, length};
 
 use jiter_scan::errors::Fault;
 use jiter_steps::blank::past_blanks;
-use jiter_steps::fast::{fast_colon, fast_literal_end};
+use jiter_steps::fast::fast_literal_end;
 use jiter_steps::parse::{ContainerKind, Literal, Parser, Start, start_of};
 use jiter_steps::read_error::ReadError;
 use jiter_steps::skip::skip;
+use jiter_steps::step::{colon, first, member_value, next, value_first};
 use std::alloc::Global;
 use std::borrow::CowStr;
 use std::fmt::Debug;
@@ -61,12 +62,6 @@ pub fn answer_blanks(rt: &HostRuntime, bytes: &[u8], at: usize) -> io::Result<()
     println!(rt; "{}", past_blanks(bytes, at))
 }
 
-pub fn answer_plain_colon(rt: &HostRuntime, bytes: &[u8], at: usize) -> io::Result<()>
-    requires { at ≤ length bytes.now }
-{
-    println!(rt; "{:?}", fast_colon(bytes, at))
-}
-
 pub fn answer_plain_literal(
     rt: &HostRuntime,
     bytes: &[u8],
@@ -96,7 +91,7 @@ pub fn answer_first(rt: &HostRuntime, call: &str, bytes: &[u8], at: usize) -> io
         ContainerKind::Object
     };
     let mut parser = Parser { bytes, index: at };
-    let answer = parser.first(shape);
+    let answer = parser.step(first(bytes, at + 1, shape));
     tell(rt, answer, parser.index)
 }
 
@@ -106,17 +101,17 @@ pub fn answer_step(rt: &HostRuntime, call: &str, bytes: &[u8], at: usize) -> io:
 {
     let mut parser = Parser { bytes, index: at };
     if call == "array_step" {
-        let answer = parser.step(ContainerKind::Array);
+        let answer = parser.step(next(bytes, at, ContainerKind::Array));
         return tell(rt, answer, parser.index);
     }
     if call == "object_step" {
-        let answer = parser.step(ContainerKind::Object);
+        let answer = parser.step(next(bytes, at, ContainerKind::Object));
         return tell(rt, answer, parser.index);
     }
     let answer = match call {
-        "colon" => parser.colon(),
-        "object_colon" => parser.object_colon(),
-        "value_first" => parser.value_first(),
+        "colon" => parser.go(colon(bytes, at)),
+        "member_value" => parser.go(member_value(bytes, at)),
+        "value_first" => parser.go(value_first(bytes, at)),
         "finish" => parser.finish(),
         _ => return println!(rt; "no such call"),
     };

@@ -1,9 +1,10 @@
 -- What a look at a string says of its reading.
 use Rattle.std.proofs.Common.{◌≡◌, ◌≢◌, ℕ, ◌+◌, ◌<◌, ◌≤◌, Bool, true, false, List, length, refl, sym, ap, ◌∙◌}
 use Rattle.std.proofs.Common.{arith, subst}
-use Rattle.std.specs.Prelude.{slice_get, slice_range, Option, Some, None}
+use Rattle.std.specs.Prelude.{◌==◌, slice_get, slice_range, Option, Some, None}
 use Rattle.std.specs.Str.{IsUtf8}
-use Rattle.std.proofs.lemmas.Option.{same_Some}
+use Rattle.std.specs.Str.Lossy.{utf8_valid_len}
+use Rattle.std.proofs.lemmas.Option.{same_Some, slice_get_past}
 use Rattle.jiter_scan.specs.Kind.{control_character, eof_string, fault_kind}
 use Rattle.jiter_scan.specs.Scan.{IsFaultOf, IsLook, scan_stop}
 use Rattle.jiter_scan.specs.Scanned.{taken, failed}
@@ -11,9 +12,11 @@ use Rattle.jiter_scan.specs.declared.errors.FaultKind.{FaultKind}
 use Rattle.jiter_scan.specs.declared.errors.FaultKind.TheVariants as fault
 use Rattle.jiter_scan.specs.declared.short_scan.Look.{Look}
 use Rattle.jiter_scan.specs.declared.short_scan.Look.TheVariants as look
+use Rattle.jiter_scan.proofs.Choices.{failed-taken, if_gives, same_taken}
 use Rattle.jiter_scan.proofs.Standing.{get-none}
 use Rattle.jiter_steps.specs.StringReading.{between, checked, content_at, Form, kept, raw, raw_form, raw_kept, string_at}
 use Rattle.jiter_steps.specs.StringReading.{text_form, text_in_form, unclosed, whole}
+use Rattle.jiter_steps.specs.Tree.{Text}
 use Rattle.jiter_steps.proofs.Calls.FastAnswers.{plain-quoted, plain-utf8}
 use Rattle.jiter_steps.proofs.Calls.PlainRuns.{plain_run-within}
 use Rattle.jiter_steps.proofs.Calls.RawStrings.{raw-closed, raw-over_run, raw-unclosed}
@@ -39,6 +42,14 @@ module _ (t : List ℕ) (at to : ℕ) (inside : at < length t) (stop : to ≡ sc
       → string_at (text_form keep) t at ≡ checked keep (at + 1) false content (to + 1)
   look-checked found keep = string-quote t at inside to stop keep found
 
+  -- what is a text of those bytes is all of them
+  pub look-whole : (text : List ℕ) (e : ℕ)
+      → checked false (at + 1) false content e ≡ taken (record { owned = false; bytes = text }) e → text ≡ content
+  look-whole text e is =
+      if_gives (utf8_valid_len content == length content) _ _ (taken (record { owned = false; bytes = text }) e) is
+      (λ all same. ap (λ (x : Text). x.bytes) (sym (same_taken _ _ e e same).0))
+      (λ some no. absurd (failed-taken _ _ _ e no))
+
   -- a control byte
   control-here : (form : Form) (o : Option ℕ) → slice_get t to ≡ o → IsFaultOf o fault.ControlCharacterWhileParsingString
       → string_at form t at ≡ failed control_character to
@@ -60,11 +71,15 @@ module _ (t : List ℕ) (at to : ℕ) (inside : at < length t) (stop : to ≡ sc
       let reach = plain_run-within t (at + 1) (omega arith) in
       omega (arith, get-none t to (none-here (slice_get t to) found), reach.1)
 
+  -- where it ends there, it is kept as far as it goes
+  pub look-ended : to ≡ length t → string_at kept t at ≡ checked true (at + 1) false content to
+  look-ended end =
+      string-none t at inside to stop kept (slice_get_past t to (omega arith))
+      ∙ ap (checked true (at + 1) false content) (sym end)
+
   pub look-kept : Found (look.Fault fault.EofWhileParsingString)
       → string_at kept t at ≡ checked true (at + 1) false content to
-  look-kept found =
-      string-none t at inside to stop kept (none-here (slice_get t to) found)
-      ∙ ap (checked true (at + 1) false content) (sym (look-end found))
+  look-kept found = look-ended (look-end found)
 
   pub look-raw_kept : Found (look.Fault fault.EofWhileParsingString)
       → string_at raw_kept t at ≡ taken (between t (at + 1) to) to
@@ -90,6 +105,17 @@ module _ (t : List ℕ) (at to : ℕ) (inside : at < length t) (stop : to ≡ sc
 
   pub look-raw_fault : (k : FaultKind) → Found (look.Fault k) → string_at raw t at ≡ failed (fault_kind k) to
   look-raw_fault k found = fault-here raw refl k (slice_get t to) refl found
+
+  -- or of one that is kept, unless the input ends there
+  pub look-unkept : (keep : Bool) (k : FaultKind) → Found (look.Fault k) → (keep ≡ true → to ≢ length t)
+      → string_at (text_form keep) t at ≡ failed (fault_kind k) to
+  look-unkept false k found more = look-fault k found
+  look-unkept true k found more = by (slice_get t to) refl found where
+    by : (o : Option ℕ) → slice_get t to ≡ o → IsFaultOf o k → string_at kept t at ≡ failed (fault_kind k) to
+    by None here f = absurd (more refl (omega (arith, get-none t to here, (plain_run-within t (at + 1) (omega arith)).1)))
+    by (Some b) here f =
+        string-control t at inside to stop kept b here (omega (arith, f.0)) (omega (arith, f.0))
+        ∙ ap (λ x. failed (fault_kind x) to) (sym f.1)
 
   -- the bytes between the quotes, without an escape
   pub look-raw : (keep : Bool) → slice_get t to ≡ Some 34

@@ -3,7 +3,7 @@ use jiter_scan::errors::{
     Fault, FaultKind, JsonError, JsonErrorType as Kind, LinePosition, push_position,
 };
 use jiter_scan::memory::{
-    AllocFailed, copy_text, extend, lengthen, make_room, push, push_number, push_text, split_off,
+    AllocFailed, copy_text, lengthen, make_room, push, push_number, push_text, split_off,
     with_capacity,
 };
 use std::alloc::{AllocError, Global};
@@ -24,11 +24,11 @@ fn grown(alloc: Global, count: usize, at: usize) -> Result<(usize, usize, usize)
     Ok((items.len(), more.len(), part.len()))
 }
 
-// How long bytes are that grow by this text and by as many zeros, and a copy of the text that grows by it.
-fn lengthened(alloc: Global, text: &str, first: &[u8]) -> Result<(usize, usize), AllocFailed> {
+// How long bytes are that grow three times, and a copy of the text that grows by it.
+fn lengthened(alloc: Global, text: &str, first: usize) -> Result<(usize, usize), AllocFailed> {
     let mut bytes = Vec::new(alloc);
-    extend(&mut bytes, first)?;
-    extend(&mut bytes, text.as_bytes())?;
+    lengthen(&mut bytes, first)?;
+    lengthen(&mut bytes, text.len())?;
     lengthen(&mut bytes, text.len().min(1000))?;
     let mut copy = copy_text(alloc, text)?;
     push_text(&mut copy, text)?;
@@ -41,7 +41,7 @@ fn growths_of_every_size_are_granted(rt: HostRuntime) -> Result<(), Fail> {
     let seen = grown(alloc, 10_000, 0).ok();
     assert!(rt; seen == Some((10_000, 0, 10_000)));
     let text = "0123456789".repeat(alloc, 10_000)?;
-    let seen = lengthened(alloc, text.as_str(), b"").ok();
+    let seen = lengthened(alloc, text.as_str(), 0).ok();
     assert!(rt; seen == Some((101_000, 200_000)));
     for size in 0..=300usize {
         let half = size / 2;
@@ -56,9 +56,9 @@ fn growths_of_every_size_are_granted(rt: HostRuntime) -> Result<(), Fail> {
         let letter = (size % 95).saturating_add(32) as u8 as char;
         let text = format!(in alloc; "{letter}")?.repeat(alloc, size)?;
         let twice = size.saturating_mul(2);
-        let seen = lengthened(alloc, text.as_str(), b"").ok();
+        let seen = lengthened(alloc, text.as_str(), 0).ok();
         assert!(rt; seen == Some((twice, twice)), "{size} bytes");
-        let seen = lengthened(alloc, text.as_str(), b"after others").ok();
+        let seen = lengthened(alloc, text.as_str(), 12).ok();
         assert!(rt;
             seen == Some((twice.saturating_add(12), twice)),
             "{size} more bytes"

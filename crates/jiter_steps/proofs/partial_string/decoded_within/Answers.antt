@@ -8,8 +8,8 @@ returns-in_ok-copy_text-in-Ok c =
     let piece = c.args.piece.now in
     let at = c.args.at in
     let d = c.in-Ok in
-    let decoded = take d.count c.decode_whole.new.tape.items in
+    let decoded = take d.count c.decode.new.tape.items in
     let text = c.utf8_text-text.ensures ∙ ap (take d.count) c.as_slice.ensures.value in
     subst (λ w. IsTextWithin piece at w d.end) (sym (c.in_ok-copy_text-in-Ok.ensures ∙ text))
-    (decoded-within piece at d.end (record { owned = true; bytes = decoded }) d.ensures.text (d.ensures.value false)
+    (decoded-within piece at d.end (record { owned = true; bytes = decoded }) d.ensures.text d.ensures.value
     c.requires.first)

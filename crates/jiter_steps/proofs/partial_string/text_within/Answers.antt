@@ -1,27 +1,22 @@
-use Rattle.std.proofs.Common.{◌≡◌, ◌∙◌, ◌+◌, IfSome, Some, ap, subst, sym}
-use Rattle.std.specs.Prelude.{slice_range, string_bytes}
-use Rattle.std.proofs.lemmas.Option.{same_Some, slice_get-get_or}
-use Rattle.std.proofs.lemmas.Str.{IsUtf8-string_bytes}
+use Rattle.std.proofs.Common.{◌+◌, ◌∙◌, Some, ap, subst}
+use Rattle.jiter_scan.specs.Scan.{IsLook}
+use Rattle.jiter_scan.specs.declared.short_scan.Look.{Look}
+use Rattle.jiter_steps.proofs.Calls.FastAnswers.{plain-utf8}
+use Rattle.jiter_steps.proofs.Calls.Looks.{look-whole}
 use Rattle.jiter_steps.proofs.Grammar.Places.{got}
-use Rattle.jiter_steps.proofs.OpenStrings.{text-within}
-use Rattle.jiter_steps.proofs.partial_string.text_within.Goals.{then-low, else-low}
 use Rattle.jiter_steps.proofs.partial_string.text_within.Goals as goal
 
-pub returns-in_ok-copy_text-in-Some : goal.returns-in_ok-copy_text-in-Some
-returns-in_ok-copy_text-in-Some c =
-    let piece = c.args.piece.now in
-    let at = c.args.at in
-    let to = c.scan_string-to.result.0 in
-    let own = c.in_ok-copy_text-in-Some.field-0 in
-    let first = got piece at c.requires ∙ ap Some c.if-piece-at-ne34.false in
-    let last = slice_get-get_or piece to 0 c.if-to-piece.false ∙ ap Some c.if-piece-to-ne34.false in
-    let text : c.in-Some.text.now ≡ slice_range piece (at + 1) to =
-    elim c.if-low.branch [
-      | then-low w ↦ ap (λ b. b.now) (c.in-Some.text-is ∙ same_Some _ _ (sym c.in-Some.is ∙ w.found-is))
-          ∙ w.ascii_between.ensures.text
-      | else-low w ↦ ap (λ b. b.now) c.in-Some.text-is
-          ∙ subst (λ o. IfSome o (λ b. b.now ≡ slice_range piece (at + 1) to)) (sym w.found-is ∙ c.in-Some.is)
-          w.text_between-found.ensures.text
-    ] in
-    text-within piece at to c.scan_string-to.ensures.stop first last (string_bytes own)
-    (c.in_ok-copy_text-in-Some.ensures ∙ text) (IsUtf8-string_bytes own)
+pub utf8_text-requires : goal.utf8_text-requires
+utf8_text-requires c =
+    let found = c.look_at in
+    let means = subst (IsLook c.args.piece.now (c.args.at + 1) found.result.0) c.in_default-Plain.is-1 found.ensures.means in
+    plain-utf8 _ means.1
+
+pub decoded_within-requires-clause-first : goal.decoded_within-requires-clause-first
+decoded_within-requires-clause-first c = got c.args.piece.now c.args.at c.requires ∙ ap Some c.if-piece-at-ne34.false
+
+pub closed_within-requires-in-Ok-clause-text : goal.closed_within-requires-in-Ok-clause-text
+closed_within-requires-in-Ok-clause-text c =
+    let found = c.look_at in
+    look-whole c.args.piece.now c.args.at found.result.0 c.requires found.ensures.stop c.in-Ok.text.now 0
+    (c.in-Ok.ensures.value 0)

@@ -1,6 +1,14 @@
-use Rattle.std.proofs.Common.{length, arith}
-use Rattle.std.proofs.lemmas.List.{take_all}
+use Rattle.std.proofs.Common.{◌≡◌, ◌≢◌, ℕ, ◌+◌, ◌∙◌, ◌++◌, [], Bool, List, ap, arith, drop, false, length, nat_eq, sym, take, true, ◌≤◌}
+use Rattle.std.specs.Str.{IsUtf8}
+use Rattle.std.proofs.lemmas.Bool.{eq-eqb, ne_eqb}
+use Rattle.std.proofs.lemmas.List.{length-drop, length-take, take-append-drop, take_all}
+use Rattle.jiter_scan.specs.Kind.{invalid_code_point}
+use Rattle.jiter_scan.specs.Scanned.{Scanned, failed, taken}
+use Rattle.jiter_steps.specs.PartialText.{IsBroken, IsUnfinished}
+use Rattle.jiter_steps.specs.StringReading.{checked}
+use Rattle.jiter_steps.specs.Tree.{Text}
 use Rattle.jiter_steps.proofs.Calls.StringAnswers.{string-checked}
+use Rattle.jiter_steps.proofs.OpenTexts.{broken-fails, open-kept, open-whole}
 use Rattle.jiter_steps.proofs.string_decoder.checked_count.Goals as goal
 
 pub returns-then-known-clause-value : goal.returns-then-known-clause-value
@@ -8,7 +16,52 @@ returns-then-known-clause-value c = λ i e o.
     let bs = c.args.content.now in
     rw (take_all (length bs) bs (omega arith)) (string-checked i e o bs c.args.keep (c.requires c.if-known.true))
 
-pub returns-in-Ok-clause-value : goal.returns-in-Ok-clause-value
-returns-in-Ok-clause-value c = λ i e o.
-    let bs = c.args.content.now in
-    rw (take_all (length bs) bs (omega arith)) (string-checked i e o bs c.args.keep c.in-Ok.ensures.cases.1)
+-- what the bytes are, by their first n, which are a text, and by the rest
+module _ (d : List ℕ) (n : ℕ) (within : n ≤ length d) (utf8 : IsUtf8 (take n d)) (i e : ℕ) (o : Bool) where
+  parts : d ≡ take n d ++ drop n d
+  parts = sym (take-append-drop n d)
+
+  index : ◌≡◌ {A = Scanned Text} (failed invalid_code_point (i + length (take n d))) (failed invalid_code_point (i + n))
+  index = let count : length (take n d) ≡ n = omega (arith, length-take n d) in ap (λ k. failed invalid_code_point (i + k)) count
+
+  broken-part : IsBroken (drop n d) → (keep : Bool) → checked keep i o d e ≡ failed invalid_code_point (i + n)
+  broken-part wrong keep = broken-fails (take n d) [] d utf8 i e o (drop n d, parts, wrong) keep ∙ index
+
+  kept-part : IsUnfinished (drop n d) → checked true i o d e ≡ taken (record { owned = o; bytes = take n d }) e
+  kept-part rest = open-kept (take n d) (drop n d) d utf8 i e o (parts, rest)
+
+  all-part : IsUnfinished (drop n d) → n ≡ length d
+      → checked false i o d e ≡ taken (record { owned = o; bytes = take n d }) e
+  all-part rest all =
+      open-whole (take n d) (drop n d) d utf8 i e o (parts, rest) true
+      (sym (eq-eqb (length (drop n d)) 0 (omega (arith, length-drop n d))))
+
+  cut-part : IsUnfinished (drop n d) → n ≢ length d → checked false i o d e ≡ failed invalid_code_point (i + n)
+  cut-part rest some =
+      open-whole (take n d) (drop n d) d utf8 i e o (parts, rest) false
+      (sym (ne_eqb (length (drop n d)) 0 (omega (arith, length-drop n d))))
+      ∙ index
+
+pub returns-then-wrong-clause-value : goal.returns-then-wrong-clause-value
+returns-then-wrong-clause-value c = λ i e o.
+    let v = c.valid_utf8_end-count in
+    broken-part c.args.content.now v.result.0 v.ensures.within v.ensures.prefix i e o (v.ensures.wrong c.if-wrong.true)
+    c.args.keep
+
+pub returns-then-keep-clause-value : goal.returns-then-keep-clause-value
+returns-then-keep-clause-value c = λ i e o.
+    let v = c.valid_utf8_end-count in
+    rw c.if-keep.true (kept-part c.args.content.now v.result.0 v.ensures.within v.ensures.prefix i e o
+    (v.ensures.open c.if-wrong.false))
+
+pub returns-then-count-content-clause-value : goal.returns-then-count-content-clause-value
+returns-then-count-content-clause-value c = λ i e o.
+    let v = c.valid_utf8_end-count in
+    rw c.if-keep.false (all-part c.args.content.now v.result.0 v.ensures.within v.ensures.prefix i e o
+    (v.ensures.open c.if-wrong.false) c.if-count-content.true)
+
+pub returns-else-count-content-clause-value : goal.returns-else-count-content-clause-value
+returns-else-count-content-clause-value c = λ i e o.
+    let v = c.valid_utf8_end-count in
+    rw c.if-keep.false (cut-part c.args.content.now v.result.0 v.ensures.within v.ensures.prefix i e o
+    (v.ensures.open c.if-wrong.false) c.if-count-content.false)

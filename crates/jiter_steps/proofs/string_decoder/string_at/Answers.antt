@@ -1,37 +1,67 @@
-use Rattle.std.proofs.Common.{false}
+use Rattle.std.proofs.Common.{◌≡◌, ◌≢◌, ◌+◌, ◌∙◌, ℕ, arith, inl, inr, length, subst, sym, true}
+use Rattle.std.proofs.lemmas.Bool.{false≢true}
+use Rattle.std.proofs.lemmas.Option.{slice_get_within}
+use Rattle.jiter_scan.specs.Scan.{IsLook}
+use Rattle.jiter_scan.specs.declared.short_scan.Look.{Look}
+use Rattle.jiter_scan.specs.declared.short_scan.Look.TheVariants as look
 use Rattle.jiter_steps.specs.StringReading.{text_form}
-use Rattle.jiter_steps.proofs.Calls.StringAnswers.{string-fault, string-advances, string-none, string-quote}
-use Rattle.jiter_steps.proofs.Calls.StringAnswers.{string-control}
+use Rattle.jiter_steps.proofs.Calls.FastAnswers.{plain-utf8}
+use Rattle.jiter_steps.proofs.Calls.Looks.{look-checked, look-ended, look-plain, look-unkept}
+use Rattle.jiter_steps.proofs.Calls.StringAnswers.{string-advances}
 use Rattle.jiter_steps.proofs.string_decoder.string_at.Goals as goal
 
-pub returns-in-Some-eq34-clause-value : goal.returns-in-Some-eq34-clause-value
-returns-in-Some-eq34-clause-value c =
-    let s = c.scan_string-to in
-    let here = string-quote c.args.bytes.now c.args.at c.requires s.result.0 s.ensures.stop c.args.keep (cc) in
-    string-fault _ c.borrow_text.result c.map_err.result c.map_err.ensures.cases (rw here c.borrow_text.ensures)
+pub utf8_text-requires : goal.utf8_text-requires
+utf8_text-requires c =
+    let found = c.look_at in
+    let means = subst (IsLook c.args.bytes.now (c.args.at + 1) found.result.0) c.in_default-Plain.is-1 found.ensures.means in
+    plain-utf8 _ means.1
 
-pub returns-in-Some-eq92-clause-advances : goal.returns-in-Some-eq92-clause-advances
-returns-in-Some-eq92-clause-advances c =
+pub returns-in_default-Plain-clause-value : goal.returns-in_default-Plain-clause-value
+returns-in_default-Plain-clause-value c =
+    let t = c.args.bytes.now in
+    let at = c.args.at in
+    let found = c.look_at in
+    let means = subst (IsLook t (at + 1) found.result.0) c.in_default-Plain.is-1 found.ensures.means in
+    rw c.utf8_text.ensures (look-plain t at found.result.0 c.requires found.ensures.stop means c.args.keep)
+
+pub returns-in_default-Plain-clause-advances : goal.returns-in_default-Plain-clause-advances
+returns-in_default-Plain-clause-advances c =
+    let t = c.args.bytes.now in
+    let found = c.look_at in
+    let means = subst (IsLook t (c.args.at + 1) found.result.0) c.in_default-Plain.is-1 found.ensures.means in
+    (omega (arith, found.ensures.within.0), omega (arith, slice_get_within t found.result.0 34 means.0))
+
+pub returns-in_default-Utf8-clause-value : goal.returns-in_default-Utf8-clause-value
+returns-in_default-Utf8-clause-value c =
+    let t = c.args.bytes.now in
+    let at = c.args.at in
+    let found = c.look_at in
+    let means = subst (IsLook t (at + 1) found.result.0) c.in_default-Utf8.is-1 found.ensures.means in
+    rw (look-checked t at found.result.0 c.requires found.ensures.stop means c.args.keep) c.borrow_text.ensures.value
+
+pub returns-in_default-Utf8-clause-advances : goal.returns-in_default-Utf8-clause-advances
+returns-in_default-Utf8-clause-advances c =
+    string-advances c.args.bytes.now c.args.at c.requires (text_form c.args.keep) c.borrow_text.result
+    (returns-in_default-Utf8-clause-value c)
+
+pub returns-in_default-Escaped-clause-advances : goal.returns-in_default-Escaped-clause-advances
+returns-in_default-Escaped-clause-advances c =
     string-advances c.args.bytes.now c.args.at c.requires (text_form c.args.keep) c.decode_text.result
     c.decode_text.ensures
 
-pub returns-in-Some-clause-value : goal.returns-in-Some-clause-value
-returns-in-Some-clause-value c =
-    let s = c.scan_string-to in
-    let b = c.in-Some in
-    rw c.fault_at.ensures (string-control c.args.bytes.now c.args.at c.requires s.result.0 s.ensures.stop
-    (text_form c.args.keep) b.field-0 (cc) b.field-0-test.0.1 b.field-0-test.1)
+pub returns-then-to-bytes-clause-value : goal.returns-then-to-bytes-clause-value
+returns-then-to-bytes-clause-value c =
+    let found = c.look_at in
+    let kept = look-ended c.args.bytes.now c.args.at found.result.0 c.requires found.ensures.stop c.if-to-bytes.true in
+    rw (c.if-keep.true, kept) (rw c.if-keep.true at c.borrow_text-then-to-bytes.ensures.value)
 
-pub returns-in-None-clause-value : goal.returns-in-None-clause-value
-returns-in-None-clause-value c =
-    let s = c.scan_string-to in
-    let here = string-none c.args.bytes.now c.args.at c.requires s.result.0 s.ensures.stop (text_form c.args.keep)
-    (cc) in
-    string-fault _ c.borrow_text-in-None.result c.map_err-in-None.result c.map_err-in-None.ensures.cases
-    (rw (here, c.if-keep.true) (rw c.if-keep.true at c.borrow_text-in-None.ensures))
-
-pub returns-in-None-2-clause-value : goal.returns-in-None-2-clause-value
-returns-in-None-2-clause-value c =
-    let s = c.scan_string-to in
-    rw (c.cut_short.ensures, c.if-keep.false) (string-none c.args.bytes.now c.args.at c.requires s.result.0
-    s.ensures.stop (text_form false) (cc))
+pub returns-else-keep-clause-value : goal.returns-else-keep-clause-value
+returns-else-keep-clause-value c =
+    let t = c.args.bytes.now in
+    let at = c.args.at in
+    let found = c.look_at in
+    let fault = c.in_default-Fault in
+    let means = subst (IsLook t (at + 1) found.result.0) fault.is-1 found.ensures.means in
+    let more : c.args.keep ≡ true → found.result.0 ≢ length t =
+    λ kept. elim c.else-keep.either [ inl unended ↦ unended.1 | inr whole ↦ absurd (false≢true (sym whole ∙ kept)) ] in
+    rw c.fault_at.ensures (look-unkept t at found.result.0 c.requires found.ensures.stop c.args.keep fault.kind means more)

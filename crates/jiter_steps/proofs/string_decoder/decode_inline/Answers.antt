@@ -1,11 +1,11 @@
-use Rattle.std.proofs.Common.{◌+◌, ◌∙◌, true, refl, ap, subst, take, rules}
+use Rattle.std.proofs.Common.{◌+◌, ◌∙◌, true, ap, subst, take, rules}
 use Rattle.std.specs.Str.{IsUtf8}
 use Rattle.std.proofs.lemmas.Result.{err_from_is_err_and}
 use Rattle.jiter_scan.specs.Scanned.{taken}
 use Rattle.jiter_steps.specs.StringReading.{body_at, text_form}
 use Rattle.jiter_steps.proofs.Calls.Decoded.{prefix-prefix}
 use Rattle.jiter_steps.proofs.Calls.StringAnswers.{string-escaped}
-use Rattle.jiter_steps.proofs.string_decoder.decode_here.Goals as goal
+use Rattle.jiter_steps.proofs.string_decoder.decode_inline.Goals as goal
 
 pub returns-in_err-end : goal.returns-in_err-end
 returns-in_err-end c =
@@ -14,7 +14,7 @@ returns-in_err-end c =
     let d = c.in_ok-count.ensures in
     let p = err_from_is_err_and c.from_residual-in_err-end.result c.from_residual-in_err-end.ensures.1 in
     record {
-      value = rw (string-escaped t c.args.at r.within _ refl (text_form c.args.keep) r.backslash, p.1, p.2)
+      value = rw (string-escaped t c.args.at r.within c.args.stop r.stop (text_form c.args.keep) r.escaped.0, p.1, p.2)
           (rw (← d.stop) (c.in_err-end.ensures (c.args.at + 1) (body_at t (c.args.at + 1)).bytes true));
       text = rw p.1 tt;
       prefix = rw p.1 tt;
@@ -32,7 +32,7 @@ returns-in-Ok c =
     let over = c.in_ok-end.ensures i (body_at t i).bytes true in
     let same = prefix-prefix _ count c.in-Ok.fit c.in-Ok.ensures.prefix ∙ ap (take c.in-Ok.fit) items in
     record {
-      value = rw (string-escaped t c.args.at r.within _ refl (text_form c.args.keep) r.backslash, ← d.stop, over, ← text)
+      value = rw (string-escaped t c.args.at r.within c.args.stop r.stop (text_form c.args.keep) r.escaped.0, ← d.stop, over, ← text)
           (c.in-Ok.ensures.value i c.in_ok-end.end true
           ∙ ap (λ w. taken (record { owned = true; bytes = w }) c.in_ok-end.end) same);
       text = subst IsUtf8 same c.in-Ok.ensures.text;
@@ -49,7 +49,7 @@ returns-in-Err c =
     let over = c.in_ok-end.ensures i (body_at t i).bytes true in
     record {
       value = rw (
-        string-escaped t c.args.at r.within _ refl (text_form c.args.keep) r.backslash,
+        string-escaped t c.args.at r.within c.args.stop r.stop (text_form c.args.keep) r.escaped.0,
         ← d.stop,
         over,
         ← text,

@@ -1,0 +1,13 @@
+use Rattle.std.proofs.Common.{◌∙◌, ap, sym}
+use Rattle.jiter_scan.specs.NumberReading.{int_seen}
+use Rattle.jiter_scan.specs.Scanned.{taken}
+use Rattle.jiter_scan.proofs.NumberStarts.{int_at-alone}
+use Rattle.jiter_scan.proofs.number_decoder.int_at.Goals as goal
+
+pub returns-in-Int-clause-value : goal.returns-in-Int-clause-value
+returns-in-Int-clause-value c =
+    let end = c.in-Int.end in
+    let found = c.in-Int.ensures in
+    int_at-alone c.args.bytes.now c.args.at c.minus_end-digits.result end c.requires c.minus_end-digits.ensures.end
+    found.int_part found.decimal
+    ∙ ap (λ n. taken (int_seen n) end) (sym c.integer_of-number.ensures)

@@ -1,0 +1,12 @@
+use Rattle.std.proofs.Common.{◌∙◌}
+use Rattle.std.specs.Prelude.{string_bytes}
+use Rattle.std.proofs.lemmas.Str.{IsUtf8-string_bytes}
+use Rattle.jiter_steps.proofs.OpenStrings.{text-within}
+use Rattle.jiter_steps.proofs.partial_string.closed_within.Goals as goal
+
+pub returns : goal.returns
+returns c =
+    let own = c.in_ok-copy_text.field-0 in
+    let r = c.requires in
+    text-within c.args.piece.now c.args.at c.args.to r.stop r.first r.last (string_bytes own)
+    (c.in_ok-copy_text.ensures ∙ r.text) (IsUtf8-string_bytes own)

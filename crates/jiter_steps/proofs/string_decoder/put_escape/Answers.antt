@@ -1,0 +1,17 @@
+use Rattle.std.proofs.Common.{◌+◌, ◌++◌, ◌∙◌, ap, arith, take}
+use Rattle.std.specs.Char.{encode_utf8}
+use Rattle.std.proofs.lemmas.Grind.{take-set_at}
+use Rattle.jiter_steps.proofs.Calls.DecodeSteps.{encode-sign}
+use Rattle.jiter_steps.proofs.string_decoder.put_escape.Goals as goal
+
+pub returns-then-sign-ne0-clause-put : goal.returns-then-sign-ne0-clause-put
+returns-then-sign-ne0-clause-put c =
+    let items = c.args.tape.now.items in
+    let end = c.args.end in
+    let sign = c.simple_escape_at-sign in
+    record {
+      bytes = encode_utf8 sign.result;
+      is = sign.ensures.value c.if-sign-ne0.true;
+      put = take-set_at items end (end + 1) sign.result (omega arith) (omega arith)
+          ∙ ap (λ w. take end items ++ w) (encode-sign sign.result sign.ensures.ascii);
+    }
