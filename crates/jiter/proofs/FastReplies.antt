@@ -1,6 +1,6 @@
 -- What the fast path returns, in the words of the replies.
 use Rattle.std.proofs.Common.{◌≡◌, ◌∙◌, ◌∷◌, ℕ, ◌+◌, ◌<◌, ◌≤◌, Bool, true, List, length, refl, ap, sym, subst, arith, Ok, Err, Bor}
-use Rattle.std.specs.Prelude.{slice_get, slice_index, slice_range, Some}
+use Rattle.std.specs.Prelude.{slice_get, slice_index, slice_range, Option, Some, Result, IfOk}
 use Rattle.std.proofs.lemmas.Bool.Decides.{nat_tests}
 use Rattle.std.proofs.lemmas.Option.{get_or_from_slice_get, slice_get-get_or, slice_get_within}
 use Rattle.jiter_scan.proofs.NumberBytes.{number-begins}
@@ -10,21 +10,20 @@ use Rattle.jiter_scan.proofs.Scanning.{ScalarWithin}
 use Rattle.jiter_scan.specs.Kind.{fault_kind}
 use Rattle.jiter_scan.specs.Number.{IsNumberText}
 use Rattle.jiter_scan.specs.NumberReading.{begins_number, number_extent, number_at, with_value}
-use Rattle.jiter_scan.specs.Scanned.{Scanned, Scans, taken}
+use Rattle.jiter_scan.specs.Scanned.{Scanned, Scans, taken, failed}
 use Rattle.jiter_steps.specs.Answer.{seen_as}
 use Rattle.jiter_steps.specs.Literal.{start_of}
 use Rattle.jiter_steps.specs.declared.parse.Start.TheVariants as start
 use Rattle.jiter_steps.specs.declared.read_error.ReadError.{ReadError}
 use Rattle.jiter_steps.specs.declared.read_error.ReadError.TheVariants as error
-use Rattle.jiter_steps.specs.Blank.{past_blanks}
 use Rattle.jiter_steps.specs.ReadError.{UnlessRefused}
-use Rattle.jiter_steps.specs.Step.{Step, colon, more}
+use Rattle.jiter_steps.specs.Step.{colon, more, step}
 use Rattle.jiter_steps.specs.StringDecoder.{WantsMemory}
-use Rattle.jiter_steps.specs.StringReading.{string_at, text_form, whole}
+use Rattle.jiter_steps.specs.StringReading.{Form, string_at, text_form}
 use Rattle.jiter_steps.specs.Tree.{Text}
 use Rattle.jiter_steps.proofs.Grammar.Blanks.{past_blanks-after}
 use Rattle.jiter_steps.proofs.Grammar.StringLaws.{string_at-within}
-use Rattle.jiter.specs.Jiter.{BeginsAt, IsErrorAt, MovesOn, key_bytes, reply_seen, text_bytes}
+use Rattle.jiter.specs.Jiter.{BeginsAt, IsErrorAt, MovesOn, reply_seen, text_bytes}
 use Rattle.jiter.specs.Reader.{ReaderState, Refusal, gave, refused, scalar_reply, colon_reply, key_reply, with_position}
 use Rattle.jiter.specs.Reader.{value_place, next, if_byte, member_reply, number_bytes_read, str_read}
 use Rattle.jiter.specs.Reads.{Reads, never, string_memory}
@@ -37,22 +36,88 @@ pub number-bytes : (names : Bool) (t : List ℕ) (i e : ℕ) → number_extent n
 unfolding number_at
 number-bytes names t i e h = ap (λ x. scalar_reply i (seen_as (λ n e. slice_range t i e) (with_value t i x))) h
 
--- a key and the colon that stands at j, after the blanks that follow it
-pub key-colon : (t : List ℕ) (i e j : ℕ) (key : Text) → string_at whole t i ≡ taken key e → j ≡ past_blanks t e
-    → slice_get t j ≡ Some 58 → key_reply t i (string_at whole t i) ≡ gave (Some key) (j + 1)
-key-colon t i e j key read place byte =
-    let here : slice_get t (past_blanks t e) ≡ Some 58 = ap (slice_get t) (sym place) ∙ byte in
-    ap (key_reply t i) read ∙ ap (λ o. colon_reply key (colon (past_blanks t e) o)) here
-    ∙ ap (λ k. gave (Some key) (k + 1)) (sym place)
+-- the key that was read at i
+scalar-taken : {A : Type 0} (i : ℕ) (x : Scanned A) (a : A) (e : ℕ) → scalar_reply i x ≡ gave a e → x ≡ taken a e
+scalar-taken i (taken b d) a e h = cc
+scalar-taken i (failed k j) a e h = absurd (cc)
 
--- of the step that leads to the key
-pub key-read : (t : List ℕ) (s : ReaderState) (i e j : ℕ) (key : Text) (led : Step) → t ≡ s.text → led ≡ more i
-    → string_at whole t i ≡ taken key e → j ≡ past_blanks t e → slice_get t j ≡ Some 58
-    → reply_seen key_bytes (member_reply whole s.text led) ≡ gave (Some key.bytes) (j + 1)
-key-read t s i e j key led is to read place byte =
-    ap (λ x. reply_seen key_bytes (member_reply whole s.text x)) to
-    ∙ ap (λ u. reply_seen key_bytes (key_reply u i (string_at whole u i))) (sym is)
-    ∙ ap (reply_seen key_bytes) (key-colon t i e j key read place byte)
+-- Of a key at i and its colon, from the key's end on.
+pub colon-read : {Y : Type 0} {view : Y → Option Text} {s0 s1 s2 : ReaderState} (x : Result Y JiterError) (f : Form)
+    (i : ℕ) (key : Text) (y : Y) → MovesOn s0 s1 → string_at f s0.text i ≡ taken key s1.position → view y ≡ Some key
+    → IfOk x (λ k. k ≡ y) → Reads never (λ (k : Y). Some key) (colon_reply key (step s1.text colon s1.position)) x s1 s2
+    → Reads never view (member_reply f s0.text (more i)) x s0 s2
+colon-read {Y = Y} {view = view} {s0 = s0} {s1 = s1} {s2 = s2} x f i key y m read seen is h = by x is h where
+  text : s1.text ≡ s0.text
+  text = ap (λ (v : ReaderState). v.text) m.same
+
+  reply : member_reply f s0.text (more i) ≡ colon_reply key (step s1.text colon s1.position)
+  reply = ap (key_reply s0.text i) read ∙ ap (λ t. colon_reply key (step t colon s1.position)) (sym text)
+
+  moves : MovesOn s1 s2 → MovesOn s0 s2
+  moves n = record {
+    same = n.same ∙ ap (λ (v : ReaderState). with_position v s2.position) m.same;
+    forward = omega (arith, m.forward, n.forward);
+    within = omega (arith, n.within, ap length text);
+  }
+
+  by : (x : Result Y JiterError) → IfOk x (λ k. k ≡ y)
+      → Reads never (λ (k : Y). Some key) (colon_reply key (step s1.text colon s1.position)) x s1 s2
+      → Reads never view (member_reply f s0.text (more i)) x s0 s2
+  by (Ok k) is h = record {
+    moves = moves h.moves;
+    value = reply ∙ h.value ∙ ap (λ o. gave o s2.position) (sym (ap view is ∙ seen));
+    index = tt;
+    memory = tt;
+  }
+  by (Err e) is h = record {
+    moves = moves h.moves;
+    value = reply ∙ h.value;
+    index = omega (arith, h.index, ap length text);
+    memory = h.memory;
+  }
+
+-- where the key was read by a call that went there first
+pub key-read : {Y : Type 0} {view : Y → Option Text} {s1 s2 : ReaderState} (u s0 : ReaderState) (x : Result Y JiterError)
+    (f : Form) (i : ℕ) (key : Text) (y : Y) (from : ℕ) → u ≡ s0 → s0.position ≤ i → MovesOn (with_position u i) s1
+    → scalar_reply i (string_at f u.text i) ≡ gave key s1.position → from ≡ s1.position → view y ≡ Some key
+    → IfOk x (λ k. k ≡ y) → Reads never (λ (k : Y). Some key) (colon_reply key (step s1.text colon from)) x s1 s2
+    → Reads never view (member_reply f s0.text (more i)) x s0 s2
+key-read {Y = Y} {view = view} {s1 = s1} {s2 = s2} u s0 x f i key y from is ahead m read place seen ok h =
+    subst P is by-u ahead where
+      P : ReaderState → Type 0
+      P s = s.position ≤ i → Reads never view (member_reply f s.text (more i)) x s s2
+
+      by-u : P u
+      by-u ahead = colon-read x f i key y
+          (record { same = m.same; forward = omega (arith, ahead, m.forward); within = m.within })
+          (scalar-taken i _ _ _ read) seen ok
+          (subst (λ j. Reads never (λ (k : Y). Some key) (colon_reply key (step s1.text colon j)) x s1 s2) place h)
+
+-- a plain key, and its colon
+pub plain-key : {Y : Type 0} {view : Y → Option Text} {s2 : ReaderState} (u s0 : ReaderState) (x : Result Y JiterError)
+    (f : Form) (i e : ℕ) (key : Text) (y : Y) → u ≡ s0 → string_at f u.text i ≡ taken key e → view y ≡ Some key → IfOk x (λ k. k ≡ y)
+    → Reads never (λ (k : Y). Some key) (colon_reply key (step s0.text colon e)) x s0 s2
+    → Reads never view (member_reply f s0.text (more i)) x s0 s2
+plain-key {Y = Y} {view = view} {s2 = s2} u s0 x f i e key y is read seen ok = subst P is by-u where
+  P : ReaderState → Type 0
+  P s = Reads never (λ (k : Y). Some key) (colon_reply key (step s.text colon e)) x s s2
+      → Reads never view (member_reply f s.text (more i)) x s s2
+
+  by-u : P u
+  by-u h = by x ok h where
+    reply : member_reply f u.text (more i) ≡ colon_reply key (step u.text colon e)
+    reply = ap (key_reply u.text i) read
+
+    by : (x : Result Y JiterError) → IfOk x (λ k. k ≡ y)
+        → Reads never (λ (k : Y). Some key) (colon_reply key (step u.text colon e)) x u s2
+        → Reads never view (member_reply f u.text (more i)) x u s2
+    by (Ok k) is h = record {
+      moves = h.moves;
+      value = reply ∙ h.value ∙ ap (λ o. gave o s2.position) (sym (ap view is ∙ seen));
+      index = tt;
+      memory = tt;
+    }
+    by (Err d) is h = record { moves = h.moves; value = reply ∙ h.value; index = h.index; memory = h.memory }
 
 slice-first : (t : List ℕ) (b e : ℕ) → b < e → e ≤ length t
     → slice_range t b e ≡ slice_index t b ∷ slice_range t (b + 1) e

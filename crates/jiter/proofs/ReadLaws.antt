@@ -1,15 +1,17 @@
 -- What a read promises, from its parts.
-use Rattle.std.proofs.Common.{◌≡◌, ◌∙◌, Ok, Err, Result, refl, ap}
-use Rattle.std.specs.Borrow.{Bor}
+use Rattle.std.proofs.Common.{◌≡◌, ◌∙◌, ◌≤◌, Ok, Err, Result, refl, sym, ap, subst, slice_get, length}
 use Rattle.std.specs.Prelude.{Option, Some, None, option_map, ℕ}
 use Rattle.std.specs.declared.alloc.Global.{Global}
 use Rattle.std.specs.declared.borrow.CowStr.{CowStr}
 use Rattle.jiter_steps.specs.Tree.{Text}
-use Rattle.jiter.specs.Cause.{Cause}
-use Rattle.jiter.specs.Jiter.{MovesOn, Replies, RefusesBytes, UnlessMemory, indexed_key_bytes}
+use Rattle.jiter_steps.specs.Literal.{start_of}
+use Rattle.jiter.specs.Cause.{ValueType}
+use Rattle.jiter.specs.Jiter.{IsRefusalOf, refusal_view}
+use Rattle.jiter.specs.Jiter.{MovesOn, Replies, RefusesBytes, indexed_key_bytes}
 use Rattle.jiter.specs.Jiter.{indexed_key_view, key_bytes, reply_seen}
-use Rattle.jiter.specs.Reader.{ReaderState, Reply, gave, refused}
-use Rattle.jiter.specs.Reads.{Memory, Reads, Unless, anywhere, never, only_at}
+use Rattle.jiter.specs.Reader.{ReaderState, Reply, gave, refused, refused_as, if_byte, next, type_refusal, value_place}
+use Rattle.jiter.specs.Reader.{Refusal, with_position}
+use Rattle.jiter.specs.Reads.{Memory, Reads, Stops, Unless, anywhere, never, only_at}
 use Rattle.jiter.specs.declared.errors.JiterError.{JiterError}
 
 -- of a read that does not allocate
@@ -51,3 +53,43 @@ keys-seen when x {s0 = s0} {s = s} r h =
       by never (Err e) is = ap (reply_seen key_bytes) is
       by (only_at At) (Ok k) is = seen k is
       by (only_at At) (Err e) is = λ m. ap (reply_seen key_bytes) (is m)
+
+-- A read that does not allocate promises no less than one that may run out of memory.
+pub read-never : {X A : Type 0} (when : Memory) {view : X → A} {x : Result X JiterError} {s0 s : ReaderState}
+    {r : Reply A} → Reads never view r x s0 s → Reads when view r x s0 s
+read-never never h = h
+read-never (only_at At) {x = Ok a} h = record { moves = h.moves; value = h.value; index = tt; memory = tt }
+read-never (only_at At) {x = Err e} h =
+    record { moves = h.moves; value = λ m. h.value; index = h.index; memory = λ m. absurd (h.memory m) }
+
+-- What comes next is of another type: the error of the value there.
+pub other-refused : (s : ReaderState) (w : ValueType) (v : ReaderState) (i c : ℕ) (e : JiterError) → v ≡ s
+    → i ≡ value_place s → s.position ≤ i → i ≤ length s.text → slice_get v.text i ≡ Some c
+    → refusal_view e ≡ type_refusal v i w (start_of c) → IsRefusalOf v.text e
+    → Stops (next s (λ i b. refused_as s i w b)) e s (with_position v i)
+other-refused s w v i c e is place = subst P (sym is) here where
+  P : ReaderState → Type 0
+  P v = s.position ≤ i → i ≤ length s.text → slice_get v.text i ≡ Some c → refusal_view e ≡ type_refusal v i w (start_of c)
+      → IsRefusalOf v.text e → Stops (next s (λ i b. refused_as s i w b)) e s (with_position v i)
+
+  here : P s
+  here ahead within byte wrong bytes =
+      let at : slice_get s.text (value_place s) ≡ Some c = ap (slice_get s.text) (sym place) ∙ byte in
+      record {
+        moves = record { same = refl; forward = ahead; within = within };
+        value = ap (λ o. if_byte {A = Unit {0}} (value_place s) o (λ c. refused_as s (value_place s) w (start_of c))) at
+            ∙ ap (λ j. refused_as {A = Unit {0}} s j w (start_of c)) (sym place)
+            ∙ ap (λ (r : Refusal). refused r.cause r.index i) (sym wrong);
+        index = bytes.within;
+        memory = bytes.bytes;
+      }
+
+-- The same error, whatever would have been returned.
+pub error-same : {X Y A : Type 0} {seen : X → A} {view : Y → A} {e : JiterError} {s0 s : ReaderState} {r : Reply A}
+    (when : Memory) → Reads never seen r (Err e) s0 s → Reads when view r (Err e) s0 s
+error-same when h = read-never when (record { moves = h.moves; value = h.value; index = h.index; memory = h.memory })
+
+pub error-seen : {X Y A B : Type 0} {seen : X → A} {view : Y → B} {e : JiterError} {s0 s : ReaderState} {r : Reply A}
+    (when : Memory) (g : A → B) → Reads never seen r (Err e) s0 s → Reads when view (reply_seen g r) (Err e) s0 s
+error-seen when g h = read-never when
+    (record { moves = h.moves; value = ap (reply_seen g) h.value; index = h.index; memory = h.memory })

@@ -6,19 +6,20 @@ ghost use Rattle.jiter_scan.specs.NumberReading.{number_at};
 ghost use Rattle.jiter.specs.Cause.{json_error, wrong_type};
 ghost use Rattle.jiter.specs.Errors.{cause_of, type_of};
 ghost use Rattle.jiter.specs.Reader.{value_place, peek, next, gave, finish, number_refusal, type_refusal};
-ghost use Rattle.jiter.specs.Reader.{with_position};
+ghost use Rattle.jiter.specs.Reader.{refused, refused_as, with_position};
 ghost use Rattle.jiter.specs.Jiter.{at_start, MovesOn, IsMemory, IsRefusalOf, refusal_view, IsErrorAt};
 ghost use Rattle.jiter.specs.Jiter.{StandsAt, BeginsAs, byte_of};
-ghost use Rattle.jiter.specs.Reads.{Reads, never};
+ghost use Rattle.jiter.specs.Reads.{Reads, Stops, never};
 
 use crate::errors::{JiterError, JiterErrorType, JiterResult, JsonType};
 use crate::peek::Peek;
 use jiter_scan::errors::{Fault, FaultKind, fault_at};
 use jiter_scan::number_decoder::number_at;
+use jiter_scan::word::byte_at;
 use jiter_scan::{JsonError, JsonErrorType, NumberAny};
-use jiter_steps::fast::peek;
 use jiter_steps::parse::{Literal, Parser, Start, start_of};
 use jiter_steps::read_error::ReadError;
+use jiter_steps::step::peek;
 use jiter_value::reading::error_at;
 use std::alloc::{AllocError, Global};
 use std::borrow::CowStr;
@@ -341,5 +342,53 @@ impl<'j> Jiter<'j> {
             Ok((NumberAny::Float(_), _)) => wrong_type(wanted, JsonType::Float, index),
             Err(fault) => refusal(fault),
         }
+    }
+
+    // Moves to an error of the bytes and returns it.
+    #[cold]
+    #[inline(never)]
+    fn cold_stop(&mut self, kind: FaultKind, index: usize) -> JiterError
+        requires { (self.old.position ≤ index) × (index ≤ length self.old.text) }
+        ensures { Stops (refused (json_error (fault_kind kind)) index index) result self.old self.new }
+    {
+        self.parser.index = index;
+        refusal(fault_at(kind, index))
+    }
+
+    // A function of its own: otherwise the fast path would reserve stack space for the result of this call.
+    #[inline(always)]
+    fn stop(&mut self, kind: FaultKind, index: usize) -> JiterError
+        requires { (self.old.position ≤ index) × (index ≤ length self.old.text) }
+        ensures { Stops (refused (json_error (fault_kind kind)) index index) result self.old self.new }
+    {
+        self.cold_stop(kind, index)
+    }
+
+    // Moves to the next value, which is not of the wanted type, or to the end. The byte there is read again: a caller
+    // that passed it on would hold it in a register on the fast path.
+    #[cold]
+    #[inline(never)]
+    fn cold_stop_at(&mut self, wanted: JsonType, at: usize) -> JiterError
+        requires place { at ≡ value_place self.old }
+        requires within { (self.old.position ≤ at) × (at ≤ length self.old.text) }
+        ensures { Stops (next self.old (λ i b. refused_as self.old i (type_of wanted) b)) result
+            self.old self.new }
+    {
+        self.parser.index = at;
+        match byte_at(self.parser.bytes, at) {
+            Some(byte) => self.refused_as(wanted, start_of(byte)),
+            None => refusal(fault_at(FaultKind::EofWhileParsingValue, at)),
+        }
+    }
+
+    // The same reason as for `stop`.
+    #[inline(always)]
+    fn stop_at(&mut self, wanted: JsonType, at: usize) -> JiterError
+        requires place { at ≡ value_place self.old }
+        requires within { (self.old.position ≤ at) × (at ≤ length self.old.text) }
+        ensures { Stops (next self.old (λ i b. refused_as self.old i (type_of wanted) b)) result
+            self.old self.new }
+    {
+        self.cold_stop_at(wanted, at)
     }
 }

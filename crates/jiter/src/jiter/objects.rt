@@ -1,230 +1,165 @@
 //! The pull reader's steps through objects.
 ghost use Rattle.std.specs.Borrow.{sem};
-ghost use Rattle.std.specs.Prelude.{◌≡◌, ◌<◌, ◌≤◌, ◌+◌, IfErr, IfOk, IfSome, None, OnOk, Some, length, option_map, true};
+ghost use Rattle.std.specs.Prelude.{◌≡◌, ◌<◌, ◌≤◌, ◌+◌, IfErr, IfOk, OnOk, Some, length, option_map, slice_get};
+ghost use Rattle.std.specs.Prelude.{Option};
 ghost use Rattle.jiter_scan.specs.Ascii as ascii;
-ghost use Rattle.jiter_steps.specs.Parse.{Steps};
-ghost use Rattle.jiter_steps.specs.Fast.{IsNext};
+ghost use Rattle.jiter_steps.specs.Found.{step_of};
 ghost use Rattle.jiter_steps.specs.RawString.{raw_view};
-ghost use Rattle.jiter_steps.specs.Step.{Step, more, step, colon, object_first, object_step};
+ghost use Rattle.jiter_steps.specs.Step.{more, step, colon, object_first, object_step};
 ghost use Rattle.jiter_steps.specs.StringDecoder.{text_view};
-ghost use Rattle.jiter_steps.specs.StringReading.{whole, raw};
+ghost use Rattle.jiter_steps.specs.StringReading.{Form, whole, raw};
 ghost use Rattle.jiter_steps.specs.Tree.{Text};
-ghost use Rattle.jiter.specs.Reader.{value_place, next, known, gave, colon_reply, member_reply, object_read};
+ghost use Rattle.jiter.specs.Reader.{value_place, next, known, colon_reply, member_reply, object_read};
 ghost use Rattle.jiter.specs.Reader.{key_step, position_after};
-ghost use Rattle.jiter.specs.Jiter.{MovesOn, Replies, RefusesBytes, reply_seen, key_bytes, BeginsAs, StandsAt};
-ghost use Rattle.jiter.specs.Jiter.{StandsBefore, EndsWithColon, KeyIsAt, indexed_key_bytes, indexed_key_view};
+ghost use Rattle.jiter.specs.Jiter.{reply_seen, key_bytes, StandsAt};
+ghost use Rattle.jiter.specs.Jiter.{StandsBefore, EndsWithColon, KeyIsAt, indexed_key_bytes};
 ghost use Rattle.jiter.specs.Reads.{Lends, Reads, never, key_memory, first_key_memory, next_key_memory};
 ghost use Rattle.jiter.specs.Lending.{LeavesReader};
 
 use crate::errors::{JiterResult, JsonType};
+use crate::jiter::Jiter;
 use crate::jiter::texts::fast_text;
-use crate::jiter::{Jiter, refusal};
-use jiter_scan::errors::Fault;
-use jiter_steps::fast::{Next, fast_first, known_fast_step, peek_for};
-use jiter_steps::parse::{ContainerKind, Start};
+use jiter_steps::parse::ContainerKind;
+use jiter_steps::step::{Step, colon, first, known_next, peek_for};
 use std::alloc::Global;
 use std::borrow::CowStr;
 
-#[inline(always)]
-fn borrowed_key<'j>(key: Option<&'j str>, at: usize) -> Option<(CowStr<'j>, usize)>
-    ensures text { option_map indexed_key_bytes result ≡ option_map (λ x. x.now) key.entry }
-    ensures index { IfSome result (λ k. k.1 ≡ at) }
-{
-    match key {
-        Some(text) => Some((CowStr::Borrowed(text), at)),
-        None => None,
-    }
-}
-
-#[inline(always)]
-fn indexed_key<'j>(key: Option<CowStr<'j>>, at: usize) -> Option<(CowStr<'j>, usize)>
-    ensures text { option_map indexed_key_view result ≡ option_map text_view key.entry }
-    ensures index { IfSome result (λ k. k.1 ≡ at) }
-    ensures given { IfSome result (λ k. key.entry ≡ Some k.0) }
-{
-    match key {
-        Some(text) => Some((text, at)),
-        None => None,
-    }
-}
-
 impl<'j> Jiter<'j> {
-    fn colon(&mut self) -> JiterResult<()>
-        ensures moves { MovesOn self.old self.new }
-        ensures value { (key : Text) → Replies (λ _. Some key) result self.new
-            (colon_reply key (step self.old.text colon self.old.position)) }
-        ensures colon { OnOk result (StandsBefore self.old.text self.new.position ascii.colon) }
-        ensures refusal { RefusesBytes self.old.text result }
-    {
-        self.parser.colon().map_err(refusal)
-    }
-
-    fn key_there(
-        &mut self,
-        alloc: Global,
-        led: Result<bool, Fault>,
-    ) -> JiterResult<Option<CowStr<'j>>>
-        requires within { self.old.position ≤ length self.old.text }
-        requires inside { IfOk led (λ more. more ≡ true → self.old.position < length self.old.text) }
-        requires stuck { IfErr led (λ f. f.index ≡ self.old.position) }
-        ensures reads { (s : Step) → Steps led self.old.position s → Reads (key_memory self.old.text s)
-            (option_map text_view) (member_reply whole self.old.text s) result self.old self.new }
-        ensures colon { EndsWithColon result self.old.text self.new.position }
-    {
-        match led {
-            Ok(true) => {
-                let text = self.string(alloc, false)?;
-                self.colon()?;
-                Ok(Some(text))
-            }
-            Ok(false) => Ok(None),
-            Err(fault) => Err(refusal(fault)),
-        }
-    }
-
-    // Reads the key at `at` and its colon, or goes past the end of the object (`Some(None)`). If the key has an escape or
-    // an error, or no colon follows, returns `None` and stays.
+    // Finds the first member of the object that comes next, or its end. Stays where it is.
     #[inline(always)]
-    fn fast_key(&mut self, at: usize, next: Next) -> Option<Option<&'j str>>
-        requires within { (self.old.position ≤ at) × (at ≤ length self.old.text) }
-        requires part { next ≡ Next.Part → at < length self.old.text }
-        ensures moves { MovesOn self.old self.new }
-        ensures value { (s : Step) → IsNext at next s → IfSome result
-            (λ key. reply_seen key_bytes (member_reply whole self.old.text s)
-            ≡ gave (option_map (λ x. x.now) key) self.new.position) }
-        ensures colon { IfSome result
-            (λ key. IfSome key (λ _. StandsBefore self.old.text self.new.position ascii.colon)) }
-        ensures index { (s : Step) → IsNext at next s → IfSome result (λ key. IfSome key (λ _. s ≡ more at)) }
-        ensures same { result ≡ None → self.new ≡ self.old }
-    {
-        match next {
-            Next::Part => {
-                let Ok(key) = fast_text(self.parser.bytes, at) else {
-                    return None;
-                };
-                match peek_for(self.parser.bytes, at + key.len() + 2, b':') {
-                    (colon, Some(b':')) => {
-                        self.parser.index = colon + 1;
-                        Some(Some(key))
-                    }
-                    _ => None,
-                }
-            }
-            Next::End => {
-                self.parser.index = at;
-                Some(None)
-            }
-            Next::Stuck => None,
-        }
-    }
-
-    #[inline(always)]
-    fn fast_object(&mut self) -> Option<(Option<&'j str>, usize)>
-        ensures moves { MovesOn self.old self.new }
-        ensures value { IfSome result
-            (λ r. reply_seen key_bytes (next self.old (object_read whole self.old))
-            ≡ gave (option_map (λ x. x.now) r.0) self.new.position) }
-        ensures colon { IfSome result
-            (λ r. IfSome r.0 (λ _. StandsBefore self.old.text self.new.position ascii.colon)) }
-        ensures index { IfSome result
-            (λ r. IfSome r.0 (λ _. step self.old.text object_first (value_place self.old + 1) ≡ more r.1)) }
-        ensures same { result ≡ None → self.new ≡ self.old }
+    fn first_member(&mut self) -> JiterResult<(usize, Step)>
+        ensures same { IfOk result (λ _. self.new ≡ self.old) }
+        ensures step { IfOk result
+            (λ found. step self.old.text object_first (value_place self.old + 1) ≡ step_of found.0 found.1) }
+        ensures within { IfOk result (λ found. (self.new.position ≤ found.0) × (found.0 ≤ length self.new.text)) }
+        ensures part { IfOk result (λ found. found.1 ≡ Step.Part → found.0 < length self.new.text) }
+        ensures brace { IfOk result
+            (λ _. slice_get self.old.text (value_place self.old) ≡ Some ascii.left_brace) }
+        ensures refused { IfErr result (λ e. (form : Form) → Reads {X = Option Text} never (λ key. key)
+            (next self.old (object_read form self.old)) (Err e) self.old self.new) }
     {
         match peek_for(self.parser.bytes, self.parser.index, b'{') {
-            (at, Some(b'{')) => {
-                let (at, next) = fast_first(self.parser.bytes, at + 1, ContainerKind::Object);
-                match self.fast_key(at, next) {
-                    Some(key) => Some((key, at)),
-                    None => None,
-                }
-            }
-            _ => None,
+            (at, Some(b'{')) => Ok(first(self.parser.bytes, at + 1, ContainerKind::Object)),
+            (at, _) => Err(self.stop_at(JsonType::Object, at)),
         }
     }
 
+    // Moves past the colon and returns `key`. `from` is after the key.
     #[inline(always)]
-    fn fast_next_key(&mut self) -> Option<(Option<&'j str>, usize)>
-        ensures moves { MovesOn self.old self.new }
-        ensures value { IfSome result
-            (λ r. reply_seen key_bytes (key_step whole self.old)
-            ≡ gave (option_map (λ x. x.now) r.0) self.new.position) }
-        ensures colon { IfSome result
-            (λ r. IfSome r.0 (λ _. StandsBefore self.old.text self.new.position ascii.colon)) }
-        ensures index { IfSome result (λ r. IfSome r.0
-            (λ _. step self.old.text (object_step self.old.text) self.old.position ≡ more r.1)) }
-        ensures same { result ≡ None → self.new ≡ self.old }
+    fn past_colon<K: Drop>(&mut self, from: usize, key: K) -> JiterResult<K>
+        requires { (self.old.position ≤ from) × (from ≤ length self.old.text) }
+        ensures reads { (text : Text) → Reads never (λ _. Some text)
+            (colon_reply text (step self.old.text colon from)) result self.old self.new }
+        ensures key { IfOk result (λ k. k ≡ key) }
+        ensures colon { OnOk result (StandsBefore self.old.text self.new.position ascii.colon) }
     {
-        let (at, next) = known_fast_step(
-            self.parser.bytes,
-            self.parser.index,
-            ContainerKind::Object,
-        );
-        match self.fast_key(at, next) {
-            Some(key) => Some((key, at)),
-            None => None,
-        }
-    }
-
-    fn first_key(&mut self, alloc: Global, start: Start) -> JiterResult<Option<(CowStr<'j>, usize)>>
-        requires { BeginsAs self.old start }
-        ensures reads { Reads (first_key_memory self.old.text self.old.position) (option_map indexed_key_view)
-            (object_read whole self.old self.old.position start) result self.old self.new }
-        ensures colon { EndsWithColon result self.old.text self.new.position }
-        ensures index { KeyIsAt (step self.old.text object_first (self.old.position + 1)) result }
-    {
-        match start {
-            Start::Object => {
-                let first = self.parser.first(ContainerKind::Object);
-                let at = self.parser.index;
-                let key = self.key_there(alloc, first)?;
-                Ok(indexed_key(key, at))
+        match colon(self.parser.bytes, from) {
+            (end, None) => {
+                self.parser.index = end;
+                Ok(key)
             }
-            _ => Err(self.refused_as(JsonType::Object, start)),
+            (at, Some(kind)) => Err(self.stop(kind, at)),
         }
     }
 
-    // Reads what the fast path can't, and finds the error.
+    // Reads the key at `at` and its colon.
     #[inline(never)]
-    fn take_first_key(&mut self, alloc: Global) -> JiterResult<Option<(CowStr<'j>, usize)>>
-        ensures reads { Reads (first_key_memory self.old.text (value_place self.old)) (option_map indexed_key_view)
-            (next self.old (object_read whole self.old)) result self.old self.new }
-        ensures colon { EndsWithColon result self.old.text self.new.position }
-        ensures index { KeyIsAt (step self.old.text object_first (value_place self.old + 1)) result }
+    fn take_key(&mut self, alloc: Global, at: usize) -> JiterResult<CowStr<'j>>
+        requires { (self.old.position ≤ at) × (at < length self.old.text) }
+        ensures reads { Reads (key_memory self.old.text (more at)) (λ key. Some (text_view key))
+            (member_reply whole self.old.text (more at)) result self.old self.new }
+        ensures colon { OnOk result (StandsBefore self.old.text self.new.position ascii.colon) }
     {
-        let start = self.next_start()?;
-        self.first_key(alloc, start)
+        self.parser.index = at;
+        let text = self.string(alloc, false)?;
+        self.past_colon(self.parser.index, text)
     }
 
-    // The same of the next key.
-    #[inline(never)]
-    fn take_key(&mut self, alloc: Global) -> JiterResult<Option<(CowStr<'j>, usize)>>
-        ensures reads { Reads (next_key_memory self.old) (option_map indexed_key_view)
-            (key_step whole self.old) result self.old self.new }
+    // A function of its own: otherwise the fast path would reserve stack space for the result of `take_key`.
+    #[inline(always)]
+    fn slow_key_cow(&mut self, alloc: Global, at: usize) -> JiterResult<Option<(CowStr<'j>, usize)>>
+        requires { (self.old.position ≤ at) × (at < length self.old.text) }
+        ensures reads { Reads (key_memory self.old.text (more at)) (option_map indexed_key_bytes)
+            (reply_seen key_bytes (member_reply whole self.old.text (more at))) result self.old self.new }
         ensures colon { EndsWithColon result self.old.text self.new.position }
-        ensures index { KeyIsAt (step self.old.text (object_step self.old.text) self.old.position) result }
+        ensures index { KeyIsAt (more at) result }
     {
-        let next = self.parser.step(ContainerKind::Object);
-        let at = self.parser.index;
-        let key = self.key_there(alloc, next)?;
-        Ok(indexed_key(key, at))
+        let text = self.take_key(alloc, at)?;
+        Ok(Some((text, at)))
     }
 
-    fn key_bytes_there(&mut self, led: Result<bool, Fault>) -> JiterResult<Option<&'j [u8]>>
-        requires within { self.old.position ≤ length self.old.text }
-        requires inside { IfOk led (λ more. more ≡ true → self.old.position < length self.old.text) }
-        requires stuck { IfErr led (λ f. f.index ≡ self.old.position) }
-        ensures reads { (s : Step) → Steps led self.old.position s → Reads never (option_map raw_view)
-            (member_reply raw self.old.text s) result self.old self.new }
+    // Moves to where a step ended. Reads the key there and its colon.
+    #[inline(always)]
+    fn key_cow(
+        &mut self,
+        alloc: Global,
+        found: (usize, Step),
+    ) -> JiterResult<Option<(CowStr<'j>, usize)>>
+        requires within { (self.old.position ≤ found.0) × (found.0 ≤ length self.old.text) }
+        requires part { found.1 ≡ Step.Part → found.0 < length self.old.text }
+        ensures reads { Reads (key_memory self.old.text (step_of found.0 found.1)) (option_map indexed_key_bytes)
+            (reply_seen key_bytes (member_reply whole self.old.text (step_of found.0 found.1)))
+            result self.old self.new }
+        ensures colon { EndsWithColon result self.old.text self.new.position }
+        ensures index { KeyIsAt (step_of found.0 found.1) result }
+    {
+        match found {
+            (at, Step::Part) => match fast_text(self.parser.bytes, at) {
+                Ok(text) => {
+                    let key = (CowStr::Borrowed(text), at);
+                    self.past_colon(at + text.len() + 2, Some(key))
+                }
+                Err(_) => self.slow_key_cow(alloc, at),
+            },
+            (at, Step::End) => {
+                self.parser.index = at;
+                Ok(None)
+            }
+            (at, Step::Fault(kind)) => Err(self.stop(kind, at)),
+        }
+    }
+
+    // Lends the key from the document, or from the reader if it has an escape.
+    #[inline(always)]
+    fn key(&mut self, alloc: Global, found: (usize, Step)) -> JiterResult<Option<&str>>
+        requires within { (self.old.position ≤ found.0) × (found.0 ≤ length self.old.text) }
+        requires part { found.1 ≡ Step.Part → found.0 < length self.old.text }
+        ensures reads { Lends (key_memory self.old.text (step_of found.0 found.1)) (option_map (λ x. x.now))
+            (reply_seen key_bytes (member_reply whole self.old.text (step_of found.0 found.1))) result self.old }
+        ensures colon { EndsWithColon result self.old.text
+            (position_after (member_reply whole self.old.text (step_of found.0 found.1))) }
+        ensures* after { sem 𝓛 (LeavesReader (key_memory self.old.text (step_of found.0 found.1)) (option_map (λ x. x.now))
+            (reply_seen key_bytes (member_reply whole self.old.text (step_of found.0 found.1))) result self.entry) }
+    {
+        let key = self.key_cow(alloc, found)?;
+        match key {
+            Some((CowStr::Borrowed(text), _)) => Ok(Some(text)),
+            Some((text, _)) => {
+                self.text = text;
+                Ok(Some(self.text.as_str()))
+            }
+            None => Ok(None),
+        }
+    }
+
+    fn key_bytes(&mut self, found: (usize, Step)) -> JiterResult<Option<&'j [u8]>>
+        requires within { (self.old.position ≤ found.0) × (found.0 ≤ length self.old.text) }
+        requires part { found.1 ≡ Step.Part → found.0 < length self.old.text }
+        ensures reads { Reads never (option_map raw_view)
+            (member_reply raw self.old.text (step_of found.0 found.1)) result self.old self.new }
         ensures colon { EndsWithColon result self.old.text self.new.position }
     {
-        match led {
-            Ok(true) => {
+        match found {
+            (at, Step::Part) => {
+                self.parser.index = at;
                 let content = self.raw_string(false)?;
-                self.colon()?;
-                Ok(Some(content))
+                self.past_colon(self.parser.index, Some(content))
             }
-            Ok(false) => Ok(None),
-            Err(fault) => Err(refusal(fault)),
+            (at, Step::End) => {
+                self.parser.index = at;
+                Ok(None)
+            }
+            (at, Step::Fault(kind)) => Err(self.stop(kind, at)),
         }
     }
 
@@ -243,14 +178,8 @@ impl<'j> Jiter<'j> {
             result self.old self.new }
         ensures colon { EndsWithColon result self.old.text self.new.position }
     {
-        let start = self.next_start()?;
-        match start {
-            Start::Object => {
-                let first = self.parser.first(ContainerKind::Object);
-                self.key_bytes_there(first)
-            }
-            _ => Err(self.refused_as(JsonType::Object, start)),
-        }
+        let first = self.first_member()?;
+        self.key_bytes(first)
     }
 
     /// Moves past the comma after a member and returns the bytes of the next key, or `None` at the object's end
@@ -268,27 +197,8 @@ impl<'j> Jiter<'j> {
         ensures reads { Reads never (option_map raw_view) (key_step raw self.old) result self.old self.new }
         ensures colon { EndsWithColon result self.old.text self.new.position }
     {
-        let next = self.parser.step(ContainerKind::Object);
-        self.key_bytes_there(next)
-    }
-
-    #[inline(always)]
-    fn slow_object(&mut self, alloc: Global) -> JiterResult<Option<&str>>
-        ensures reads { Lends (first_key_memory self.old.text (value_place self.old)) (option_map (λ x. x.now))
-            (reply_seen key_bytes (next self.old (object_read whole self.old))) result self.old }
-        ensures colon { EndsWithColon result self.old.text
-            (position_after (next self.old (object_read whole self.old))) }
-        ensures* after { sem 𝓛 (LeavesReader (first_key_memory self.old.text (value_place self.old)) (option_map (λ x. x.now))
-            (reply_seen key_bytes (next self.old (object_read whole self.old))) result self.entry) }
-    {
-        let key = self.take_first_key(alloc)?;
-        match key {
-            Some((text, _)) => {
-                self.text = text;
-                Ok(Some(self.text.as_str()))
-            }
-            None => Ok(None),
-        }
+        let next = known_next(self.parser.bytes, self.parser.index, ContainerKind::Object);
+        self.key_bytes(next)
     }
 
     /// Steps into the next object and returns its first key, decoded, or `None` if it is empty (RFC 8259, 4).
@@ -319,10 +229,8 @@ impl<'j> Jiter<'j> {
         ensures* after { sem 𝓛 (LeavesReader (first_key_memory self.old.text (value_place self.old)) (option_map (λ x. x.now))
             (reply_seen key_bytes (next self.old (object_read whole self.old))) result self.entry) }
     {
-        if let Some((key, _)) = self.fast_object() {
-            return Ok(key);
-        }
-        self.slow_object(alloc)
+        let first = self.first_member()?;
+        self.key(alloc, first)
     }
 
     /// Steps into the object that you peeked, as [`Jiter::next_object`] does.
@@ -345,33 +253,12 @@ impl<'j> Jiter<'j> {
         ensures* after { sem 𝓛 (LeavesReader (first_key_memory self.old.text self.old.position) (option_map (λ x. x.now))
             (reply_seen key_bytes (known self.old (object_read whole self.old))) result self.entry) }
     {
-        let key = self.first_key(alloc, Start::Object)?;
-        match key {
-            Some((text, _)) => {
-                self.text = text;
-                Ok(Some(self.text.as_str()))
-            }
-            None => Ok(None),
-        }
-    }
-
-    #[inline(always)]
-    fn slow_key(&mut self, alloc: Global) -> JiterResult<Option<&str>>
-        ensures reads { Lends (next_key_memory self.old) (option_map (λ x. x.now))
-            (reply_seen key_bytes (key_step whole self.old)) result self.old }
-        ensures colon { EndsWithColon result self.old.text
-            (position_after (key_step whole self.old)) }
-        ensures* after { sem 𝓛 (LeavesReader (next_key_memory self.old) (option_map (λ x. x.now))
-            (reply_seen key_bytes (key_step whole self.old)) result self.entry) }
-    {
-        let key = self.take_key(alloc)?;
-        match key {
-            Some((text, _)) => {
-                self.text = text;
-                Ok(Some(self.text.as_str()))
-            }
-            None => Ok(None),
-        }
+        let found = first(
+            self.parser.bytes,
+            self.parser.index + 1,
+            ContainerKind::Object,
+        );
+        self.key(alloc, found)
     }
 
     /// Moves past the comma after a member and returns the next key, decoded, or `None` at the object's end
@@ -403,20 +290,8 @@ impl<'j> Jiter<'j> {
         ensures* after { sem 𝓛 (LeavesReader (next_key_memory self.old) (option_map (λ x. x.now))
             (reply_seen key_bytes (key_step whole self.old)) result self.entry) }
     {
-        if let Some((key, _)) = self.fast_next_key() {
-            return Ok(key);
-        }
-        self.slow_key(alloc)
-    }
-
-    #[inline(always)]
-    fn slow_object_cow(&mut self, alloc: Global) -> JiterResult<Option<(CowStr<'j>, usize)>>
-        ensures reads { Reads (first_key_memory self.old.text (value_place self.old)) (option_map indexed_key_bytes)
-            (reply_seen key_bytes (next self.old (object_read whole self.old))) result self.old self.new }
-        ensures colon { EndsWithColon result self.old.text self.new.position }
-        ensures index { KeyIsAt (step self.old.text object_first (value_place self.old + 1)) result }
-    {
-        self.take_first_key(alloc)
+        let next = known_next(self.parser.bytes, self.parser.index, ContainerKind::Object);
+        self.key(alloc, next)
     }
 
     /// Steps into the next object and returns its first key and the key's index, or `None` if it is empty
@@ -434,20 +309,8 @@ impl<'j> Jiter<'j> {
         ensures colon { EndsWithColon result self.old.text self.new.position }
         ensures index { KeyIsAt (step self.old.text object_first (value_place self.old + 1)) result }
     {
-        if let Some((key, at)) = self.fast_object() {
-            return Ok(borrowed_key(key, at));
-        }
-        self.slow_object_cow(alloc)
-    }
-
-    #[inline(always)]
-    fn slow_key_cow(&mut self, alloc: Global) -> JiterResult<Option<(CowStr<'j>, usize)>>
-        ensures reads { Reads (next_key_memory self.old) (option_map indexed_key_bytes)
-            (reply_seen key_bytes (key_step whole self.old)) result self.old self.new }
-        ensures colon { EndsWithColon result self.old.text self.new.position }
-        ensures index { KeyIsAt (step self.old.text (object_step self.old.text) self.old.position) result }
-    {
-        self.take_key(alloc)
+        let first = self.first_member()?;
+        self.key_cow(alloc, first)
     }
 
     /// Moves past the comma after a member and returns the next key and its index, or `None` at the object's end
@@ -465,9 +328,7 @@ impl<'j> Jiter<'j> {
         ensures colon { EndsWithColon result self.old.text self.new.position }
         ensures index { KeyIsAt (step self.old.text (object_step self.old.text) self.old.position) result }
     {
-        if let Some((key, at)) = self.fast_next_key() {
-            return Ok(borrowed_key(key, at));
-        }
-        self.slow_key_cow(alloc)
+        let next = known_next(self.parser.bytes, self.parser.index, ContainerKind::Object);
+        self.key_cow(alloc, next)
     }
 }

@@ -16,8 +16,9 @@ use crate::peek::Peek;
 use jiter_scan::number_decoder::{Integer, int_at};
 use jiter_scan::number_extent::fast_number_end;
 use jiter_scan::{NumberAny, NumberInt};
-use jiter_steps::fast::{fast_literal_end, peek, peek_for};
+use jiter_steps::fast::fast_literal_end;
 use jiter_steps::parse::{Literal, Start, start_of};
+use jiter_steps::step::{peek, peek_for};
 
 impl<'j> Jiter<'j> {
     fn literal(&mut self, literal: Literal) -> JiterResult<()>
