@@ -16,6 +16,15 @@ def of_rt():
     return importlib.import_module("rtlib")
 
 
+def is_of_rt_ci(crate):
+    """Returns whether `rt ci` made the library in out/rlib, and no file of the crate is newer. It alone writes no stamp."""
+    made = f"{crate.folder}/out/rlib"
+    if os.path.exists(f"{made}/stamp") or not os.path.isfile(f"{crate.rlib}/format"):
+        return False
+    files = [f"{at}/{name}" for part in ("src", "specs", "proofs") for at, _, names in os.walk(f"{crate.folder}/{part}") for name in names]
+    return all(os.path.getmtime(it) <= os.path.getmtime(made) for it in files)
+
+
 def crates():
     """Returns the crates of crates.txt, and what rt knows of each, lowest first."""
     return of_rt().crates_below(TOP)
