@@ -313,12 +313,17 @@ static inline Step enter_value(Builder *builder) {
   }
 }
 
+static Step leave_value(Builder *builder) { return innermost(builder)->dict ? leave_member(builder) : leave_item(builder); }
+
 static inline Step take_step(Builder *builder) {
   if (builder->held)
     return put_held(builder);
-  if (!builder->after_value)
-    return enter_value(builder);
-  return innermost(builder)->dict ? leave_member(builder) : leave_item(builder);
+  if (builder->after_value) {
+    Step step = leave_value(builder);
+    if (step != STEP_ON || builder->after_value)
+      return step;
+  }
+  return enter_value(builder);
 }
 
 Step builder_run(Builder *builder, const char *bytes, size_t length) {

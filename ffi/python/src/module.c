@@ -60,9 +60,10 @@ static int module_exec(PyObject *self) {
   Module *module = PyModule_GetState(self);
   PyObject *errors = PyImport_ImportModule("safelorim._error");
   module->error_type = errors ? PyObject_GetAttrString(errors, "JsonError") : NULL;
+  module->cause_of_key = errors ? PyObject_GetAttrString(errors, "cause_of_key") : NULL;
   Py_XDECREF(errors);
   module->parser_type = (PyTypeObject *)PyType_FromModuleAndSpec(self, &parser_spec, NULL);
-  if (!module->error_type || !module->parser_type)
+  if (!module->error_type || !module->cause_of_key || !module->parser_type)
     return -1;
   Py_INCREF(module->parser_type);
   if (PyModule_AddObject(self, "Parser", (PyObject *)module->parser_type) == 0)
@@ -74,6 +75,7 @@ static int module_exec(PyObject *self) {
 static int module_traverse(PyObject *self, visitproc visit, void *arg) {
   Module *module = PyModule_GetState(self);
   Py_VISIT(module->error_type);
+  Py_VISIT(module->cause_of_key);
   Py_VISIT(module->parser_type);
   return 0;
 }
@@ -83,6 +85,7 @@ static int module_clear(PyObject *self) {
   for (size_t i = 0; i < KEY_SLOTS; i++)
     Py_CLEAR(module->keys[i]);
   Py_CLEAR(module->error_type);
+  Py_CLEAR(module->cause_of_key);
   Py_CLEAR(module->parser_type);
   return 0;
 }

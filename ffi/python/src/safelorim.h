@@ -15,6 +15,7 @@
 
 typedef struct {
   PyObject *error_type;      /* safelorim.JsonError */
+  PyObject *cause_of_key;    /* a function: the cause of an error for a repeated key */
   PyTypeObject *parser_type; /* safelorim.Parser */
   PyObject *keys[KEY_SLOTS]; /* short keys of earlier objects, each in the slot that its bytes choose */
 } Module;
