@@ -166,8 +166,10 @@ static inline PyObject *read_number(Builder *builder) {
   JiterNumber number = {0, 0, JITER_NO_TEXT};
   if (!jiter_next_any_number(&builder->reader, &number, &builder->fault))
     return NULL;
-  if (builder->grows && builder->reader.index == builder->reader.length)
+  if (builder->grows && builder->reader.index == builder->reader.length) {
+    builder->fault.kind = JITER_EOF_WHILE_PARSING_VALUE;
     return NULL;
+  }
   switch (number.kind) {
   case JITER_INT:
     return PyLong_FromLongLong(number.integer);

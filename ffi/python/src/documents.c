@@ -222,11 +222,11 @@ static PyObject *short_value(const Builder *builder) {
   return value;
 }
 
-/* Whether the bytes end where the reader is stuck. In a partial mode the library may go on otherwise: after `[1 2` it takes
- * the array for ended. */
+/* Whether the bytes end where the reader is stuck. If they don't, a partial mode may have its own way on: after `[1 2` the
+ * array has ended, and a string may end within a character. */
 static bool is_cut(const Builder *builder) {
   uint32_t kind = builder->fault.kind;
-  return !builder->after_value || (kind >= JITER_EOF_WHILE_PARSING_LIST && kind <= JITER_EOF_WHILE_PARSING_VALUE);
+  return kind >= JITER_EOF_WHILE_PARSING_LIST && kind <= JITER_EOF_WHILE_PARSING_VALUE;
 }
 
 /* The value of a document whose reader is stuck. Returns NULL if it is rejected, or with an exception. */
