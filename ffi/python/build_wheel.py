@@ -20,7 +20,7 @@ import zipfile
 HERE = os.path.dirname(os.path.abspath(__file__))
 FILES = ("__init__.py", "__init__.pyi", "_error.py", "py.typed")
 LIBRARIES = os.environ.get("JITER_LIB_DIR") or f"{HERE}/../build"
-FLAGS = ["-std=c11", "-O3", "-fPIC", "-shared", "-fvisibility=hidden", "-Wl,--exclude-libs,ALL", "-Wl,-z,relro,-z,now"]
+FLAGS = ["-std=c11", "-DNDEBUG", "-O3", "-fPIC", "-shared", "-fvisibility=hidden", "-Wl,--exclude-libs,ALL", "-Wl,-z,relro,-z,now"]
 
 
 def read(path):
