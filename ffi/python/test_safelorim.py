@@ -366,6 +366,37 @@ class Chunks(unittest.TestCase):
         # A dict, a list and what they need, and not the twenty items with theirs.
         self.assertLess(sys.getallocatedblocks() - before, 1000 * 12)
 
+    def test_long_strings(self):
+        """What is complete of a string is there, whatever the pieces and the chunks."""
+        dice = random.Random(3)
+        kinds = [
+            [("a", "a"), (" ", " ")],
+            [("\\n", "\n"), ("\\\\", "\\"), ('\\"', '"'), ("\\/", "/"), ("u", "u"), ("0", "0")],
+            [("\\u4e2d", "中"), ("\\ud55c", "한"), ("\\uFFFF", "\uffff"), ("d", "d")],
+            [("\\ud83d\\ude00", "😀"), ("\\uDBFF\\uDFFF", "\U0010ffff"), ("8", "8")],
+            [("é", "é"), ("中", "中"), ("😀", "😀"), ("x", "x")],
+        ]
+        kinds.append([it for kind in kinds for it in kind])
+        for kind in kinds * 3:
+            pieces = [(source.encode(), text) for source, text in dice.choices(kind, k=dice.choice((9, 300, 600)))]
+            data, ends = b"".join(source for source, _ in pieces), [0]
+            for source, _ in pieces:
+                ends.append(ends[-1] + len(source))
+            parsers = {it: safelorim.Parser(partial=it) for it in ("on", "trailing-strings")}
+            at, most = 0, dice.choice((1, 7, 100))
+            for parser in parsers.values():
+                parser.push(b'[1, "')
+            while at < len(data):
+                chunk = data[at : at + dice.randrange(1, most + 1)]
+                at += len(chunk)
+                so_far = "".join(text for end, (_, text) in zip(ends[1:], pieces) if end <= at)
+                for partial, parser in parsers.items():
+                    parser.push(chunk)
+                    self.assertEqual(parser.value(), [1, so_far] if partial == "trailing-strings" else [1])
+            for parser in parsers.values():
+                parser.push(b'"]')
+                self.assertEqual(parser.finish(), [1, "".join(text for _, text in pieces)])
+
     def test_threads(self):
         parser = safelorim.Parser()
         parser.push("[")

@@ -69,34 +69,7 @@ static Step refuse(Builder *builder, size_t index, JiterKind kind) {
   return STEP_REFUSED;
 }
 
-/* ---- Strings and keys. */
-
-static bool grow_room(Builder *builder, size_t size) {
-  size = size < 1024 ? 1024 : size;
-  char *room = PyMem_Realloc(builder->room, size);
-  if (!room) {
-    PyErr_NoMemory();
-    return false;
-  }
-  builder->room = room;
-  builder->room_size = size;
-  return true;
-}
-
-static PyObject *read_string(Builder *builder) {
-  JiterReader *reader = &builder->reader;
-  size_t start = reader->index, whole = 0;
-  while (jiter_next_str(reader, builder->room, builder->room_size, &whole, &builder->fault)) {
-    if (start + whole + 2 == reader->index) /* no escape, which is longer than what it spells */
-      return text_of(reader->bytes + start + 1, whole);
-    if (whole <= builder->room_size)
-      return text_of(builder->room, whole);
-    reader->index = start;
-    if (!grow_room(builder, whole))
-      return NULL;
-  }
-  return NULL;
-}
+/* ---- Keys. */
 
 /* Reads a key that short_key doesn't take. */
 static PyObject *read_long_key(Builder *builder, bool first, bool *more) {
@@ -304,7 +277,8 @@ static inline Step enter_value(Builder *builder) {
   case '[':
     return open_list(builder, start);
   case '"':
-    return hold_scalar(builder, start, read_string(builder));
+    return hold_scalar(builder, start,
+                       builder->grows ? read_growing_string(builder) : read_string(builder, &builder->reader));
   case 't':
   case 'f':
     return hold_scalar(builder, start, read_bool(builder));
@@ -362,6 +336,7 @@ void builder_restart(Builder *builder) {
   }
   Py_CLEAR(builder->held);
   Py_CLEAR(builder->root);
+  Py_CLEAR(builder->settled_text);
   builder->reader.index = 0;
   builder->after_value = false;
 }

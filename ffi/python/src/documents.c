@@ -155,21 +155,28 @@ PyObject *values_of_lines(const Options *options, const Source *source) {
 
 /* What stands for the part that was read: an array or an object with one string, or with a key. */
 static const char *beginning(const Builder *builder) {
-  if (builder->depth == 0)
-    return "";
   if (builder->open[builder->depth - 1].dict)
-    return builder->after_value ? "{\"\":\"\"" : "{\"\":";
-  return builder->after_value ? "[\"\"" : "[\"\",";
+    return builder->after_value ? "{\"\":\"\"" : builder->settled_text ? "{\"\":\"" : "{\"\":";
+  return builder->after_value ? "[\"\"" : builder->settled_text ? "[\"\",\"" : "[\"\",";
 }
 
 /* Borrows the value after that beginning, or returns NULL, perhaps with an exception. */
-static PyObject *last_of(PyObject *value) {
-  if (PyList_Check(value))
-    return PyList_GET_SIZE(value) > 1 ? PyList_GET_ITEM(value, 1) : NULL;
+static PyObject *value_after(PyObject *around) {
+  if (PyList_Check(around))
+    return PyList_GET_SIZE(around) > 1 ? PyList_GET_ITEM(around, 1) : NULL;
   PyObject *key = PyUnicode_New(0, 0);
-  PyObject *last = key ? PyDict_GetItemWithError(value, key) : NULL;
+  PyObject *value = key ? PyDict_GetItemWithError(around, key) : NULL;
   Py_XDECREF(key);
-  return last;
+  return value;
+}
+
+/* The same with what is settled of a string before it. Returns a new reference. */
+static PyObject *last_value(const Builder *builder, PyObject *around) {
+  PyObject *value = builder->after_value ? NULL : value_after(around);
+  if (value && builder->settled_text)
+    return PyUnicode_Concat(builder->settled_text, value);
+  Py_XINCREF(value);
+  return value;
 }
 
 static bool print_unique(const Options *options, const char *bytes, size_t length, char *out, size_t room, size_t *whole,
@@ -210,13 +217,14 @@ static PyObject *printed_value(const Options *options, const char *bytes, size_t
 
 /* The value of the short document. Returns NULL if it is rejected, or with an exception. */
 static PyObject *short_value(const Builder *builder) {
-  const char *begin = beginning(builder), *rest = builder->reader.bytes + builder->reader.index;
-  size_t before = strlen(begin), length = builder->reader.length - builder->reader.index;
+  const char *begin = beginning(builder);
+  size_t start = builder->settled_text ? builder->settled : builder->reader.index;
+  size_t before = strlen(begin), length = builder->reader.length - start;
   char *bytes = PyMem_Malloc(before + length);
   if (!bytes)
     return PyErr_NoMemory();
   memcpy(bytes, begin, before);
-  memcpy(bytes + before, rest, length);
+  memcpy(bytes + before, builder->reader.bytes + start, length);
   PyObject *value = printed_value(builder->options, bytes, before + length);
   PyMem_Free(bytes);
   return value;
@@ -237,8 +245,9 @@ static PyObject *value_of_stuck(const Builder *builder) {
   PyObject *around = short_value(builder);
   if (!around)
     return NULL;
-  PyObject *last = builder->after_value ? NULL : last_of(around);
+  PyObject *last = last_value(builder, around);
   PyObject *value = PyErr_Occurred() ? NULL : builder_snapshot(builder, last);
+  Py_XDECREF(last);
   Py_DECREF(around);
   return value;
 }

@@ -58,6 +58,8 @@ typedef struct {
   size_t count, capacity;
   char *room; /* where strings with an escape are decoded */
   size_t room_size;
+  PyObject *settled_text; /* the beginning of a string that isn't closed yet, or NULL */
+  size_t settled;         /* where the bytes of that beginning end */
   unsigned steps;
   size_t depth;
   Open open[NESTING_LIMIT];
@@ -84,6 +86,15 @@ bool builder_is_at_end(const Builder *builder);
 /* The document with copies of the containers that are still open, and `last`, if it isn't NULL, as the value that comes
  * next. Returns a new reference. */
 PyObject *builder_snapshot(const Builder *builder, PyObject *last);
+
+/* strings.c: strings that the builder reads. Each returns NULL without an exception if the reader is stuck. */
+
+/* Reads the string at the reader's position. */
+PyObject *read_string(Builder *builder, JiterReader *reader);
+/* The same at the builder's position, of a string that may go on later: what is read of it isn't read again. */
+PyObject *read_growing_string(Builder *builder);
+/* Makes room for a string that is decoded. */
+bool grow_room(Builder *builder, size_t size);
 
 /* documents.c: complete and truncated documents, and lines. */
 
