@@ -148,11 +148,19 @@ def beside_json(document, settings):
     return None if same(found, value) else "json has another value"
 
 
+def texts(document):
+    """Yields the document as a str, if it is UTF-8."""
+    try:
+        text = document.decode()
+    except UnicodeDecodeError:
+        return
+    yield text
+
+
 def beside_library(library, document, settings):
     for partial in MODES:
         wanted = library.answer(document, partial, **settings)
-        words = [document] if any(it > 127 for it in document) else [document, document.decode()]
-        for it in words:
+        for it in (document, *texts(document)):
             if not alike(outcome(safelorim.loads, it, partial=partial, **settings), wanted):
                 return f"{partial}: the library: {wanted!r}"
 

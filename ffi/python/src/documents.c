@@ -80,6 +80,15 @@ static PyObject *read_document(Builder *builder, const Source *source) {
   return value;
 }
 
+PyObject *value_if_document(const Options *options, const Source *source, PyObject *wide) {
+  Builder builder;
+  builder_begin(&builder, options, false);
+  builder.wide = wide;
+  PyObject *value = read_document(&builder, source);
+  builder_end(&builder);
+  return value;
+}
+
 PyObject *document_value(const Options *options, const Source *source) {
   Builder builder;
   builder_begin(&builder, options, false);

@@ -54,6 +54,7 @@ typedef struct {
   bool after_value;  /* whether the reader is after a value of the innermost open container, and not before one */
   PyObject *held;    /* a value that was read and is not in its container yet */
   PyObject *root;    /* the document's value, once it is complete */
+  PyObject *wide;    /* a str of which the bytes are a copy (wide.c), or NULL; borrowed */
   PyObject **items;  /* the items of all open lists */
   size_t count, capacity;
   char *room; /* where strings with an escape are decoded */
@@ -96,6 +97,15 @@ PyObject *read_growing_string(Builder *builder);
 /* Makes room for a string that is decoded. */
 bool grow_room(Builder *builder, size_t size);
 
+/* wide.c: documents in a str that isn't ASCII. */
+
+/* The value, or NULL; then an exception is set, or the UTF-8 must be read to know more. */
+PyObject *wide_value(const Options *options, PyObject *text);
+/* Whether these bytes between quotes stand for others. */
+bool is_wide(const Builder *builder, const char *raw, size_t length);
+/* The string that they stand for. */
+PyObject *wide_string(Builder *builder, const char *raw, size_t length);
+
 /* documents.c: complete and truncated documents, and lines. */
 
 /* Bytes of a document, and how many bytes and lines of the caller's data are before them. */
@@ -107,6 +117,8 @@ typedef struct {
 } Source;
 
 PyObject *document_value(const Options *options, const Source *source);
+/* The same without a reason: NULL without an exception if the bytes are rejected. `wide` is the builder's. */
+PyObject *value_if_document(const Options *options, const Source *source, PyObject *wide);
 /* The value of the bytes so far, read in the mode of the options. */
 PyObject *value_so_far(Builder *builder, const Source *source);
 /* A list of the values of lines, and a dict of the errors by line. */
@@ -134,6 +146,7 @@ typedef struct {
 } Settings;
 #define DEFAULT_SETTINGS {NULL, 0, 0, (PyObject *)&PyFloat_Type}
 
+bool is_wide_text(PyObject *object);
 bool data_of(PyObject *object, Data *data);
 void data_release(Data *data);
 /* Borrows what the settings hold. */

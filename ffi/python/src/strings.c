@@ -21,8 +21,11 @@ bool grow_room(Builder *builder, size_t size) {
 PyObject *read_string(Builder *builder, JiterReader *reader) {
   size_t start = reader->index, whole = 0;
   while (jiter_next_str(reader, builder->room, builder->room_size, &whole, &builder->fault)) {
+    const char *raw = reader->bytes + start + 1;
+    if (is_wide(builder, raw, reader->index - start - 2))
+      return wide_string(builder, raw, reader->index - start - 2);
     if (start + whole + 2 == reader->index) /* no escape, which is longer than what it spells */
-      return text_of(reader->bytes + start + 1, whole);
+      return text_of(raw, whole);
     if (whole <= builder->room_size)
       return text_of(builder->room, whole);
     reader->index = start;
