@@ -10,6 +10,7 @@ import decimal
 import doctest
 import gc
 import inspect
+import itertools
 import json
 import math
 import os
@@ -33,11 +34,12 @@ CORPUS = [
     "null", "true", " false ", "0", "-0", "12", "-7", "9223372036854775807", "9223372036854775808", "1" * 400,
     "1.5", "-2.50e-3", "1E400", "0.1e+2", '""', '"a"', '"\\u00e9\\n\\"\\\\\\/"', '"\\ud83d\\ude00"', '"é😀"', "[]", "{}",
     "[1, [2.0, []], {\"k\": null}]", '{"a": 1, "b": [true], "a": 2}', '{"\\u0061": {"b": {}}}', "NaN", "[Infinity, -Infinity]",
-    "[" * 200 + "]" * 200, '"\\u0000\\u001f\\u007f"',
+    "[" * 200 + "]" * 200, '"\\u0000\\u001f\\u007f"', '["é\\n\x7f", "\x7f", "a\x7f中"]', '{"ké\\t\x7f": "\x7f", "é": {"中\\"": "\\u4e2d"}, "\x7f": "\\\\é"}',
+    '["%s", "é"]' % ("\\n" * 3000), '["%s"]' % ("é\\n" * 3000),
 ]
 REJECTED = [
     "", " ", "[1,]", "{\"a\" 1}", "{1: 2}", "[1 2]", "01", "1.", "-", "tru", '"a', '"\x01"', '"\\x"', "1 2", "[", "{", "nul",
-    "[1", '{"a": ', "+1", ".5", "'a'", "\ufeff1",
+    "[1", '{"a": ', "+1", ".5", "'a'", "\ufeff1", "é", "[é]", '{é: 1}', '["é" 中]', "[1中]", '["é"\x7f]', "\x7f", "[tr中ue]", '["\\é"]', '"\\u004é"',
 ]
 
 
@@ -568,11 +570,11 @@ class Refused(unittest.TestCase):
 
     def test_loads(self):
         value = json.loads(self.TEXT)
-        for settings in ({}, {"unique": True}, {"partial": "on"}):
+        for data, settings in itertools.product((self.TEXT, self.TEXT.encode()), ({}, {"unique": True}, {"partial": "on"})):
             result = []
 
             def call():
-                result[:] = [safelorim.loads(self.TEXT, **settings)]
+                result[:] = [safelorim.loads(data, **settings)]
 
             self.assertGreater(without_memory(call), 5)
             self.assertEqual(result, [value])
