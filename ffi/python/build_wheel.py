@@ -20,7 +20,7 @@ import zipfile
 HERE = os.path.dirname(os.path.abspath(__file__))
 FILES = ("__init__.py", "__init__.pyi", "_error.py", "py.typed")
 LIBRARIES = os.environ.get("JITER_LIB_DIR") or f"{HERE}/../build"
-FLAGS = ["-std=c11", "-O3", "-fPIC", "-shared", "-fvisibility=hidden", "-Wl,--exclude-libs,ALL", "-Wl,-z,relro,-z,now"]
+FLAGS = ["-std=c11", "-DNDEBUG", "-O3", "-fPIC", "-shared", "-fvisibility=hidden", "-Wl,--exclude-libs,ALL", "-Wl,-z,relro,-z,now"]
 
 
 def read(path):
@@ -61,20 +61,38 @@ def record(name, data):
     return f"{name},sha256={digest},{len(data)}\n"
 
 
-def build_wheel(wheel_directory, config_settings=None, metadata_directory=None):
-    """Writes the wheel and returns its name, as PEP 517 asks."""
-    name, version = project("name"), project("version")
+def wheel_tag():
     python = f"cp{sys.version_info[0]}{sys.version_info[1]}"
-    tag = f"{python}-{python}{sys.abiflags}-linux_x86_64"
-    about = f"{name}-{version}.dist-info"
+    return f"{python}-{python}{sys.abiflags}-linux_x86_64"
+
+
+def dist_info():
+    """Returns the name of the folder about the package, and its files but the record."""
+    name, version = project("name"), project("version")
     metadata = f"Metadata-Version: 2.1\nName: {name}\nVersion: {version}\nSummary: {project('description')}\nLicense: MIT\n"
     metadata += f"Requires-Python: {project('requires-python')}\n"
+    wheel = f"Wheel-Version: 1.0\nGenerator: build_wheel\nRoot-Is-Purelib: false\nTag: {wheel_tag()}\n"
+    return f"{name}-{version}.dist-info", {"METADATA": metadata.encode(), "WHEEL": wheel.encode()}
+
+
+def prepare_metadata_for_build_wheel(metadata_directory, config_settings=None):
+    """Writes the files about the package, so that pip compiles it once."""
+    folder, files = dist_info()
+    os.makedirs(f"{metadata_directory}/{folder}")
+    for name, data in files.items():
+        with open(f"{metadata_directory}/{folder}/{name}", "wb") as file:
+            file.write(data)
+    return folder
+
+
+def build_wheel(wheel_directory, config_settings=None, metadata_directory=None):
+    """Writes the wheel and returns its name, as PEP 517 asks."""
+    name, (about, described) = project("name"), dist_info()
     files = {f"{name}/{it}": read(f"{HERE}/src/{name}/{it}") for it in FILES}
     files[f"{name}/_core{sysconfig.get_config_var('EXT_SUFFIX')}"] = compiled()
-    files[f"{about}/METADATA"] = metadata.encode()
-    files[f"{about}/WHEEL"] = f"Wheel-Version: 1.0\nGenerator: build_wheel\nRoot-Is-Purelib: false\nTag: {tag}\n".encode()
+    files.update({f"{about}/{it}": data for it, data in described.items()})
     files[f"{about}/RECORD"] = ("".join(record(*it) for it in files.items()) + f"{about}/RECORD,,\n").encode()
-    wheel = f"{name}-{version}-{tag}.whl"
+    wheel = f"{name}-{project('version')}-{wheel_tag()}.whl"
     with zipfile.ZipFile(os.path.join(wheel_directory, wheel), "w", zipfile.ZIP_DEFLATED) as archive:
         for path, data in files.items():
             archive.writestr(path, data)

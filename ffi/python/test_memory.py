@@ -2,7 +2,8 @@
 
 LIBRARY is checks/refuse.c, compiled; checks/ffi runs this. The file runs itself with it preloaded: first for each call to
 count its requests for memory, and then once for each of these, which is refused. The call must then raise `MemoryError` or
-return what it always returns. Most of the requests are Python's own, a few are those of libjiter.
+return what it always returns. PYTHONMALLOC has Python ask the C library for each block. So most of the requests are
+Python's own, a few are those of libjiter. A parser must have lost nothing: the call that failed is made again.
 """
 
 import ctypes
@@ -25,6 +26,15 @@ def load_unique():
     return safelorim.loads(TEXT, unique=True)
 
 
+def load_partial():
+    return safelorim.loads(TEXT[:-1], partial="trailing-strings")
+
+
+def load_lines():
+    values, errors = safelorim.loads_lines(TEXT.replace("\n", "") + "\n[1,]")
+    return values[0] if errors[2].kind == 18 else errors
+
+
 def repeated():
     try:
         safelorim.loads('{"a": 1, "\\u0061": [2]}', unique=True)
@@ -32,12 +42,25 @@ def repeated():
         return VALUE if error.cause == 'Detected duplicate key "a"' else error
 
 
+def again(call, *words):
+    """Makes a call, once more if memory ran out."""
+    try:
+        return call(*words)
+    except MemoryError:
+        return call(*words)
+
+
 def chunks():
     parser = safelorim.Parser(partial="on")
     for at in range(0, len(TEXT), 200):
-        parser.push(TEXT[at : at + 200])
-        parser.value()
-    return parser.finish()
+        again(parser.push, TEXT[at : at + 200])
+        again(parser.value)
+    again(parser.error)
+    return again(parser.finish)
+
+
+# The calls, and how many refused requests must raise `MemoryError` at least.
+CALLS = {load: 2, load_unique: 2, load_partial: 2, load_lines: 2, repeated: 2, chunks: 1}
 
 
 def outcome(call):
@@ -46,29 +69,36 @@ def outcome(call):
     except MemoryError:
         return "memory"
     except Exception as error:
-        # What Python raises where it has no memory for a lock.
-        return "memory" if str(error) == "can't allocate lock" else repr(error)
+        return repr(error)
+
+
+def mark(malloc):
+    """Makes a mark, also if a request of Python's own is refused meanwhile."""
+    try:
+        malloc(MARK)
+    except (MemoryError, ctypes.ArgumentError):
+        malloc(MARK)
 
 
 def run_once(name):
     """Makes a call between two marks and says what came of it; then a hundred times before the next mark."""
-    mark = ctypes.CDLL(None).malloc
-    mark.argtypes, mark.restype = [ctypes.c_size_t], ctypes.c_void_p
+    malloc = ctypes.CDLL(None).malloc
+    malloc.argtypes, malloc.restype = [ctypes.c_size_t], ctypes.c_void_p
     call = globals()[name]
     for _ in range(3):
         outcome(call)
-    mark(MARK)
+    mark(malloc)
     said = outcome(call)
-    mark(MARK)
+    mark(malloc)
     for _ in range(100):
         outcome(call)
-    mark(MARK)
+    mark(malloc)
     print(said)
 
 
 def run_refused(library, name, number):
     """Runs a call with this request refused. Returns its outcome and the lines of refuse.c."""
-    environment = [f"LD_PRELOAD={library}", f"REFUSE={number}", "PYTHONHASHSEED=0"]
+    environment = [f"LD_PRELOAD={library}", f"REFUSE={number}", "PYTHONHASHSEED=0", "PYTHONMALLOC=malloc"]
     words = ["sh", "-c", 'exec env "$@" 3>&0 0</dev/null', "", *environment]
     with tempfile.TemporaryFile("w+") as counts:
         words += [sys.executable, os.path.abspath(__file__), "--call", name]
@@ -82,7 +112,8 @@ def marks(lines):
     return [(int(it.split()[0]), int(it.split()[2])) for it in lines if it.count(" ") == 2][:3]
 
 
-def problems(library, name):
+def problems(library, call, least):
+    name = call.__name__
     said, lines = run_refused(library, name, 0)
     (first, _), (last, before), (_, after) = marks(lines)
     if said != "value":
@@ -92,13 +123,13 @@ def problems(library, name):
     for number, it in enumerate(outcomes, first + 1):
         if it not in ("value", "memory"):
             found.append(f"{name}: request {number} refused: {it}")
-    if outcomes.count("memory") < 2:
+    if outcomes.count("memory") < least:
         found.append(f"{name}: of {len(outcomes)} refused requests {outcomes.count('memory')} raised MemoryError")
     return found
 
 
 def main():
-    found = [it for name in ("load", "load_unique", "repeated", "chunks") for it in problems(sys.argv[1], name)]
+    found = [it for call, least in CALLS.items() for it in problems(sys.argv[1], call, least)]
     print("\n".join(found))
     return 1 if found else 0
 

@@ -1,25 +1,45 @@
-"""Tests of safelorim: equal to `json.loads` on a corpus, errors, truncated documents, chunks, and that memory is freed."""
+"""Tests of safelorim: equal to `json.loads` on a corpus, errors, truncated documents, chunks, logs, and that nothing leaks.
+
+    python3 test_safelorim.py [--short] [unittest's words]
+
+The module must be installed, or in the folder that PYTHONPATH names. --short makes fewer calls where it counts leaks.
+"""
 
 import concurrent.futures
+import decimal
 import doctest
+import gc
+import inspect
+import itertools
 import json
 import math
+import os
 import pickle
 import random
+import signal
+import subprocess
+import sys
+import textwrap
+import threading
 import unittest
-from unittest import mock
 
 import safelorim
+
+HERE = os.path.dirname(os.path.abspath(__file__))
+PAGE = f"{HERE}/../../docs/PYTHON.md"
+# How often nine calls are made where leaks are counted: a million calls.
+ROUNDS = 112_000
 
 CORPUS = [
     "null", "true", " false ", "0", "-0", "12", "-7", "9223372036854775807", "9223372036854775808", "1" * 400,
     "1.5", "-2.50e-3", "1E400", "0.1e+2", '""', '"a"', '"\\u00e9\\n\\"\\\\\\/"', '"\\ud83d\\ude00"', '"é😀"', "[]", "{}",
     "[1, [2.0, []], {\"k\": null}]", '{"a": 1, "b": [true], "a": 2}', '{"\\u0061": {"b": {}}}', "NaN", "[Infinity, -Infinity]",
-    "[" * 200 + "]" * 200, '"\\u0000\\u001f\\u007f"',
+    "[" * 200 + "]" * 200, '"\\u0000\\u001f\\u007f"', '["é\\n\x7f", "\x7f", "a\x7f中"]', '{"ké\\t\x7f": "\x7f", "é": {"中\\"": "\\u4e2d"}, "\x7f": "\\\\é"}',
+    '["%s", "é"]' % ("\\n" * 3000), '["%s"]' % ("é\\n" * 3000),
 ]
 REJECTED = [
     "", " ", "[1,]", "{\"a\" 1}", "{1: 2}", "[1 2]", "01", "1.", "-", "tru", '"a', '"\x01"', '"\\x"', "1 2", "[", "{", "nul",
-    "[1", '{"a": ', "+1", ".5", "'a'", "\ufeff1",
+    "[1", '{"a": ', "+1", ".5", "'a'", "\ufeff1", "é", "[é]", '{é: 1}', '["é" 中]', "[1中]", '["é"\x7f]', "\x7f", "[tr中ue]", '["\\é"]', '"\\u004é"',
 ]
 
 
@@ -46,9 +66,16 @@ def some_value(dice, depth):
 
 
 class Loads(unittest.TestCase):
+    def rejected(self, *words, **settings):
+        """Returns the error of a call of `loads`."""
+        with self.assertRaises(safelorim.JsonError, msg=words) as raised:
+            safelorim.loads(*words, **settings)
+        return raised.exception
+
     def test_equals_json(self):
         for text in CORPUS:
-            self.assertTrue(same(safelorim.loads(text), json.loads(text)), text)
+            for data in (text, text.encode(), bytearray(text.encode())):
+                self.assertTrue(same(safelorim.loads(data, non_finite=True), json.loads(text)), text)
 
     def test_equals_json_on_random_values(self):
         dice = random.Random(7)
@@ -61,20 +88,28 @@ class Loads(unittest.TestCase):
         for text in REJECTED:
             with self.assertRaises(ValueError, msg=text):
                 json.loads(text)
-            with self.assertRaises(safelorim.JsonError, msg=text):
-                safelorim.loads(text)
+            self.rejected(text, non_finite=True)
+
+    def test_rejects_what_json_accepts(self):
+        for text, kind, index in (
+            ("[" * 202 + "]" * 202, 21, 201), ('"\\ud83d"', 20, 7), ('"\\udc00"', 17, 6), ("NaN", 10, 0), ("[-Infinity]", 12, 2),
+        ):
+            json.loads(text)
+            error = self.rejected(text)
+            self.assertEqual((error.kind, error.index), (kind, index), text)
 
     def test_error_has_its_place(self):
-        with self.assertRaises(safelorim.JsonError) as raised:
-            safelorim.loads(b"[1,\n 2,]")
-        error = raised.exception
-        self.assertEqual((error.kind, error.index, error.line, error.column), (18, 7, 2, 4))
+        error = self.rejected(b"[1,\n 2,]")
+        self.assertEqual((error.cause, error.kind, error.index, error.line, error.column), ("trailing comma", 18, 7, 2, 4))
         self.assertEqual(str(error), "trailing comma at line 2 column 4")
+        self.assertIsInstance(error, ValueError)
+
+    def test_error_counts_bytes(self):
+        self.assertEqual(self.rejected('["é",]').index, self.rejected('["é",]'.encode()).index)
+        self.assertEqual(self.rejected('["é",]').index, 6)
 
     def test_error_is_pickled(self):
-        with self.assertRaises(safelorim.JsonError) as raised:
-            safelorim.loads("[1,]")
-        again = pickle.loads(pickle.dumps(raised.exception))
+        again = pickle.loads(pickle.dumps(self.rejected("[1,]")))
         self.assertEqual((type(again), str(again)), (safelorim.JsonError, "trailing comma at line 1 column 4"))
         self.assertEqual((again.cause, again.kind, again.index, again.line, again.column), ("trailing comma", 18, 3, 1, 4))
 
@@ -87,69 +122,128 @@ class Loads(unittest.TestCase):
             with self.assertRaises(TypeError, msg=data):
                 safelorim.Parser().push(data)
 
+    def test_takes_what_bytes_takes_of_a_memoryview(self):
+        self.assertEqual(safelorim.loads(memoryview(b"[x1x]x")[::2]), [1])
+
+    def test_names_of_arguments(self):
+        for words, settings in (((), {}), (("1", "2"), {}), (("1",), {"strict": True}), ((), {"data": "1"})):
+            with self.assertRaises(TypeError):
+                safelorim.loads(*words, **settings)
+        parameters = inspect.signature(safelorim.loads).parameters
+        self.assertEqual(list(parameters), ["data", "partial", "unique", "non_finite", "float"])
+
     def test_unpaired_surrogate_is_no_utf8(self):
-        with self.assertRaises(safelorim.JsonError) as raised:
-            safelorim.loads('"\ud800"')
-        self.assertEqual((raised.exception.kind, raised.exception.index), (14, 1))
+        error = self.rejected('"\ud800"')
+        self.assertEqual((error.kind, error.index), (14, 1))
 
     def test_non_finite_numbers_are_allowed_or_not(self):
         for text in ("NaN", "Infinity", "-Infinity"):
-            self.assertIsInstance(safelorim.loads(text, unique=True), float)
+            self.assertIsInstance(safelorim.loads(text, unique=True, non_finite=True), float)
             for unique in (False, True):
-                with self.assertRaises(safelorim.JsonError, msg=text):
-                    safelorim.loads(text, unique=unique, allow_inf_nan=False)
+                self.rejected(text, unique=unique)
+        self.assertEqual(safelorim.loads("[1e400, -1e400, 1e-400]"), [math.inf, -math.inf, 0.0])
+
+    def test_integers_are_exact(self):
+        for size in (1, 18, 19, 20, 63, 64, 65, 1000, 14000):
+            for value in (2**size - 1, -(2**size), 10 ** (size // 4)):
+                self.assertEqual(safelorim.loads(f"[{value}]"), [value])
+        self.assertEqual(self.rejected("1" * 4301).kind, 13)
+
+    def test_float(self):
+        text = "[1, 2.50, -1e400, 123456789012345678901234567890]"
+        wanted = [1, decimal.Decimal("2.50"), decimal.Decimal("-1e400"), 123456789012345678901234567890]
+        self.assertTrue(same(safelorim.loads(text, float=decimal.Decimal), wanted))
+        self.assertEqual(safelorim.loads(text, float=str), [1, "2.50", "-1e400", 123456789012345678901234567890])
+        self.assertTrue(math.isnan(safelorim.loads("NaN", float=decimal.Decimal, non_finite=True)))
+        self.assertTrue(same(safelorim.loads("[1.5]", float=float), [1.5]))
+        self.assertTrue(same(safelorim.loads("[1.5]", float=None), [1.5]))
+        self.assertEqual(safelorim.loads('{"a": [1.5, 2.', float=str, partial="on"), {"a": ["1.5"]})
+        self.assertEqual(safelorim.loads('{"a": [1.5, 2.5', float=str, partial="on"), {"a": ["1.5", "2.5"]})
+        with self.assertRaises(TypeError):
+            safelorim.loads("1.5", float="float")
+        with self.assertRaises(ZeroDivisionError):
+            safelorim.loads("[[1, {\"a\": [1.5]}]]", float=lambda _: 1 // 0)
+
+    def test_limit_of_digits_is_kept(self):
+        if not hasattr(sys, "set_int_max_str_digits"):
+            self.skipTest("this Python has no such limit")
+        limit = sys.get_int_max_str_digits()
+        try:
+            sys.set_int_max_str_digits(640)
+            with self.assertRaisesRegex(ValueError, "limit"):
+                safelorim.loads(f"[{'1' * 641}]")
+        finally:
+            sys.set_int_max_str_digits(limit)
+
+    def test_short_keys_are_shared(self):
+        one, other = safelorim.loads('[{"a key": 1}, {"a key": 2}]'), safelorim.loads(b'{"a key": 3}')
+        keys = [list(it)[0] for it in (*one, other)]
+        self.assertIs(keys[0], keys[1])
+        self.assertIs(keys[0], keys[2])
 
     def test_long_texts(self):
-        for count in (1, 63, 64, 65, 99, 100, 4095, 4096, 70000):
-            for char in ("a", "\n", "é", "\x7f", "\\", "\U0001f600"):
-                text = json.dumps({char * count: [char * count]}, ensure_ascii=False)
-                for unique in (False, True):
-                    self.assertEqual(safelorim.loads(text, unique=unique), {char * count: [char * count]})
+        for count in (1, 2, 3, 4, 5, 7, 8, 9, 15, 16, 17, 31, 32, 33, 63, 64, 65, 99, 100, 4095, 4096, 70000):
+            for char in ("a", "\n", "é", "Ā", "\uffff", "\x7f", "\\", "\U0001f600"):
+                for text in (char * count, "x" * count + char, char + "x" * count):
+                    for is_ascii in (False, True):
+                        source = json.dumps({text: [text]}, ensure_ascii=is_ascii)
+                        for unique in (False, True):
+                            self.assertTrue(same(safelorim.loads(source, unique=unique), {text: [text]}))
 
-    def test_parses_once(self):
-        library = safelorim._jiter
-        for text in ('"' + "\\n" * 1000 + '"', '["' + "\\b\\u0000" * 99, "[" * 200, '{"a":' * 199, "[" * 200 + '"\\n'):
-            for name, unique in (("jiter_print", False), ("jiter_document_print", True)):
-                with mock.patch.object(safelorim, "_jiter", mock.Mock(wraps=library)) as counted:
-                    safelorim.loads(text, partial="trailing-strings", unique=unique)
-                self.assertEqual(getattr(counted, name).call_count, 1, text)
-            with mock.patch.object(safelorim, "_jiter", mock.Mock(wraps=library)) as counted:
-                parser = safelorim.Parser()
-                for char in text:
-                    parser.push(char)
-                parser.value()
-            self.assertEqual(counted.jiter_parser_value.call_count, 1, text)
+    def test_each_character(self):
+        chars = [chr(it) for it in range(0x110000) if not 0xD800 <= it < 0xE000]
+        for at in range(0, len(chars), 4096):
+            text = "".join(chars[at : at + 4096])
+            for is_ascii in (False, True):
+                self.assertEqual(safelorim.loads(json.dumps(text, ensure_ascii=is_ascii)), text)
+        for char in chars[::97]:
+            self.assertEqual(safelorim.loads(json.dumps([char], ensure_ascii=False)), [char])
+
+    def test_dumps_is_that_of_json(self):
+        self.assertIs(safelorim.dumps, json.dumps)
 
     def test_bytes_that_are_not_utf8(self):
-        with self.assertRaises(safelorim.JsonError) as raised:
-            safelorim.loads(b'"\xff"')
-        self.assertEqual((raised.exception.kind, raised.exception.index), (14, 1))
+        error = self.rejected(b'"\xff"')
+        self.assertEqual((error.kind, error.index), (14, 1))
 
     def test_partial(self):
         text = b'{"a": [1, 2, {"b": "he'
         self.assertEqual(safelorim.loads(text, partial="on"), {"a": [1, 2, {}]})
         self.assertEqual(safelorim.loads(text, partial="trailing-strings"), {"a": [1, 2, {"b": "he"}]})
-        with self.assertRaises(safelorim.JsonError):
-            safelorim.loads(text)
-        with self.assertRaises(ValueError):
-            safelorim.loads(text, partial="some")
+        for partial in (None, "off"):
+            self.rejected(text, partial=partial)
+        for partial in ("some", "", "o", "on\0"):
+            with self.assertRaises(ValueError):
+                safelorim.loads(text, partial=partial)
 
     def test_unique(self):
         self.assertEqual(safelorim.loads(b'{"a": {"a": 1}}', unique=True), {"a": {"a": 1}})
-        with self.assertRaises(safelorim.JsonError) as raised:
-            safelorim.loads(b'{"a": 1, "\\u0061": 2}', unique=True)
-        self.assertEqual((raised.exception.kind, raised.exception.index), (23, 18))
-        self.assertEqual(raised.exception.cause, 'Detected duplicate key "a"')
-        for key, told in (("", '""'), ("k" * 100, '"' + "k" * 100 + '"'), ('"', '"\\""')):
+        error = self.rejected(b'{"a": 1, "\\u0061": 2}', unique=True)
+        self.assertEqual((error.kind, error.index, error.cause), (23, 18, 'Detected duplicate key "a"'))
+        for key, told in (("", '""'), ("k" * 100, '"' + "k" * 100 + '"'), ('"', '"\\""'), ("\n\x1fé", '"\\n\\u001fé"')):
             text = json.dumps([key])[1:-1]
-            with self.assertRaises(safelorim.JsonError) as raised:
-                safelorim.loads(f"{{{text}: 1, {text}: 2}}", unique=True)
-            self.assertEqual(raised.exception.cause, f"Detected duplicate key {told}")
-        with self.assertRaises(safelorim.JsonError) as raised:
-            safelorim.loads(b"[1,]", unique=True)
-        self.assertEqual(raised.exception.kind, 18)
-        self.assertEqual(safelorim.loads(b'[{"a": "x', partial="trailing-strings", unique=True), [{"a": "x"}])
-        self.assertEqual(safelorim.loads(b'[{"a": "x', partial="on", unique=True), [{}])
+            error = self.rejected(f"{{{text}: 1, {text}: 2}}", unique=True)
+            self.assertEqual(error.cause, f"Detected duplicate key {told}")
+        self.assertEqual(self.rejected(b"[1,]", unique=True).kind, 18)
+        for partial, value in (("trailing-strings", [{"a": "x"}]), ("on", [{}])):
+            self.assertEqual(safelorim.loads(b'[{"a": "x', partial=partial, unique=True), value)
+            self.assertEqual(self.rejected(b'[{"a": 1, "a": "x', partial=partial, unique=True).kind, 23)
+
+    def test_interrupt(self):
+        text = "[" + "[], " * 3_000_000 + "1]"
+
+        def interrupt(number, frame):
+            raise KeyboardInterrupt
+
+        before = signal.signal(signal.SIGALRM, interrupt)
+        try:
+            signal.setitimer(signal.ITIMER_REAL, 0.01)
+            with self.assertRaises(KeyboardInterrupt):
+                for _ in range(100):
+                    safelorim.loads(text)
+        finally:
+            signal.setitimer(signal.ITIMER_REAL, 0)
+            signal.signal(signal.SIGALRM, before)
 
 
 class Chunks(unittest.TestCase):
@@ -187,26 +281,123 @@ class Chunks(unittest.TestCase):
         with self.assertRaises(ValueError):
             safelorim.Parser(partial="some")
 
-    def test_non_finite_numbers_are_allowed_or_not(self):
+    def test_settings(self):
+        parser = safelorim.Parser(non_finite=True, float=str)
+        parser.push("[-Infinity, 1.50")
+        self.assertEqual(parser.value(), ["-Infinity", "1.50"])
+        parser.push("]")
+        self.assertEqual(parser.finish(), ["-Infinity", "1.50"])
+        parser = safelorim.Parser(unique=True)
+        parser.push('{"a": [-1], "a": ')
+        for call in (parser.value, parser.finish):
+            with self.assertRaises(safelorim.JsonError) as raised:
+                call()
+            self.assertEqual((raised.exception.kind, raised.exception.index), (23, 16))
         parser = safelorim.Parser()
-        parser.push("[-Infinity]")
-        self.assertEqual(parser.finish(), [-math.inf])
-        parser = safelorim.Parser(allow_inf_nan=False)
         parser.push("[-Infinity]")
         with self.assertRaises(safelorim.JsonError):
             parser.finish()
+        with self.assertRaises(TypeError):
+            safelorim.Parser("on")
 
-    def test_refused_push_ends_the_parser(self):
-        for name in ("jiter_lines_push", "jiter_parser_push"):
-            parser = safelorim.Parser()
-            parser.push("[1,")
-            with mock.patch.object(safelorim, "_jiter", mock.Mock(wraps=safelorim._jiter)) as library:
-                getattr(library, name).side_effect = lambda *_: False
-                with self.assertRaises(MemoryError):
-                    parser.push("2]")
-            for call in (parser.value, parser.finish, lambda: parser.push("2]")):
-                with self.assertRaisesRegex(MemoryError, "begin a new one"):
-                    call()
+    def test_error(self):
+        parser = safelorim.Parser()
+        for chunk, kind, index in ((b"", 5, 0), (b"[1", 2, 2), (b", ", 5, 4), (b"2]", None, None), (b" ", None, None), (b"x", 19, 7)):
+            parser.push(chunk)
+            error = parser.error()
+            self.assertEqual((error.kind, error.index) if error else (None, None), (kind, index))
+            self.assertIsInstance(error, (safelorim.JsonError, type(None)))
+
+    def test_numbers_without_brackets(self):
+        parser = safelorim.Parser(partial="off")
+        for chunk, value in (("1", 1), ("2", 12), (".5", 12.5)):
+            parser.push(chunk)
+            self.assertEqual((parser.value(), parser.finish(), parser.error()), (value, value, None))
+
+    def test_values_stay(self):
+        """A value doesn't change when the document grows, nor the document when a value is changed."""
+        parser = safelorim.Parser()
+        parser.push('{"a": [1, {"b": [2, "x')
+        first = parser.value()
+        parser.push('y"], "c": 3')
+        second = parser.value()
+        self.assertEqual(first, {"a": [1, {"b": [2, "x"]}]})
+        self.assertEqual(second, {"a": [1, {"b": [2, "xy"], "c": 3}]})
+        second["a"].append(4)
+        second["a"][1].clear()
+        second.clear()
+        parser.push("}]}")
+        self.assertEqual(parser.finish(), {"a": [1, {"b": [2, "xy"], "c": 3}]})
+
+    def test_call_within_a_call(self):
+        def again(text):
+            with self.assertRaisesRegex(RuntimeError, "in a call already"):
+                parser.push("]")
+            return text
+
+        parser = safelorim.Parser(float=again)
+        parser.push("[1.5]")
+        self.assertEqual(parser.finish(), ["1.5"])
+
+    def test_failed_call_is_made_again(self):
+        """A callable that fails, as memory does, loses nothing."""
+        failures = [True, False, True, True, False, False]
+
+        def make(text):
+            if failures.pop(0):
+                raise ArithmeticError(text)
+            return text
+
+        parser = safelorim.Parser(float=make)
+        parser.push('{"a": [1.0, {"b": 2.0, "c": 3.0}]}')
+        for value in ("1.0", "2.0", "2.0"):
+            with self.assertRaisesRegex(ArithmeticError, value):
+                parser.value()
+        self.assertEqual(parser.value(), {"a": ["1.0", {"b": "2.0", "c": "3.0"}]})
+
+    def test_cost_of_values(self):
+        """A value of a longer document costs no more, if its open containers are as long."""
+        text = b'{"list": [%s' % b", ".join([b'{"key": [1, 2, 3], "text": "0123456789"}'] * 20)
+        parser = safelorim.Parser()
+        parser.push(text)
+        before = sys.getallocatedblocks()
+        values = []
+        for _ in range(1000):
+            parser.push(b" ")
+            values.append(parser.value())
+        # A dict, a list and what they need, and not the twenty items with theirs.
+        self.assertLess(sys.getallocatedblocks() - before, 1000 * 12)
+
+    def test_long_strings(self):
+        """What is complete of a string is there, whatever the pieces and the chunks."""
+        dice = random.Random(3)
+        kinds = [
+            [("a", "a"), (" ", " ")],
+            [("\\n", "\n"), ("\\\\", "\\"), ('\\"', '"'), ("\\/", "/"), ("u", "u"), ("0", "0")],
+            [("\\u4e2d", "中"), ("\\ud55c", "한"), ("\\uFFFF", "\uffff"), ("d", "d")],
+            [("\\ud83d\\ude00", "😀"), ("\\uDBFF\\uDFFF", "\U0010ffff"), ("8", "8")],
+            [("é", "é"), ("中", "中"), ("😀", "😀"), ("x", "x")],
+        ]
+        kinds.append([it for kind in kinds for it in kind])
+        for kind in kinds * 3:
+            pieces = [(source.encode(), text) for source, text in dice.choices(kind, k=dice.choice((9, 300, 600)))]
+            data, ends = b"".join(source for source, _ in pieces), [0]
+            for source, _ in pieces:
+                ends.append(ends[-1] + len(source))
+            parsers = {it: safelorim.Parser(partial=it) for it in ("on", "trailing-strings")}
+            at, most = 0, dice.choice((1, 7, 100))
+            for parser in parsers.values():
+                parser.push(b'[1, "')
+            while at < len(data):
+                chunk = data[at : at + dice.randrange(1, most + 1)]
+                at += len(chunk)
+                so_far = "".join(text for end, (_, text) in zip(ends[1:], pieces) if end <= at)
+                for partial, parser in parsers.items():
+                    parser.push(chunk)
+                    self.assertEqual(parser.value(), [1, so_far] if partial == "trailing-strings" else [1])
+            for parser in parsers.values():
+                parser.push(b'"]')
+                self.assertEqual(parser.finish(), [1, "".join(text for _, text in pieces)])
 
     def test_threads(self):
         parser = safelorim.Parser()
@@ -216,43 +407,237 @@ class Chunks(unittest.TestCase):
         parser.push("0]")
         self.assertEqual(parser.finish(), [1, 2] * 300 + [0])
 
+    def test_threads_wait(self):
+        """A call waits for one of another thread that runs Python code."""
+        inside, go_on = threading.Event(), threading.Event()
+
+        def make(text):
+            inside.set()
+            go_on.wait(10)
+            return text
+
+        parser = safelorim.Parser(float=make)
+        parser.push("[1.5")
+        parser.push(", 2")
+        with concurrent.futures.ThreadPoolExecutor(2) as pool:
+            value = pool.submit(parser.value)
+            inside.wait(10)
+            pushed = pool.submit(parser.push, "5]")
+            go_on.set()
+            pushed.result()
+            self.assertIn(value.result(), (["1.5", 2], ["1.5", 25]))
+        self.assertEqual(parser.finish(), ["1.5", 25])
+
+
+class Lines(unittest.TestCase):
+    def test_values_and_errors(self):
+        values, errors = safelorim.loads_lines(b'{"a": 1}\n\n \t\r\n[1,]\r\n"\xff"\nnull\n[2')
+        self.assertEqual(values, [{"a": 1}, None])
+        self.assertEqual(list(errors), [4, 5, 7])
+        told = [(it.kind, it.index, it.line, it.column) for it in errors.values()]
+        self.assertEqual(told, [(18, 17, 4, 4), (14, 21, 5, 2), (2, 31, 7, 2)])
+        self.assertEqual(str(errors[4]), "trailing comma at line 4 column 4")
+
+    def test_line_feed_at_the_end(self):
+        for text in ("1\n2", "1\n2\n", "1\n2\n\n", "\n1\n2\r\n"):
+            self.assertEqual(safelorim.loads_lines(text), ([1, 2], {}))
+        for text in ("", "\n", " \n\n"):
+            self.assertEqual(safelorim.loads_lines(text), ([], {}))
+
+    def test_settings(self):
+        values, errors = safelorim.loads_lines('{"a": 1, "a": 2}\n[NaN, 1.50]\n', unique=True, non_finite=True, float=str)
+        self.assertEqual((values, errors[1].kind), ([["NaN", "1.50"]], 23))
+        self.assertEqual(safelorim.loads_lines("[NaN]")[1][1].kind, 10)
+        with self.assertRaises(TypeError):
+            safelorim.loads_lines("1", partial="on")
+
+    def test_exception_of_a_callable(self):
+        with self.assertRaises(ZeroDivisionError):
+            safelorim.loads_lines("1\n1.5\n2", float=lambda _: 1 // 0)
+
+
+class Interpreters(unittest.TestCase):
+    def test_subinterpreters(self):
+        """Each has a module of its own."""
+        code = """
+            import sys
+            try:
+                import _interpreters as made
+            except ImportError:
+                import _xxsubinterpreters as made
+            code = "import safelorim; assert safelorim.loads('{\\"a key\\": [1, 2.5]}') == {'a key': [1, 2.5]}; " \\
+                   "assert safelorim.Parser().error().kind == 5"
+            import safelorim
+            kept = safelorim.loads('{"a key": 1}')
+            for _ in range(3):
+                it = made.create()
+                raised = made.run_string(it, code)
+                assert raised is None, raised
+                made.destroy(it)
+            assert safelorim.loads('{"a key": 1}') == kept
+        """
+        ran = subprocess.run([sys.executable, "-c", textwrap.dedent(code)], stderr=subprocess.PIPE, text=True)
+        if "No module named '_xxsub" in ran.stderr:
+            self.skipTest("this Python has no subinterpreters")
+        self.assertEqual((ran.returncode, ran.stderr), (0, ""))
+
+
+def all_calls(text, other):
+    """Makes each call, of a document and of one that is rejected."""
+    safelorim.loads(text)
+    safelorim.loads(text[:-7], partial="trailing-strings", unique=True)
+    safelorim.loads_lines(text + "\n" + other)
+    for words in ({}, {"unique": True}, {"partial": "on"}):
+        try:
+            safelorim.loads(other, **words)
+        except safelorim.JsonError:
+            pass
+    parser = safelorim.Parser(float=decimal.Decimal)
+    parser.push(text[:20])
+    parser.value()
+    parser.push(text[20:])
+    parser.finish()
+    parser = safelorim.Parser()
+    parser.push(other)
+    parser.error()
+
 
 class Memory(unittest.TestCase):
-    def test_each_handle_is_freed_once(self):
-        held = []
-        new, free = safelorim._jiter.jiter_handle_new, safelorim._jiter.jiter_handle_free
+    def memory(self):
+        with open("/proc/self/statm") as file:
+            return int(file.read().split()[1]) * 4096
 
-        def counted_new(pointer):
-            done = new(pointer)
-            held.append(pointer.value)
-            return done
+    def test_nothing_leaks(self):
+        text = '{"a": [1, 2.5, "t\\n", {}, {"b": null}], "é": 123456789012345678901234567890, "a": 3}'
+        for _ in range(1000):
+            all_calls(text, "[1, [2, {\"k\": 3,}]]")
+        gc.collect()
+        blocks, memory, counts = sys.getallocatedblocks(), self.memory(), [sys.getrefcount(it) for it in (None, True, 1, "a")]
+        for _ in range(ROUNDS):
+            all_calls(text, "[1, [2, {\"k\": 3,}]]")
+        gc.collect()
+        self.assertLess(abs(sys.getallocatedblocks() - blocks), 500)
+        if "PYTHONMALLOC" not in os.environ:  # the sanitizers' allocator keeps what is freed
+            self.assertLess(self.memory() - memory, 4 << 20)
+        for it, before in zip((None, True, 1, "a"), counts):
+            self.assertLess(abs(sys.getrefcount(it) - before), 500, it)
 
-        def counted_free(pointer):
-            held.remove(pointer.value)
-            free(pointer)
+    def test_cycles_are_collected(self):
+        class Float:
+            def __init__(self, text):
+                self.parser = parser
 
-        library = mock.Mock(wraps=safelorim._jiter)
-        library.jiter_handle_new.side_effect = counted_new
-        with mock.patch.object(safelorim, "_jiter", library), mock.patch.object(
-            safelorim._Handle.__del__, "__defaults__", (counted_free,)
-        ):
-            for text in ("[1]", "[1,]", '{"a": 1, "a": 1}'):
+        gc.collect()
+        before = len(gc.get_objects())
+        for _ in range(50):
+            parser = safelorim.Parser(float=Float)
+            parser.push("[[1.5], 2.5")
+            parser.value()
+        del parser
+        gc.collect()
+        self.assertLess(len(gc.get_objects()) - before, 100)
+
+
+def without_memory(call):
+    """Makes a call with each request of Python's allocators refused in turn. Returns how many were."""
+    import _testcapi
+
+    for number in range(1, 10_000):
+        gc.collect()
+        try:
+            _testcapi.set_nomemory(number, number + 1)
+            try:
+                refused = call()
+            finally:
+                _testcapi.remove_mem_hooks()
+        except MemoryError:
+            continue
+        if not refused:
+            return number - 1
+    raise AssertionError("there is no end")
+
+
+class Refused(unittest.TestCase):
+    TEXT = '{"k": [1, "t\\n", {}, 9223372036854775808, [2.5, "é"]], "l": "' + "0123456789" * 60 + '"}'
+
+    def setUp(self):
+        try:
+            import _testcapi
+
+            _testcapi.set_nomemory
+        except (ImportError, AttributeError):
+            self.skipTest("this Python has no _testcapi.set_nomemory")
+
+    def test_loads(self):
+        value = json.loads(self.TEXT)
+        for data, settings in itertools.product((self.TEXT, self.TEXT.encode()), ({}, {"unique": True}, {"partial": "on"})):
+            result = []
+
+            def call():
+                result[:] = [safelorim.loads(data, **settings)]
+
+            self.assertGreater(without_memory(call), 5)
+            self.assertEqual(result, [value])
+
+    def test_errors(self):
+        for data in ("[1, [2,]]", '{"a": {"b": 1, "b": 2}}'):
+            result = []
+
+            def call():
                 try:
-                    safelorim.loads(text, unique=True)
-                except ValueError:
-                    pass
-            parser = safelorim.Parser()
-            parser.push("[1]")
-            self.assertEqual(len(held), 2)
-            del parser
-        self.assertEqual(held, [])
-        self.assertEqual(library.jiter_handle_new.call_count, 5)
+                    safelorim.loads(data, unique=True)
+                except safelorim.JsonError as error:
+                    result[:] = [error.kind]
+
+            self.assertGreater(without_memory(call), 5)
+            self.assertIn(result[0], (18, 23))
+
+    def test_lines(self):
+        result = []
+
+        def call():
+            result[:] = safelorim.loads_lines(self.TEXT + "\n[1,]\n2")
+
+        self.assertGreater(without_memory(call), 5)
+        self.assertEqual((result[0], list(result[1])), ([json.loads(self.TEXT), 2], [2]))
+
+    def test_parser_loses_nothing(self):
+        """Each call that raises MemoryError is made again, with memory, and then the value is what it always is."""
+        import _testcapi
+
+        value, number, refused, total = json.loads(self.TEXT), 0, 1, 0
+
+        def made(call, *words):
+            nonlocal refused
+            try:
+                _testcapi.set_nomemory(number, number + 1)
+                try:
+                    return call(*words)
+                finally:
+                    _testcapi.remove_mem_hooks()
+            except MemoryError:
+                refused += 1
+            return call(*words)
+
+        while refused:
+            number, refused, parser = number + 1, 0, safelorim.Parser()
+            for at in range(0, len(self.TEXT), 90):
+                made(parser.push, self.TEXT[at : at + 90])
+                last = made(parser.value)
+            self.assertEqual((last, made(parser.finish)), (value, value))
+            total += refused
+        self.assertGreater(total, 20)
 
 
 def load_tests(loader, tests, pattern):
     tests.addTests(doctest.DocTestSuite(safelorim))
+    if os.path.exists(PAGE):
+        tests.addTests(doctest.DocFileSuite(PAGE, module_relative=False))
     return tests
 
 
 if __name__ == "__main__":
+    if "--short" in sys.argv:
+        sys.argv.remove("--short")
+        ROUNDS //= 50
     unittest.main()

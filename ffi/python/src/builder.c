@@ -69,34 +69,7 @@ static Step refuse(Builder *builder, size_t index, JiterKind kind) {
   return STEP_REFUSED;
 }
 
-/* ---- Strings and keys. */
-
-static bool grow_room(Builder *builder, size_t size) {
-  size = size < 1024 ? 1024 : size;
-  char *room = PyMem_Realloc(builder->room, size);
-  if (!room) {
-    PyErr_NoMemory();
-    return false;
-  }
-  builder->room = room;
-  builder->room_size = size;
-  return true;
-}
-
-static PyObject *read_string(Builder *builder) {
-  JiterReader *reader = &builder->reader;
-  size_t start = reader->index, whole = 0;
-  while (jiter_next_str(reader, builder->room, builder->room_size, &whole, &builder->fault)) {
-    if (start + whole + 2 == reader->index) /* no escape, which is longer than what it spells */
-      return text_of(reader->bytes + start + 1, whole);
-    if (whole <= builder->room_size)
-      return text_of(builder->room, whole);
-    reader->index = start;
-    if (!grow_room(builder, whole))
-      return NULL;
-  }
-  return NULL;
-}
+/* ---- Keys. */
 
 /* Reads a key that short_key doesn't take. */
 static PyObject *read_long_key(Builder *builder, bool first, bool *more) {
@@ -126,7 +99,9 @@ static inline bool read_key(Builder *builder, bool first, PyObject **key) {
     return false;
   if (!more)
     return true;
-  *key = short_key(builder->options->module, source.bytes, source.length);
+  *key = is_wide(builder, source.bytes, source.length)
+             ? wide_string(builder, source.bytes, source.length)
+             : short_key(builder->options->module, source.bytes, source.length);
   if (!*key && !PyErr_Occurred()) {
     reader->index = start;
     *key = read_long_key(builder, first, &more);
@@ -166,8 +141,10 @@ static inline PyObject *read_number(Builder *builder) {
   JiterNumber number = {0, 0, JITER_NO_TEXT};
   if (!jiter_next_any_number(&builder->reader, &number, &builder->fault))
     return NULL;
-  if (builder->grows && builder->reader.index == builder->reader.length)
+  if (builder->grows && builder->reader.index == builder->reader.length) {
+    builder->fault.kind = JITER_EOF_WHILE_PARSING_VALUE;
     return NULL;
+  }
   switch (number.kind) {
   case JITER_INT:
     return PyLong_FromLongLong(number.integer);
@@ -302,7 +279,8 @@ static inline Step enter_value(Builder *builder) {
   case '[':
     return open_list(builder, start);
   case '"':
-    return hold_scalar(builder, start, read_string(builder));
+    return hold_scalar(builder, start,
+                       builder->grows ? read_growing_string(builder) : read_string(builder, &builder->reader));
   case 't':
   case 'f':
     return hold_scalar(builder, start, read_bool(builder));
@@ -313,12 +291,17 @@ static inline Step enter_value(Builder *builder) {
   }
 }
 
+static Step leave_value(Builder *builder) { return innermost(builder)->dict ? leave_member(builder) : leave_item(builder); }
+
 static inline Step take_step(Builder *builder) {
   if (builder->held)
     return put_held(builder);
-  if (!builder->after_value)
-    return enter_value(builder);
-  return innermost(builder)->dict ? leave_member(builder) : leave_item(builder);
+  if (builder->after_value) {
+    Step step = leave_value(builder);
+    if (step != STEP_ON || builder->after_value)
+      return step;
+  }
+  return enter_value(builder);
 }
 
 Step builder_run(Builder *builder, const char *bytes, size_t length) {
@@ -355,6 +338,7 @@ void builder_restart(Builder *builder) {
   }
   Py_CLEAR(builder->held);
   Py_CLEAR(builder->root);
+  Py_CLEAR(builder->settled_text);
   builder->reader.index = 0;
   builder->after_value = false;
 }

@@ -3,20 +3,20 @@
 
 /* ---- Errors. */
 
-/* The cause for a document that is the repeated key. */
-static PyObject *cause_of_key(JiterDocument *key, size_t longest) {
+/* The cause for a document that is the repeated key, which has at most so many bytes. */
+static PyObject *cause_of_key(const Module *module, JiterDocument *document, size_t longest) {
   JiterFault fault = {0};
   size_t whole = 0;
-  char *quoted = PyMem_Malloc(longest);
-  PyObject *cause = NULL, *text = NULL;
-  if (quoted && jiter_document_print(key, NULL, 0, NULL, 0, quoted, longest, &whole, &fault) && whole <= longest)
-    text = PyUnicode_DecodeUTF8(quoted, (Py_ssize_t)whole, NULL);
+  char *bytes = PyMem_Malloc(longest);
+  PyObject *key = NULL, *cause = NULL;
+  if (bytes && jiter_document_text(document, NULL, 0, NULL, 0, bytes, longest, &whole, &fault) && whole <= longest)
+    key = text_of(bytes, whole);
   else
     PyErr_NoMemory();
-  if (text)
-    cause = PyUnicode_FromFormat("Detected duplicate key %U", text);
-  Py_XDECREF(text);
-  PyMem_Free(quoted);
+  if (key)
+    cause = PyObject_CallOneArg(module->cause_of_key, key);
+  Py_XDECREF(key);
+  PyMem_Free(bytes);
   return cause;
 }
 
@@ -41,7 +41,7 @@ static PyObject *find_cause(const Options *options, uint32_t mode, const Source 
   if (fault->kind == JITER_OUT_OF_MEMORY)
     PyErr_NoMemory();
   else if (!accepted && fault->kind == JITER_DUPLICATE_KEY)
-    cause = cause_of_key(&document, 6 * source->length + 2); /* a byte is printed as six at most */
+    cause = cause_of_key(options->module, &document, source->length);
   else
     cause = cause_of(fault);
   jiter_document_free(&document);
@@ -77,6 +77,15 @@ static PyObject *read_document(Builder *builder, const Source *source) {
     return NULL;
   PyObject *value = builder->root;
   builder->root = NULL;
+  return value;
+}
+
+PyObject *value_if_document(const Options *options, const Source *source, PyObject *wide) {
+  Builder builder;
+  builder_begin(&builder, options, false);
+  builder.wide = wide;
+  PyObject *value = read_document(&builder, source);
+  builder_end(&builder);
   return value;
 }
 
@@ -153,78 +162,122 @@ PyObject *values_of_lines(const Options *options, const Source *source) {
 /* ---- Truncated documents. The reader is stuck, before a value or after one. Whether the rest may follow there, and what
  * value it has, is what the library says of a short document: what the rest follows, and the rest. */
 
-/* What stands for the part that was read. An array or an object of one member can be followed as any other. */
+/* What stands for the part that was read: an array or an object with one string, or with a key. */
 static const char *beginning(const Builder *builder) {
-  if (builder->depth == 0)
-    return "";
-  if (!builder->after_value)
-    return "[";
-  return builder->open[builder->depth - 1].dict ? "{\"\":0" : "[0";
+  if (builder->open[builder->depth - 1].dict)
+    return builder->after_value ? "{\"\":\"\"" : builder->settled_text ? "{\"\":\"" : "{\"\":";
+  return builder->after_value ? "[\"\"" : builder->settled_text ? "[\"\",\"" : "[\"\",";
 }
 
-/* The compact text of that short document. Returns NULL if it is rejected, or with an exception. */
-static char *print_rest(const Options *options, const char *begin, const char *rest, size_t length, size_t *whole) {
+/* Borrows the value after that beginning, or returns NULL, perhaps with an exception. */
+static PyObject *value_after(PyObject *around) {
+  if (PyList_Check(around))
+    return PyList_GET_SIZE(around) > 1 ? PyList_GET_ITEM(around, 1) : NULL;
+  PyObject *key = PyUnicode_New(0, 0);
+  PyObject *value = key ? PyDict_GetItemWithError(around, key) : NULL;
+  Py_XDECREF(key);
+  return value;
+}
+
+/* The same with what is settled of a string before it. Returns a new reference. */
+static PyObject *last_value(const Builder *builder, PyObject *around) {
+  PyObject *value = builder->after_value ? NULL : value_after(around);
+  if (value && builder->settled_text)
+    return PyUnicode_Concat(builder->settled_text, value);
+  Py_XINCREF(value);
+  return value;
+}
+
+static bool print_unique(const Options *options, const char *bytes, size_t length, char *out, size_t room, size_t *whole,
+                         JiterFault *fault) {
+  JiterDocument document = {0};
+  bool printed = jiter_document_parse(&document, bytes, length, options->non_finite, options->mode, true, fault) &&
+                 jiter_document_print(&document, NULL, 0, NULL, 0, out, room, whole, fault);
+  jiter_document_free(&document);
+  return printed;
+}
+
+/* The compact text of a document, read in the mode of the options. Returns NULL if it is rejected, or with an exception. */
+static char *print_of(const Options *options, const char *bytes, size_t length, size_t *whole) {
   JiterFault fault = {0};
-  size_t escapes = 0, before = strlen(begin), room;
+  size_t room = length + 2 * NESTING_LIMIT;
   for (size_t i = 0; i < length; i++)
-    escapes += rest[i] == '\\';
-  room = length + 4 * escapes + 2 * NESTING_LIMIT; /* an escape of two bytes may be printed as six */
-  char *source = PyMem_Malloc(before + length + 1), *printed = PyMem_Malloc(room);
-  bool accepted = false;
-  if (source && printed) {
-    memcpy(source, begin, before);
-    memcpy(source + before, rest, length);
-    accepted = jiter_print(source, before + length, options->non_finite, options->mode, printed, room, whole, &fault);
-  }
-  if (!source || !printed || (!accepted && fault.kind == JITER_OUT_OF_MEMORY))
+    room += bytes[i] == '\\' ? 4 : 0; /* an escape of two bytes may be printed as six */
+  char *out = PyMem_Malloc(room);
+  bool printed = out && (options->unique
+                             ? print_unique(options, bytes, length, out, room, whole, &fault)
+                             : jiter_print(bytes, length, options->non_finite, options->mode, out, room, whole, &fault));
+  if (!out || (!printed && fault.kind == JITER_OUT_OF_MEMORY))
     PyErr_NoMemory();
-  PyMem_Free(source);
-  if (accepted && *whole <= room)
-    return printed;
-  PyMem_Free(printed);
+  if (printed && *whole <= room)
+    return out;
+  PyMem_Free(out);
   return NULL;
 }
 
-/* The value of the rest, or NULL; `accepted` is whether the rest may follow. */
-static PyObject *value_of_rest(const Builder *builder, bool *accepted) {
-  const Options *options = builder->options;
-  const JiterReader *reader = &builder->reader;
-  size_t start = builder->depth == 0 ? 0 : reader->index, whole = 0;
-  PyObject *value = NULL;
-  char *printed = print_rest(options, beginning(builder), reader->bytes + start, reader->length - start, &whole);
-  *accepted = printed != NULL;
-  if (printed && (builder->depth == 0 || !builder->after_value))
-    value = document_value(options, &(Source){printed, whole, 0, 0});
+/* The value of a document as the library prints it. Returns NULL if it is rejected, or with an exception. */
+static PyObject *printed_value(const Options *options, const char *bytes, size_t length) {
+  size_t whole = 0;
+  char *printed = print_of(options, bytes, length, &whole);
+  PyObject *value = printed ? document_value(options, &(Source){printed, whole, 0, 0}) : NULL;
   PyMem_Free(printed);
-  if (!value || builder->depth == 0)
-    return value;
-  PyObject *item = PyList_GET_SIZE(value) > 0 ? PyList_GET_ITEM(value, 0) : NULL;
-  Py_XINCREF(item);
-  Py_DECREF(value);
-  return item;
+  return value;
 }
 
-/* The value of a document that isn't read to its end. */
-static PyObject *value_of_cut(const Builder *builder, const Source *source) {
-  bool accepted = false;
-  PyObject *last = value_of_rest(builder, &accepted), *value = NULL;
-  if (PyErr_Occurred())
+/* The value of the short document. Returns NULL if it is rejected, or with an exception. */
+static PyObject *short_value(const Builder *builder) {
+  const char *begin = beginning(builder);
+  size_t start = builder->settled_text ? builder->settled : builder->reader.index;
+  size_t before = strlen(begin), length = builder->reader.length - start;
+  char *bytes = PyMem_Malloc(before + length);
+  if (!bytes)
+    return PyErr_NoMemory();
+  memcpy(bytes, begin, before);
+  memcpy(bytes + before, builder->reader.bytes + start, length);
+  PyObject *value = printed_value(builder->options, bytes, before + length);
+  PyMem_Free(bytes);
+  return value;
+}
+
+/* Whether the bytes end where the reader is stuck. If they don't, a partial mode may have its own way on: after `[1 2` the
+ * array has ended, and a string may end within a character. */
+static bool is_cut(const Builder *builder) {
+  uint32_t kind = builder->fault.kind;
+  return kind >= JITER_EOF_WHILE_PARSING_LIST && kind <= JITER_EOF_WHILE_PARSING_VALUE;
+}
+
+/* The value of a document whose reader is stuck. Returns NULL if it is rejected, or with an exception. */
+static PyObject *value_of_stuck(const Builder *builder) {
+  const JiterReader *reader = &builder->reader;
+  if (builder->depth == 0 || !is_cut(builder))
+    return printed_value(builder->options, reader->bytes, reader->length);
+  PyObject *around = short_value(builder);
+  if (!around)
     return NULL;
-  if (!accepted)
-    return raise_error_of(builder, builder->options->mode, source);
-  value = builder_snapshot(builder, last);
+  PyObject *last = last_value(builder, around);
+  PyObject *value = PyErr_Occurred() ? NULL : builder_snapshot(builder, last);
   Py_XDECREF(last);
+  Py_DECREF(around);
   return value;
 }
 
 PyObject *value_so_far(Builder *builder, const Source *source) {
-  Step step = builder_run(builder, source->bytes, source->length);
-  if (step == STEP_FAILED)
+  const Options *options = builder->options;
+  PyObject *value = NULL;
+  switch (builder_run(builder, source->bytes, source->length)) {
+  case STEP_FAILED:
     return NULL;
-  if (step == STEP_STUCK)
-    return value_of_cut(builder, source);
-  if (step == STEP_REFUSED || !builder_is_at_end(builder))
-    return raise_error_of(builder, builder->options->mode, source);
-  Py_INCREF(builder->root);
-  return builder->root;
+  case STEP_STUCK:
+    value = value_of_stuck(builder);
+    break;
+  case STEP_DONE: /* in a partial mode the library doesn't read what follows the value */
+    if (options->mode != JITER_OFF || builder_is_at_end(builder)) {
+      value = builder->root;
+      Py_INCREF(value);
+    }
+    break;
+  default: /* a prefix of what is refused may be accepted */
+    value = printed_value(options, source->bytes, source->length);
+  }
+  return value || PyErr_Occurred() ? value : raise_error_of(builder, options->mode, source);
 }

@@ -4,7 +4,7 @@
 static char *names_of_loads[] = {"", "partial", "unique", "non_finite", "float", NULL};
 static char *names_of_lines[] = {"", "unique", "non_finite", "float", NULL};
 
-static PyObject *value_of_data(const Options *options, const Source *source) {
+static PyObject *value_of_bytes(const Options *options, const Source *source) {
   Builder builder;
   if (options->mode == JITER_OFF)
     return document_value(options, source);
@@ -14,18 +14,25 @@ static PyObject *value_of_data(const Options *options, const Source *source) {
   return value;
 }
 
-static PyObject *loads(PyObject *self, PyObject *args, PyObject *kwargs) {
-  Settings settings = DEFAULT_SETTINGS;
-  PyObject *object = NULL, *value = NULL;
-  Options options;
+static PyObject *value_of(const Options *options, PyObject *object) {
   Data data;
-  if (!PyArg_ParseTupleAndKeywords(args, kwargs, "O|$zppO:loads", names_of_loads, &object, &settings.partial,
-                                   &settings.unique, &settings.non_finite, &settings.make_float) ||
-      !options_of(&settings, PyModule_GetState(self), &options) || !data_of(object, &data))
-    return NULL;
-  value = value_of_data(&options, &data.source);
+  PyObject *value = is_wide_text(object) && options->mode == JITER_OFF ? wide_value(options, object) : NULL;
+  if (value || PyErr_Occurred() || !data_of(object, &data))
+    return value;
+  value = value_of_bytes(options, &data.source);
   data_release(&data);
   return value;
+}
+
+static PyObject *loads(PyObject *self, PyObject *args, PyObject *kwargs) {
+  Settings settings = DEFAULT_SETTINGS;
+  PyObject *object = NULL;
+  Options options;
+  if (!PyArg_ParseTupleAndKeywords(args, kwargs, "O|$zppO:loads", names_of_loads, &object, &settings.partial,
+                                   &settings.unique, &settings.non_finite, &settings.make_float) ||
+      !options_of(&settings, PyModule_GetState(self), &options))
+    return NULL;
+  return value_of(&options, object);
 }
 
 static PyObject *loads_lines(PyObject *self, PyObject *args, PyObject *kwargs) {
@@ -60,9 +67,10 @@ static int module_exec(PyObject *self) {
   Module *module = PyModule_GetState(self);
   PyObject *errors = PyImport_ImportModule("safelorim._error");
   module->error_type = errors ? PyObject_GetAttrString(errors, "JsonError") : NULL;
+  module->cause_of_key = errors ? PyObject_GetAttrString(errors, "cause_of_key") : NULL;
   Py_XDECREF(errors);
   module->parser_type = (PyTypeObject *)PyType_FromModuleAndSpec(self, &parser_spec, NULL);
-  if (!module->error_type || !module->parser_type)
+  if (!module->error_type || !module->cause_of_key || !module->parser_type)
     return -1;
   Py_INCREF(module->parser_type);
   if (PyModule_AddObject(self, "Parser", (PyObject *)module->parser_type) == 0)
@@ -74,6 +82,7 @@ static int module_exec(PyObject *self) {
 static int module_traverse(PyObject *self, visitproc visit, void *arg) {
   Module *module = PyModule_GetState(self);
   Py_VISIT(module->error_type);
+  Py_VISIT(module->cause_of_key);
   Py_VISIT(module->parser_type);
   return 0;
 }
@@ -83,6 +92,7 @@ static int module_clear(PyObject *self) {
   for (size_t i = 0; i < KEY_SLOTS; i++)
     Py_CLEAR(module->keys[i]);
   Py_CLEAR(module->error_type);
+  Py_CLEAR(module->cause_of_key);
   Py_CLEAR(module->parser_type);
   return 0;
 }

@@ -101,7 +101,8 @@ static bool reserve(Parser *self, size_t more) {
 static PyObject *push(Parser *self, const Source *chunk) {
   if (!reserve(self, chunk->length))
     return NULL;
-  memcpy(self->text + self->length, chunk->bytes, chunk->length);
+  if (chunk->length > 0)
+    memcpy(self->text + self->length, chunk->bytes, chunk->length);
   self->length += chunk->length;
   Py_RETURN_NONE;
 }

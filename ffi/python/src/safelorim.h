@@ -15,6 +15,7 @@
 
 typedef struct {
   PyObject *error_type;      /* safelorim.JsonError */
+  PyObject *cause_of_key;    /* a function: the cause of an error for a repeated key */
   PyTypeObject *parser_type; /* safelorim.Parser */
   PyObject *keys[KEY_SLOTS]; /* short keys of earlier objects, each in the slot that its bytes choose */
 } Module;
@@ -53,10 +54,13 @@ typedef struct {
   bool after_value;  /* whether the reader is after a value of the innermost open container, and not before one */
   PyObject *held;    /* a value that was read and is not in its container yet */
   PyObject *root;    /* the document's value, once it is complete */
+  PyObject *wide;    /* a str of which the bytes are a copy (wide.c), or NULL; borrowed */
   PyObject **items;  /* the items of all open lists */
   size_t count, capacity;
   char *room; /* where strings with an escape are decoded */
   size_t room_size;
+  PyObject *settled_text; /* the beginning of a string that isn't closed yet, or NULL */
+  size_t settled;         /* where the bytes of that beginning end */
   unsigned steps;
   size_t depth;
   Open open[NESTING_LIMIT];
@@ -84,6 +88,24 @@ bool builder_is_at_end(const Builder *builder);
  * next. Returns a new reference. */
 PyObject *builder_snapshot(const Builder *builder, PyObject *last);
 
+/* strings.c: strings that the builder reads. Each returns NULL without an exception if the reader is stuck. */
+
+/* Reads the string at the reader's position. */
+PyObject *read_string(Builder *builder, JiterReader *reader);
+/* The same at the builder's position, of a string that may go on later: what is read of it isn't read again. */
+PyObject *read_growing_string(Builder *builder);
+/* Makes room for a string that is decoded. */
+bool grow_room(Builder *builder, size_t size);
+
+/* wide.c: documents in a str that isn't ASCII. */
+
+/* The value, or NULL; then an exception is set, or the UTF-8 must be read to know more. */
+PyObject *wide_value(const Options *options, PyObject *text);
+/* Whether these bytes between quotes stand for others. */
+bool is_wide(const Builder *builder, const char *raw, size_t length);
+/* The string that they stand for. */
+PyObject *wide_string(Builder *builder, const char *raw, size_t length);
+
 /* documents.c: complete and truncated documents, and lines. */
 
 /* Bytes of a document, and how many bytes and lines of the caller's data are before them. */
@@ -95,6 +117,8 @@ typedef struct {
 } Source;
 
 PyObject *document_value(const Options *options, const Source *source);
+/* The same without a reason: NULL without an exception if the bytes are rejected. `wide` is the builder's. */
+PyObject *value_if_document(const Options *options, const Source *source, PyObject *wide);
 /* The value of the bytes so far, read in the mode of the options. */
 PyObject *value_so_far(Builder *builder, const Source *source);
 /* A list of the values of lines, and a dict of the errors by line. */
@@ -122,6 +146,7 @@ typedef struct {
 } Settings;
 #define DEFAULT_SETTINGS {NULL, 0, 0, (PyObject *)&PyFloat_Type}
 
+bool is_wide_text(PyObject *object);
 bool data_of(PyObject *object, Data *data);
 void data_release(Data *data);
 /* Borrows what the settings hold. */

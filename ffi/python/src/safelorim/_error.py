@@ -1,5 +1,7 @@
 """The exception of the module, apart from it so that the C part can import it."""
 
+import json
+
 
 class JsonError(ValueError):
     """Why a document was rejected: `kind` (a number of jiter_c.h), `index` in bytes, `line`, `column`, `cause`."""
@@ -13,3 +15,7 @@ class JsonError(ValueError):
 
 
 JsonError.__module__ = "safelorim"
+
+
+def cause_of_key(key):
+    return f"Detected duplicate key {json.dumps(key, ensure_ascii=False)}"
