@@ -32,11 +32,11 @@ use Rattle.jiter_incremental.specs.declared.reader.Awaits.TheVariants as awaits
 use Rattle.jiter_incremental.specs.declared.reader.Reader.{Reader}
 use Rattle.jiter_incremental.specs.declared.reader.Token.{Token}
 use Rattle.jiter_incremental.specs.declared.reader.Token.TheVariants as token
-use Rattle.jiter_incremental.proofs.Documents.{byte-first, known-here, closes-noted, closes-refused, follows-byte, refuses, taken-between, takes-byte, wrong-refused}
+use Rattle.jiter_incremental.proofs.Documents.{byte-first, known-any, known-here, closes-noted, closes-refused, follows-byte, refuses, taken-between, takes-byte, wrong-refused}
 use Rattle.jiter_incremental.proofs.Between.{RowIs, at-value, between-of, between-parts, item-begins, key-begins, not-both, object-array, row-item, row-key, colon-missing, goes-colon, goes-comma, goes-end}
 use Rattle.jiter_incremental.proofs.Between.{goes-missing, goes-wrong, missing-forgiven, put-left, row-comma, row-missing}
 use Rattle.jiter_incremental.proofs.Slots.{filled-same}
-use Rattle.jiter_incremental.proofs.Settling.{ahead-level, apart-read, known-any, none-slice, reads-apart, shown-nothing, steps-one}
+use Rattle.jiter_incremental.proofs.Settling.{ahead-level, apart-read, none-slice, reads-apart, shown-nothing, steps-one}
 
 zero-more : (n : ℕ) → n + 0 ≡ n
 zero-more n = omega arith

@@ -20,8 +20,8 @@ use Rattle.jiter_incremental.specs.Slot.{AwaitsPart, HasValue, IsOfKey, OpenFram
 use Rattle.jiter_incremental.specs.declared.reader.Reader.{Reader}
 use Rattle.jiter_incremental.specs.declared.reader.Token.{Token}
 use Rattle.jiter_incremental.specs.declared.reader.Token.TheVariants as token
-use Rattle.jiter_incremental.proofs.Documents.{known-as}
-use Rattle.jiter_incremental.proofs.Documents.Strings.{goes-on, is-inside, known-more, with_string}
+use Rattle.jiter_incremental.proofs.Documents.{known-in}
+use Rattle.jiter_incremental.proofs.Documents.Strings.{goes-on, is-inside, with_string}
 use Rattle.jiter_incremental.proofs.Documents.Blanks.{refuse-on}
 use Rattle.jiter_incremental.proofs.Leading.{read-counted}
 use Rattle.jiter_incremental.proofs.Over.{refuse-read}
@@ -199,8 +199,7 @@ module _ (d : Document) (t : List ℕ) (o : Opened) (s : Settled d t o) (text : 
 
       pub grown-known : Known anything d t o → Known anything e (t ++ v) o
       grown-known known =
-          known-as anything (with_string d d.string) e (t ++ v) o refl refl refl
-          (known-more anything anything d t v o (is-inside a t (inl text-apart) o s.held) known (λ u c. tt) d.string)
+          known-in anything anything d e t v o (is-inside a t (inl text-apart) o s.held) (refl, refl, refl) (λ u c. tt) known
 
 -- Plain bytes below 80 hex
 plain-each : (v : List ℕ) → Pass is_plain v → AllPass is_ascii v → Pass is_plain_ascii v

@@ -205,7 +205,7 @@ pub read-counted : (n : Next) (d : Document) (p : ℕ) (t : List ℕ) → HasRea
     → HasReadIn n (record d { position = p }) t
 read-counted n d p t h = record {
   opened = h.opened;
-  known = known-as n d (record d { position = p }) t h.opened refl refl refl h.known;
+  known = known-as n d (record d { position = p }) t h.opened (refl, refl, refl) h.known;
   held = λ unset.
       let s = h.held unset in
       record {

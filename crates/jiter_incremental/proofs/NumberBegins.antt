@@ -94,7 +94,7 @@ module _ (level : ℕ) (chunk : List ℕ) (i : Reader) (v : Tree) (h : IsHere le
               let all : HasTakenIn anything e t =
               record {
                 opened = o;
-                known = known-as anything d e t o refl refl refl b.known;
+                known = known-as anything d e t o (refl, refl, refl) b.known;
                 held = λ unset. (none, b.left);
               } in
               reads-apart anything e t all hidden (λ unset. shown-nothing e none);
@@ -126,7 +126,7 @@ module _ (level : ℕ) (chunk : List ℕ) (i : Reader) (v : Tree) (h : IsHere le
           let b = begins-there level chunk i v h none awaited other low t outer at r in
           let held = record d { value = record d.value { awaits = awaits.Value } } in
           let o = in_scalar b.0 (length t) in
-          let known = known-as (with_byte c) held d t o refl refl refl b.1.known in
+          let known = known-as (with_byte c) held d t o (refl, refl, refl) b.1.known in
           refuses (with_byte c) anything d t (c ∷ []) o kind d.position h.unset known (follows-byte c)
           (name-denied held k t c b.0 b.1 begins off)
           (record { kind = kind; index = d.position }) (noted_in d.first kind d.position) refl refl)
@@ -179,7 +179,7 @@ module _ (level : ℕ) (chunk : List ℕ) (i : Reader) (v : Tree) (h : IsHere le
             let o = in_scalar b.0 (length t) in
             let there : BeginsHere c first t b.0 =
             record {
-              known = known-as (with_byte c) was first t o refl refl refl b.1.known;
+              known = known-as (with_byte c) was first t o (refl, refl, refl) b.1.known;
               left = b.1.left;
               low = b.1.low;
               unset = b.1.unset;
@@ -188,7 +188,7 @@ module _ (level : ℕ) (chunk : List ℕ) (i : Reader) (v : Tree) (h : IsHere le
             let is = range-first chunk i.at e some within in
             let rest = slice_range chunk (i.at + 1) e in
             let all : HasTakenIn anything new (t ++ c ∷ rest) =
-            number-begins first new t c rest b.0 there record { settings = refl; fault = refl; first = refl } refl refl
+            number-begins first new t c rest b.0 there (refl, refl, refl) refl refl
             refl refl (decimal-starts c begins) (subst (HoldsNumber n) is held) in
             subst (λ m. HasTakenIn anything new (t ++ slice_range chunk i.at m)) (sym end)
             (subst (λ s. HasTakenIn anything new (t ++ s)) (sym is) all))

@@ -97,7 +97,7 @@ module _ (level : ℕ) (chunk : List ℕ) (i : Reader) (v : Tree) (h : IsApart l
           let x = number-open d t (come-here (filled outer v) t r) h.unset is in
           let minus = number-minus d t x (slice_index chunk i.at) (minus-alone d.number x.bytes x.held.0 fits.0) in
           subst (λ b. HasTakenIn anything e (t ++ b ∷ [])) (sym fits.1)
-          (name-taken d t x.frames x.begin x.known minus e record { settings = refl; fault = refl; first = refl } refl
+          (name-taken d t x.frames x.begin x.known minus e (refl, refl, refl) refl
           refl refl refl word one allowed))
 
       pub name-wrong : i.settings.allow_inf_nan ≡ false

@@ -281,5 +281,5 @@ module _ (level : ℕ) (chunk : List ℕ) (i : Reader) (v : Tree) (h : IsHere le
           let b = begins-there low t outer at r in
           let d = document i (filled outer v) in
           let held = record d { value = record d.value { awaits = awaits.Value } } in
-          word-begins held (document j (filled outer v)) k t c b.0 b.1 record { settings = refl; fault = refl; first = refl }
+          word-begins held (document j (filled outer v)) k t c b.0 b.1 (refl, refl, refl)
           refl refl refl refl (word-held k o c begins word seen) allowed starts)

@@ -6,24 +6,15 @@ use Rattle.std.proofs.lemmas.Option.{slice_get-get_or}
 use Rattle.jiter_scan.proofs.Standing.{slice-one}
 use Rattle.jiter_steps.specs.Tree.{Tree}
 use Rattle.jiter_incremental.specs.Document.{Document, HasReadIn, HasTakenIn, Holding, HoldsScalar}
-use Rattle.jiter_incremental.specs.Document.{IsMoved, Known, Next, Opened, anything, between_tokens}
+use Rattle.jiter_incremental.specs.Document.{IsMoved, Next, Opened, anything, between_tokens}
 use Rattle.jiter_incremental.specs.Document.{in_key, in_scalar, is_shown, shown_as, with_byte, with_parts}
 use Rattle.jiter_incremental.specs.Reader.{HasReadTo, IsAt, Moves, Steps, after_level, ahead, ahead_as, document, next_of}
 use Rattle.jiter_incremental.specs.Slot.{OpenFrame, filled}
+use Rattle.jiter_incremental.proofs.Documents.{known-any}
 use Rattle.jiter_incremental.specs.declared.reader.Awaits.{Awaits}
 use Rattle.jiter_incremental.specs.declared.reader.Reader.{Reader}
 use Rattle.jiter_incremental.specs.declared.reader.Token.{Token}
 use Rattle.jiter_incremental.specs.declared.reader.Token.TheVariants as token
-
--- What is known whatever comes is known of what comes.
-pub known-any : (m : Next) (d : Document) (t : List ℕ) (o : Opened) → Known anything d t o → Known m d t o
-known-any m d t o k = record {
-  mode = λ u comes. k.mode u tt;
-  strict = λ u comes. k.strict u tt;
-  ends = k.ends;
-  noted = k.noted;
-  same = k.same;
-}
 
 pub read-any : (m : Next) (d : Document) (t : List ℕ) → HasReadIn anything d t → HasReadIn m d t
 read-any m d t h = record { opened = h.opened; known = known-any m d t h.opened h.known; held = h.held }

@@ -44,7 +44,7 @@ shows-moved level i v w x n s k here on seen moved put = record {
       let is = seen (filled outer v) in
       record {
         opened = h.opened;
-        known = known-as next d e t h.opened refl refl refl h.known;
+        known = known-as next d e t h.opened (refl, refl, refl) h.known;
         held = λ unset. record {
           apart = d;
           held = h.held unset;
@@ -244,7 +244,7 @@ hides-moved level i v w y n s k here unset on taken number text = record {
       let same : e ≡ with_parts z.apart false n s e.value = ap (λ a. with_parts a false n s e.value) z.same in
       record {
         opened = h.opened;
-        known = known-as next d e t h.opened refl refl refl h.known;
+        known = known-as next d e t h.opened (refl, refl, refl) h.known;
         held = λ none.
             subst (λ a. Holding a t h.opened) (sym same)
             (subst (λ o. Holding (with_parts z.apart false n s e.value) t o) (sym x.is) held);

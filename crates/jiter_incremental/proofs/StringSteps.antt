@@ -35,8 +35,8 @@ use Rattle.jiter_incremental.specs.declared.reader.Token.{Token}
 use Rattle.jiter_incremental.specs.declared.reader.Token.TheVariants as token
 use Rattle.jiter_incremental.proofs.Arms.{turned}
 use Rattle.jiter_incremental.proofs.Between.{key-read, put-left, scalar-read}
-use Rattle.jiter_incremental.proofs.Documents.{puts, refuses}
-use Rattle.jiter_incremental.proofs.Documents.Strings.{closed-refused, index-low, is-held, key-taken, known-same}
+use Rattle.jiter_incremental.proofs.Documents.{known-as, puts, refuses}
+use Rattle.jiter_incremental.proofs.Documents.Strings.{closed-refused, index-low, is-held, key-taken}
 use Rattle.jiter_incremental.proofs.Documents.Strings.{noted-held, noted-known, noted-text}
 use Rattle.jiter_incremental.proofs.Documents.Strings.{taken-on, taken-same, whole-text, with_string, wrong-low}
 use Rattle.jiter_incremental.proofs.Documents.Strings.{wrong-refused}
@@ -167,7 +167,7 @@ text-goes level i v w k s n t outer (in_scalar fs b) here at is put known held f
     let deep = depth-of i.depth y fs held.3.2 in
     let there = put-there level i.depth v w x (text_view i.key) outer fs put at here held.3.2 held.3.3 in
     let left = put-left new x fs (deep, there) (ap after_level (sym here)) in
-    puts n anything (with_string d s) new x t (34 ∷ []) fs b (known-same n d s t (in_scalar fs b) known) follows left
+    puts n anything (with_string d s) new x t (34 ∷ []) fs b (known-as n d (with_string d s) t (in_scalar fs b) (refl, refl, refl) known) follows left
     (λ p u n m. scalar-read x p u n m fs) text
 text-goes level i v w k s n t outer (in_key fs ms b) here at is put known held follows text =
     absurd (let no : token.Text ≡ token.Key = sym is ∙ held.2 in cc)
@@ -187,7 +187,7 @@ key-goes i y k s n t (in_key fs ms b) is unset named known held follows text =
     let new = (document (after_key i k s) y).value in
     let low : b < length (t ++ 34 ∷ []) =
     omega (arith, ap length held.1.is, length-append held.1.prefix held.0, held.1.begin, length-append t (34 ∷ [])) in
-    key-taken (with_string d s) new n anything t (34 ∷ []) fs ms b u (known-same n d s t (in_key fs ms b) known) follows
+    key-taken (with_string d s) new n anything t (34 ∷ []) fs ms b u (known-as n d (with_string d s) t (in_key fs ms b) (refl, refl, refl) known) follows
     unset (held.4, tt, (held.5, held.6), sym named) low text (λ p t j e ms fs. key-read p t j e ms fs u)
 
 some-none : (f : Fault) → Some f ≡ None → ⊥
@@ -456,7 +456,7 @@ module _ (level : ℕ) (chunk : List ℕ) (i : Reader) (v : Tree) (j : Reader) (
                   let e = document x (filled outer w) in
                   let all : HasTakenIn anything e (t ++ run) =
                   refuses anything anything (with_string d s) t run c.read.opened kind index unset-so
-                  (known-same anything d s t c.read.opened c.read.known) (λ u q. tt) fails f
+                  (known-as anything d (with_string d s) t c.read.opened (refl, refl, refl) c.read.known) (λ u q. tt) fails f
                   (noted_in d.first kind index) refl refl in
                   subst (λ m. HasReadIn (ahead x chunk (m + 1)) e (t ++ slice_range chunk m (m + 1))) same-at
                   (read-any (ahead x chunk (j.at + 1)) e (t ++ run)

@@ -23,9 +23,10 @@ use Rattle.jiter_incremental.specs.declared.reader.Reader.{Reader}
 use Rattle.jiter_incremental.specs.declared.reader.Token.TheVariants as token
 use Rattle.jiter_incremental.proofs.Arms.{hidden-here}
 use Rattle.jiter_incremental.proofs.Between.{at-value, goes-colon, key-read}
+use Rattle.jiter_incremental.proofs.Documents.{follows-byte, known-in}
 use Rattle.jiter_incremental.proofs.Documents.Bytes.{takes-here}
 use Rattle.jiter_incremental.proofs.Documents.Strings.{key-taken}
-use Rattle.jiter_incremental.proofs.Documents.Tokens.{follows-here, key-token, known-on, range-after, string-begins}
+use Rattle.jiter_incremental.proofs.Documents.Tokens.{range-after, string-begins}
 use Rattle.jiter_incremental.proofs.Documents.WholeTexts.{text-follows, text-key, text-some}
 use Rattle.jiter_incremental.proofs.NumberBegins.{shown-steps}
 use Rattle.jiter_incremental.proofs.Placing.{begins-there}
@@ -92,7 +93,7 @@ module _ (level : ℕ) (chunk : List ℕ) (i : Reader) (v : Tree) (h : IsHere le
         let b = begins-there level chunk i v h none awaited other low t outer at r in
         let held = record d { value = record d.value { awaits = awaits.Value } } in
         subst (λ x. HasTakenIn anything new (t ++ x)) (sym (one-slice chunk i.at h.inside))
-        (string-begins held new t c b.0 b.1 record { settings = refl; fault = refl; first = refl } refl refl refl quote
+        (string-begins held new t c b.0 b.1 (refl, refl, refl) refl refl refl quote
         fresh))
 
     module _ (awaited : AwaitsKey level chunk i v) where
@@ -120,8 +121,7 @@ module _ (level : ℕ) (chunk : List ℕ) (i : Reader) (v : Tree) (h : IsHere le
           record {
             opened = o;
             known =
-                known-on (with_byte c) anything d e t (c ∷ []) o (key-token fs ms (length t))
-                record { settings = refl; fault = refl; first = refl } (follows-here c) a.2.known;
+                known-in (with_byte c) anything d e t (c ∷ []) o tt (refl, refl, refl) (follows-byte c) a.2.known;
             held = λ unset. (
               c ∷ [],
               record { prefix = t; is = refl; begin = refl; place = a.2.position },

@@ -7,7 +7,7 @@ use Rattle.jiter_steps.specs.StringReading.{content_at, text_form}
 use Rattle.jiter_steps.specs.Tree.{Text, string}
 use Rattle.jiter_steps.specs.declared.partial_string.PartialString.{PartialString}
 use Rattle.jiter_incremental.specs.Arrived.{owned}
-use Rattle.jiter_incremental.specs.Document.{Document, HasCome, HasTakenIn, IsIn, anything, Comes, IsReadAs, IsReading, Next, Opened, between_tokens, in_key, in_scalar}
+use Rattle.jiter_incremental.specs.Document.{Document, Comes, IsReadAs, IsReading, Next, Opened, between_tokens, in_key, in_scalar}
 use Rattle.jiter_incremental.specs.Between.{text_of}
 use Rattle.jiter_value.specs.Settings.{rules_as}
 use Rattle.jiter_incremental.specs.declared.reader.Token.{Token}
@@ -35,11 +35,3 @@ abbrev pub IsClosedAs : PartialString → Bool → Bool → Type 0
 IsClosedAs s keep answer =
     (w : List ℕ) (h : HasTaken s w) → s.escape ≡ None → Wherever w (λ t i j. slice_get t j ≡ Some ascii.quote
     → content_at (text_form keep) t i ≡ text_or answer i h.escaped s.text.text (j + 1))
-
--- one of them is unfinished
-abbrev pub IsInString : Document → Type 0
-IsInString d = IsIn d token.Text ⊎ IsIn d token.Key
-
--- A document that took the bytes w, which its position does not count yet
-abbrev pub Takes : Document → Document → List ℕ → Type 0
-Takes old new w = (t : List ℕ) → HasCome old t → HasTakenIn anything new (t ++ w)
