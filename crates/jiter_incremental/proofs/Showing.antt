@@ -162,12 +162,20 @@ key-on : (k : Text) (f : OpenFrame) (fs : List OpenFrame) → IsOfKey k (f ∷ [
 key-on k (items_frame xs) fs of = tt
 key-on k (members_frame ms l) fs of = of
 
-stands-part : (level depth : ℕ) (v x : Tree) (outer fs : List OpenFrame) → 0 < level → depth ≡ level → IsAt level outer
+pub stands-part : (level depth : ℕ) (v x : Tree) (outer fs : List OpenFrame) → 0 < level → depth ≡ level → IsAt level outer
     → HasValue depth (filled outer v) fs x → (f : OpenFrame) × (fs ≡ f ∷ outer) × (v ≡ around f x)
 stands-part level depth v x outer [] some here at h = absurd (omega (arith, some, here, h.0))
 stands-part level depth v x outer (f ∷ gs) some here at h =
     let same = filled-same outer gs v (around f x) (omega (arith, some, here, at, h.0)) h.1 in
     (f, ap (λ hs. f ∷ hs) (sym same.0), same.1)
+
+pub stands-root : (level depth : ℕ) (v x : Tree) (outer fs : List OpenFrame) → level ≡ 0 → depth ≡ level
+    → IsAt level outer → HasValue depth (filled outer v) fs x → v ≡ x
+stands-root level depth v x outer [] none here at h = by outer (omega (arith, at, none)) h.1 where
+  by : (gs : List OpenFrame) → length gs ≡ 0 → filled gs v ≡ x → v ≡ x
+  by [] e is = is
+  by (g ∷ gs) e is = absurd (omega (arith, e))
+stands-root level depth v x outer (f ∷ gs) none here at h = absurd (omega (arith, none, here, h.0))
 
 -- and is taken out of it, so that it is awaited again.
 pub record FreeAgain (y x : Tree) (depth : ℕ) (w : Tree) (k : Text) (fs : List OpenFrame) : Type 0 where
@@ -179,11 +187,8 @@ free-again : (level depth : ℕ) (v x y w : Tree) (k : Text) (outer fs : List Op
     → IsAt level outer → HasValue depth (filled outer v) fs x → IsTaken level v y w k → FreeAgain y x depth (filled outer w) k fs
 free-again level depth v x y w k outer [] here at h taken =
     let none : level ≡ 0 = omega (arith, here, h.0) in
-    record { is = taken.root none ∙ by outer (omega (arith, at, none)) h.1; part = h.0; key = tt }
-  where
-    by : (gs : List OpenFrame) → length gs ≡ 0 → filled gs v ≡ x → v ≡ x
-    by [] e is = is
-    by (g ∷ gs) e is = absurd (omega (arith, e))
+    let is = taken.root none ∙ stands-root level depth v x outer [] none here at h in
+    record { is = is; part = h.0; key = tt }
 free-again level depth v x y w k outer (f ∷ gs) here at h taken =
     let some : 0 < level = omega (arith, here, h.0) in
     let same = filled-same outer gs v (around f x) (omega (arith, some, here, at, h.0)) h.1 in
