@@ -31,7 +31,7 @@ use Rattle.jiter_incremental.specs.Document.{Document, HasArrived, HasCome, IsMo
 use Rattle.jiter_incremental.specs.Document.{Opened, ReadsAt, Settled, anything, between_tokens, by_mode, in_key, in_scalar}
 use Rattle.jiter_incremental.specs.Document.{is_shown, opened_to}
 use Rattle.jiter_incremental.specs.Document.{shown_as, strict, strictly, token_tree}
-use Rattle.jiter_incremental.specs.Ends.{AnswersSo, IsEndFault, IsInside, KeepsText, broken_as, is_broken, kind_as}
+use Rattle.jiter_incremental.specs.Ends.{AnswersSo, IsEndFault, IsInside, KeepsText, broken_as, is_broken}
 use Rattle.jiter_incremental.specs.Ends.{kind_at_end, so_far}
 use Rattle.jiter_incremental.specs.Slot.{OpenFrame, filled}
 use Rattle.jiter_value.specs.Settings.{rules_as}
@@ -42,7 +42,7 @@ use Rattle.jiter_incremental.specs.declared.reader.Token.TheVariants as token
 use Rattle.jiter_value.specs.declared.settings.Settings.{Settings}
 use Rattle.jiter_value.specs.declared.value.JsonValue.{JsonValue}
 use Rattle.jiter_incremental.proofs.Documents.{known-as}
-use Rattle.jiter_incremental.proofs.Documents.Ends.{broken-answered, broken-low, none-answered}
+use Rattle.jiter_incremental.proofs.Documents.Ends.{broken-answered, broken-low, kind-whole, none-answered}
 use Rattle.jiter_incremental.proofs.Documents.Ends.{nothing-comes, partial-answers, strict-answers, value-answered}
 use Rattle.jiter_incremental.proofs.Innermost.{inside-of, utf8-of}
 use Rattle.jiter_incremental.proofs.Settling.{shown-key, shown-nothing}
@@ -129,11 +129,6 @@ inside-after depth v x (items_frame xs ∷ fs) r deep is none some =
 inside-after depth v x (members_frame ms k ∷ fs) r deep is none some =
     let deeper : depth ≡ length fs + 1 = omega (arith, deep) in
     some shape.Object (record { parts = ms ++ (k, x) ∷ []; outer = fs; deep = deeper; is = is })
-
-kind-whole : (d : Document) (fs : List OpenFrame) (b : ℕ) → d.token ≡ token.Number → is_whole d.number.stage ≡ true
-    → kind_at_end d (in_scalar fs b) ≡ end_of (after_value (token_tree d token.Number) fs)
-kind-whole d fs b is sure =
-    ap (λ k. kind_as d k (in_scalar fs b)) is ∙ if-true (is_whole d.number.stage) _ _ sure
 
 -- A number may be whole there.
 pub number-ends : (d : Document) (t : List ℕ) (o : Opened) (s : Settled d t o) (r : Option FaultKind)

@@ -42,14 +42,14 @@ use Rattle.jiter_incremental.specs.declared.reader.Awaits.TheVariants as awaits
 use Rattle.jiter_value.specs.declared.settings.Settings.{Settings}
 
 -- A fault of the prefix is the text's answer.
-pub fault-answers : (p : Settings) (t : List ℕ) (k : Kind) (i stop : ℕ)
+pub prefix-fault : (p : Settings) (t : List ℕ) (k : Kind) (i stop : ℕ)
     → prefix_answer (rules_as owned p) t ≡ fault k i stop → answer_as owned p t ≡ fault k i stop
-fault-answers p t k i stop h =
+prefix-fault p t k i stop h =
     let r = rules_as owned p in
     if_case (λ x. x ≡ fault k i stop) (is_active p.mode) _ _ (λ on. h) (λ off. whole-is r t ∙ ap (to_end t) h)
 
 faulty-answers : (p : Settings) (t : List ℕ) (k : Kind) (i : ℕ) → IsFaulty p t k i → IsAnswered p t k i
-faulty-answers p t k i h = (h.0, fault-answers p t k i h.0 h.1)
+faulty-answers p t k i h = (h.0, prefix-fault p t k i h.0 h.1)
 
 -- A fault that is there is one of the first faults.
 pub noted-some : (x : Option Fault) (k : FaultKind) (i : ℕ) → noted_in x k i ≡ None → ⊥
@@ -148,12 +148,18 @@ module _ (n m : Next) (d : Document) (t w : List ℕ) (o o' : Opened) (k : Known
     -- They are refused for good.
     pub known-refused : (kind : FaultKind) (i : ℕ) → d.fault ≡ None
         → ((p : Settings) (u : List ℕ) → IsReading d p → Comes m u → IsAnswered p ((t ++ w) ++ u) (fault_kind kind) i)
-        → (f : Fault) (first : Option Fault) → f ≡ record { kind = kind; index = i } → first ≡ noted_in d.first f.kind f.index
-        → HasTakenIn m (record d { fault = Some f; first = first }) (t ++ w)
-    known-refused kind i unset fails f first is noted =
-        let named = noted ∙ ap (λ (x : Fault). noted_in d.first x.kind x.index) is in
-        let so = subst (λ x. HasTakenIn m (record d { fault = Some x; first = noted_in d.first kind i }) (t ++ w)) (sym is) all in
-        subst (λ x. HasTakenIn m (record d { fault = Some f; first = x }) (t ++ w)) (sym named) so
+        → HasTakenIn m (record d { fault = Some (record { kind = kind; index = i }); first = noted_in d.first kind i }) (t ++ w)
+    known-refused kind i unset fails =
+        record {
+          opened = o';
+          known = record {
+            reads = by;
+            ends = λ none. absurd (noted-some d.first kind i none);
+            noted = λ none. absurd (noted-some d.first kind i none);
+            same = λ off none. absurd (none-some found (sym none));
+          };
+          held = λ none. absurd (none-some found (sym none));
+        }
       where
         found : Fault
         found = record { kind = kind; index = i }
@@ -168,18 +174,6 @@ module _ (n m : Next) (d : Document) (t w : List ℕ) (o o' : Opened) (k : Known
             reads-fault (strictly d.settings) n m t w o o' follows d.first kind i (k.reads strict)
             (λ none u comes. fails (strictly d.settings) u (strict, refl, none) comes) u comes
 
-        all : HasTakenIn m new (t ++ w)
-        all = record {
-          opened = o';
-          known = record {
-            reads = by;
-            ends = λ none. absurd (noted-some d.first kind i none);
-            noted = λ none. absurd (noted-some d.first kind i none);
-            same = λ off none. absurd (none-some found (sym none));
-          };
-          held = λ none. absurd (none-some found (sym none));
-        }
-
 -- what a text that is refused leaves open
 abbrev pub left_open : Opened
 left_open = between_tokens (at_value awaits.Value [])
@@ -187,21 +181,19 @@ left_open = between_tokens (at_value awaits.Value [])
 -- The bytes w are refused where each text of them answers that;
 pub ended : (n m : Next) (d : Document) (t w : List ℕ) (o : Opened) (kind : FaultKind) (i : ℕ) → d.fault ≡ None
     → Known n d t o → Follows n w m → IsEnded d m (t ++ w) (fault_kind kind) i
-    → (f : Fault) (first : Option Fault) → f ≡ record { kind = kind; index = i } → first ≡ noted_in d.first f.kind f.index
-    → HasTakenIn m (record d { fault = Some f; first = first }) (t ++ w)
+    → HasTakenIn m (record d { fault = Some (record { kind = kind; index = i }); first = noted_in d.first kind i }) (t ++ w)
 ended n m d t w o kind i unset k follows fails = known-refused n m d t w o left_open k follows kind i unset fails
 
 -- also where it is the fault of what was read so far.
 pub refuses : (n m : Next) (d : Document) (t w : List ℕ) (o : Opened) (kind : FaultKind) (i : ℕ) → d.fault ≡ None
     → Known n d t o → Follows n w m → IsRefused d m (t ++ w) (fault_kind kind) i
-    → (f : Fault) (first : Option Fault) → f ≡ record { kind = kind; index = i } → first ≡ noted_in d.first f.kind f.index
-    → HasTakenIn m (record d { fault = Some f; first = first }) (t ++ w)
+    → HasTakenIn m (record d { fault = Some (record { kind = kind; index = i }); first = noted_in d.first kind i }) (t ++ w)
 refuses n m d t w o kind i unset k follows fails =
     ended n m d t w o kind i unset k follows
     (λ p u reading comes. faulty-answers p ((t ++ w) ++ u) (fault_kind kind) i (fails p u reading comes))
 
 -- After a value nothing but what stands there is missing.
-ends-after : (t : List ℕ) (x : Tree) (fs : List OpenFrame) → EndsRight t (between_tokens (after_value x fs))
+pub ends-after : (t : List ℕ) (x : Tree) (fs : List OpenFrame) → EndsRight t (between_tokens (after_value x fs))
 ends-after t x [] = (omega arith, λ u. let same : length t - 0 ≡ length t = omega arith in ap (past_blanks (t ++ u)) same)
 ends-after t x (items_frame xs ∷ fs) = tt
 ends-after t x (members_frame ms k ∷ fs) = tt

@@ -18,7 +18,7 @@ use Rattle.jiter_incremental.specs.declared.reader.Token.{Token}
 use Rattle.jiter_incremental.specs.declared.reader.Token.TheVariants as token
 use Rattle.jiter_incremental.proofs.Documents.{known-in}
 use Rattle.jiter_incremental.proofs.Documents.Strings.{goes-on, is-inside, with_string}
-use Rattle.jiter_incremental.proofs.Settling.{read-any}
+use Rattle.jiter_incremental.proofs.Settling.{moves-here, read-any}
 use Rattle.jiter_incremental.proofs.Showing.{stands-part, stands-root}
 use Rattle.jiter_incremental.proofs.StringSteps.{ahead-string}
 
@@ -180,12 +180,5 @@ module _ (level : ℕ) (chunk : List ℕ) (i : Reader) (v : Tree) (h : IsHere le
         } in
         read-any (ahead i chunk (i.at + n)) e (t ++ bytes) read;
     moves =
-        record {
-          within = run.within;
-          some = inl some;
-          still = (refl, refl, refl);
-          depth = (omega (arith, h.here), omega (arith, h.here));
-          low = omega (arith, h.here, h.low);
-          deeper = λ more. absurd (omega (arith, h.here, more));
-        };
+        moves-here level chunk i h.here h.low i n some run.within (refl, refl, refl) refl;
   }

@@ -1,6 +1,7 @@
 -- A document whose unfinished scalar is in the value so far, or apart from it.
 use Rattle.std.proofs.Common.{◌≡◌, ℕ, zero, suc, ◌+◌, ◌-◌, ◌<◌, Bool, false, List, [], ◌∷◌, ◌++◌, length, take, drop, get_or, refl, sym, subst, ap, ◌∙◌}
-use Rattle.std.proofs.Common.{arith}
+use Rattle.std.proofs.Common.{◌≤◌, arith, inl}
+use Rattle.jiter_steps.specs.Node.{nesting_limit}
 use Rattle.std.specs.Prelude.{slice_index, slice_range, None}
 use Rattle.std.proofs.lemmas.Option.{slice_get-get_or}
 use Rattle.jiter_scan.proofs.Standing.{slice-one}
@@ -8,7 +9,7 @@ use Rattle.jiter_steps.specs.Tree.{Tree}
 use Rattle.jiter_incremental.specs.Document.{Document, HasReadIn, HasTakenIn, Holding, HoldsScalar}
 use Rattle.jiter_incremental.specs.Document.{IsMoved, Next, Opened, anything, between_tokens}
 use Rattle.jiter_incremental.specs.Document.{in_key, in_scalar, is_shown, shown_as, with_byte, with_parts}
-use Rattle.jiter_incremental.specs.Reader.{HasReadTo, IsAt, Moves, Steps, after_level, ahead, ahead_as, document, next_of}
+use Rattle.jiter_incremental.specs.Reader.{HasReadTo, IsAt, IsStill, Moves, Steps, after_level, ahead, ahead_as, document, next_of}
 use Rattle.jiter_incremental.specs.Slot.{OpenFrame, filled}
 use Rattle.jiter_incremental.proofs.Documents.{known-any}
 use Rattle.jiter_incremental.specs.declared.reader.Awaits.{Awaits}
@@ -91,6 +92,22 @@ apart-read n d t h hidden = record {
 -- One byte is taken.
 pub one-slice : (chunk : List ℕ) (at : ℕ) → at < length chunk → slice_range chunk at (at + 1) ≡ slice_index chunk at ∷ []
 one-slice chunk at within = slice-one chunk at (get_or chunk at 0) (slice_get-get_or chunk at 0 within)
+
+-- The same container is open after them.
+module _ (level : ℕ) (chunk : List ℕ) (i : Reader) (here : i.depth ≡ level) (low : level ≤ nesting_limit + 1) where
+  pub moves-here : (j : Reader) (n : ℕ) → 0 < n → i.at + n ≤ length chunk → IsStill i j → j.depth ≡ i.depth
+      → Moves level chunk i j n
+  moves-here j n some within still depth = record {
+    within = within;
+    some = inl some;
+    still = still;
+    depth = (omega (arith, here, depth), omega (arith, here, depth));
+    low = omega (arith, here, low, depth);
+    deeper = λ more. absurd (omega (arith, here, depth, more));
+  }
+
+  pub moves-one : (j : Reader) → i.at < length chunk → IsStill i j → j.depth ≡ i.depth → Moves level chunk i j 1
+  moves-one j inside still depth = moves-here j 1 (omega arith) (omega (arith, inside)) still depth
 
 module _ (level : ℕ) (chunk : List ℕ) (i : Reader) (v : Tree) (j : Reader) (w : Tree) where
   -- The next byte is taken,

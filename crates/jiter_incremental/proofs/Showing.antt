@@ -26,7 +26,7 @@ use Rattle.jiter_incremental.specs.declared.reader.Reader.{Reader}
 use Rattle.jiter_incremental.specs.declared.reader.Token.{Token}
 use Rattle.jiter_incremental.specs.declared.reader.Token.TheVariants as token
 use Rattle.jiter_incremental.proofs.Documents.{known-as}
-use Rattle.jiter_incremental.proofs.Leading.{open-settled}
+use Rattle.jiter_incremental.proofs.Leading.{moved-key, moved-nothing, open-settled}
 use Rattle.jiter_incremental.proofs.Placing.{depth-of, put-there}
 use Rattle.jiter_incremental.proofs.Settling.{reads-apart}
 use Rattle.jiter_incremental.proofs.Slots.{filled-same}
@@ -71,23 +71,6 @@ pub shows-none : (level : ℕ) (i : Reader) (v : Tree) → i.shown ≡ false →
 shows-none level i v hidden off = record {
   goes = λ next t outer at h. reads-apart next (document i (filled outer v)) t h hidden (λ unset. off (filled outer v));
 }
-
--- What was moved is no key, and no token is finished.
-moved-nothing : (k : Token) (d : Document) (n : PartialNumber) (s : PartialString) (x : Tree) → HasMoved k d n s x
-    → k ≡ token.Nothing → ⊥
-moved-nothing token.Nothing d n s x h is = h
-moved-nothing token.Word d n s x h is = h
-moved-nothing token.Number d n s x h is = cc
-moved-nothing token.Text d n s x h is = cc
-moved-nothing token.Key d n s x h is = h
-
-moved-key : (k : Token) (d : Document) (n : PartialNumber) (s : PartialString) (x : Tree) → HasMoved k d n s x
-    → k ≡ token.Key → ⊥
-moved-key token.Nothing d n s x h is = h
-moved-key token.Word d n s x h is = h
-moved-key token.Number d n s x h is = cc
-moved-key token.Text d n s x h is = cc
-moved-key token.Key d n s x h is = h
 
 -- a scalar that is unfinished
 pub record InScalar (d : Document) (t : List ℕ) (o : Opened) : Type 0 where

@@ -12,12 +12,9 @@ use Rattle.jiter_steps.specs.Blank.{is_blank, past_blanks}
 use Rattle.jiter_steps.proofs.Grammar.Blanks.{no_blank-after, past_blanks-bound}
 use Rattle.jiter_incremental.specs.Between.{IsScalarStart}
 use Rattle.jiter_incremental.specs.Document.{Document, HasTakenIn, Holding, HoldsScalar, MayRefuseAt, Opened, anything, between_tokens, in_key, in_scalar, with_byte}
-use Rattle.jiter_incremental.specs.Names.{name_start}
-use Rattle.jiter_incremental.specs.declared.names.Name.{Name}
-use Rattle.jiter_incremental.specs.declared.names.Name.TheVariants as name
 use Rattle.jiter_incremental.specs.declared.reader.Token.{Token}
 use Rattle.jiter_incremental.specs.declared.reader.Token.TheVariants as token
-use Rattle.jiter_incremental.proofs.Documents.Ends.{no-blank}
+use Rattle.jiter_incremental.proofs.Documents.Ends.{name-starts, no-blank}
 use Rattle.jiter_incremental.proofs.Documents.{byte-first, known-any, taken-between, takes-byte}
 use Rattle.jiter_incremental.proofs.Between.{goes-blank}
 
@@ -108,10 +105,6 @@ refuse-on s r i h =
     record { begun = omega (arith, h.begun); before = omega (arith, h.before, length-append s r) }
 
 -- a token begins with a byte that is no blank
-name-starts : (k : Name) → IsScalarStart (name_start k)
-name-starts (name.Literal l) = tt
-name-starts other = tt
-
 scalar-begins : (d : Document) (k : Token) (w : List ℕ) → HoldsScalar d k w
     → (c : ℕ) × (rest : List ℕ) × (w ≡ c ∷ rest) × (is_blank c ≡ false)
 scalar-begins d token.Word w h =
