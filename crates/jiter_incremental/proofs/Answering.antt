@@ -27,11 +27,11 @@ use Rattle.jiter_steps.proofs.OpenTexts.{is_text-broken, is_text-kept}
 use Rattle.jiter_incremental.specs.Arrived.{Arrived, IsLeft, OpenValue, at_end, at_value, between_parts, end_of, owned}
 use Rattle.jiter_incremental.specs.Arrived.{shown}
 use Rattle.jiter_incremental.specs.Between.{after_value}
-use Rattle.jiter_incremental.specs.Document.{Comes, Document, EndsRight, HasArrived, HasCome, IsMoved, Known}
-use Rattle.jiter_incremental.specs.Document.{Opened, ReadsAt, Settled, anything, between_tokens, in_key, in_scalar}
+use Rattle.jiter_incremental.specs.Document.{Document, HasArrived, HasCome, IsMoved, Known}
+use Rattle.jiter_incremental.specs.Document.{Opened, ReadsAt, Settled, anything, between_tokens, by_mode, in_key, in_scalar}
 use Rattle.jiter_incremental.specs.Document.{is_shown, opened_to}
-use Rattle.jiter_incremental.specs.Document.{shown_as, strictly, token_tree}
-use Rattle.jiter_incremental.specs.Ends.{AnswersSo, IsEndFault, IsInside, KeepsText, broken_as, is_broken, kind_as}
+use Rattle.jiter_incremental.specs.Document.{shown_as, strict, strictly, token_tree}
+use Rattle.jiter_incremental.specs.Ends.{AnswersSo, IsEndFault, IsInside, KeepsText, broken_as, is_broken}
 use Rattle.jiter_incremental.specs.Ends.{kind_at_end, so_far}
 use Rattle.jiter_incremental.specs.Slot.{OpenFrame, filled}
 use Rattle.jiter_value.specs.Settings.{rules_as}
@@ -41,7 +41,8 @@ use Rattle.jiter_incremental.specs.declared.reader.Token.{Token}
 use Rattle.jiter_incremental.specs.declared.reader.Token.TheVariants as token
 use Rattle.jiter_value.specs.declared.settings.Settings.{Settings}
 use Rattle.jiter_value.specs.declared.value.JsonValue.{JsonValue}
-use Rattle.jiter_incremental.proofs.Documents.Ends.{broken-answered, broken-low, none-answered}
+use Rattle.jiter_incremental.proofs.Documents.{known-as}
+use Rattle.jiter_incremental.proofs.Documents.Ends.{broken-answered, broken-low, kind-whole, none-answered}
 use Rattle.jiter_incremental.proofs.Documents.Ends.{nothing-comes, partial-answers, strict-answers, value-answered}
 use Rattle.jiter_incremental.proofs.Innermost.{inside-of, utf8-of}
 use Rattle.jiter_incremental.proofs.Settling.{shown-key, shown-nothing}
@@ -129,11 +130,6 @@ inside-after depth v x (members_frame ms k ∷ fs) r deep is none some =
     let deeper : depth ≡ length fs + 1 = omega (arith, deep) in
     some shape.Object (record { parts = ms ++ (k, x) ∷ []; outer = fs; deep = deeper; is = is })
 
-kind-whole : (d : Document) (fs : List OpenFrame) (b : ℕ) → d.token ≡ token.Number → is_whole d.number.stage ≡ true
-    → kind_at_end d (in_scalar fs b) ≡ end_of (after_value (token_tree d token.Number) fs)
-kind-whole d fs b is sure =
-    ap (λ k. kind_as d k (in_scalar fs b)) is ∙ if-true (is_whole d.number.stage) _ _ sure
-
 -- A number may be whole there.
 pub number-ends : (d : Document) (t : List ℕ) (o : Opened) (s : Settled d t o) (r : Option FaultKind)
     → d.token ≡ token.Number → is_whole d.number.stage ≡ true → (d.value.depth ≡ 0 → r ≡ None)
@@ -184,7 +180,7 @@ strict-told d t h none r end =
     let k = h.read.known in
     let s = h.read.held (k.noted none) in
     let p = strictly d.settings in
-    let led = nothing-comes p t o (subst (λ f. ReadsAt p t [] f o) none (k.strict [] tt)) in
+    let led = nothing-comes p t o (subst (λ f. ReadsAt p t [] f o) none (k.reads strict [] tt)) in
     let same = settings-are d t o s in
     let place = position-is d t o s in
     root-told p t r (shown (so_far s.apart o)) d.value.tree (root-so d t o s)
@@ -293,21 +289,15 @@ module _ (d : Document) (t : List ℕ) (h : HasArrived d t) (unset : d.fault ≡
   led : prefix_answer (rules_as owned e.settings) t ≡ opened_to e.settings t o (length t)
   led =
       subst (λ q. prefix_answer (rules_as owned q) t ≡ opened_to q t o (length t)) (settings-are d t o settled)
-      (nothing-comes d.settings t o (subst (λ f. ReadsAt d.settings t [] f o) unset (h.read.known.mode [] tt)))
+      (nothing-comes d.settings t o (subst (λ f. ReadsAt d.settings t [] f o) unset (h.read.known.reads by_mode [] tt)))
 
   known-apart : Known anything e t o
   known-apart =
-      let k = h.read.known in
-      let same = settled.same in
-      record {
-        mode = subst (λ (x : Document). (u : List ℕ) → Comes anything u → ReadsAt x.settings t u x.fault o) same k.mode;
-        strict = subst (λ (x : Document). (u : List ℕ) → Comes anything u → ReadsAt (strictly x.settings) t u x.first o)
-            same k.strict;
-        ends = subst (λ (x : Document). x.first ≡ None → EndsRight t o) same k.ends;
-        noted = subst (λ (x : Document). x.first ≡ None → x.fault ≡ None) same k.noted;
-        same = subst (λ (x : Document). is_active x.settings.mode ≡ false → x.fault ≡ None → x.first ≡ None)
-            same k.same;
-      }
+      known-as anything d e t o (
+        sym (settings-are d t o settled),
+        sym (ap (λ (x : Document). x.fault) settled.same),
+        sym (ap (λ (x : Document). x.first) settled.same),
+      ) h.read.known
 
   come-apart : HasCome e t
   come-apart = record {

@@ -24,7 +24,7 @@ use Rattle.jiter_steps.specs.Tree.{Text, Tree}
 use Rattle.jiter_incremental.specs.Arrived.{Arrived, IsBeforeValue, IsBetweenParts, IsLeft, OpenValue, at_value, at_end, between_parts}
 use Rattle.jiter_incremental.specs.Between.{ClosesBefore, Everywhere, IsAfter, IsBeforePart, TakesByte, completed}
 use Rattle.jiter_incremental.specs.Document.{Document, HasReadIn, HasTakenIn, Known, Next, Opened, IsRefused, StandsAt, anything, between_tokens, in_key}
-use Rattle.jiter_incremental.specs.Document.{noted_in, with_byte}
+use Rattle.jiter_incremental.specs.Document.{with_byte}
 use Rattle.jiter_incremental.specs.Reader.{AwaitsKey, AwaitsValue, HasReadTo, IsAt, IsHere, IsStill, KeyHere, ValueHere, Moves, Steps, ahead, ahead_as, document, next_of, noted, refused, after_level}
 use Rattle.jiter_incremental.specs.Slot.{OpenFrame, filled}
 use Rattle.jiter_incremental.specs.declared.reader.Awaits.{Awaits}
@@ -32,11 +32,11 @@ use Rattle.jiter_incremental.specs.declared.reader.Awaits.TheVariants as awaits
 use Rattle.jiter_incremental.specs.declared.reader.Reader.{Reader}
 use Rattle.jiter_incremental.specs.declared.reader.Token.{Token}
 use Rattle.jiter_incremental.specs.declared.reader.Token.TheVariants as token
-use Rattle.jiter_incremental.proofs.Documents.{byte-first, known-here, closes-noted, closes-refused, follows-byte, refuses, taken-between, takes-byte, wrong-refused}
+use Rattle.jiter_incremental.proofs.Documents.{byte-first, known-any, known-here, closes-noted, closes-refused, follows-byte, refuses, taken-between, takes-byte, wrong-refused}
 use Rattle.jiter_incremental.proofs.Between.{RowIs, at-value, between-of, between-parts, item-begins, key-begins, not-both, object-array, row-item, row-key, colon-missing, goes-colon, goes-comma, goes-end}
 use Rattle.jiter_incremental.proofs.Between.{goes-missing, goes-wrong, missing-forgiven, put-left, row-comma, row-missing}
 use Rattle.jiter_incremental.proofs.Slots.{filled-same}
-use Rattle.jiter_incremental.proofs.Settling.{ahead-level, apart-read, known-any, none-slice, reads-apart, shown-nothing, steps-one}
+use Rattle.jiter_incremental.proofs.Settling.{ahead-level, apart-read, moves-one, none-slice, reads-apart, shown-nothing, steps-one}
 
 zero-more : (n : ℕ) → n + 0 ≡ n
 zero-more n = omega arith
@@ -137,16 +137,7 @@ module _ (level : ℕ) (chunk : List ℕ) (i : Reader) (v : Tree) (h : IsHere le
         → Steps level chunk i v (refused i kind (i.base + i.at)) v 1
     byte-refused kind fails =
         let j = refused i kind (i.base + i.at) in
-        let moves : Moves level chunk i j 1 =
-        record {
-          within = omega (arith, h.inside);
-          some = inl (omega arith);
-          still = (refl, refl, refl);
-          depth = (omega (arith, h.here), omega (arith, h.here));
-          low = omega (arith, h.here, h.low);
-          deeper = λ more. absurd (omega (arith, h.here, more));
-        } in
-        steps-one level chunk i v j v h.inside moves hidden-here (λ x unset. shown-nothing (document j x) none)
+        steps-one level chunk i v j v h.inside (moves-one level chunk i h.here h.low j h.inside (refl, refl, refl) refl) hidden-here (λ x unset. shown-nothing (document j x) none)
         (λ t outer at r.
         let x = filled outer v in
         let d = document i x in
@@ -154,8 +145,7 @@ module _ (level : ℕ) (chunk : List ℕ) (i : Reader) (v : Tree) (h : IsHere le
         let stands : StandsAt c d t b.state =
         record { known = b.known; token = none; unset = h.unset; position = r.position } in
         refuses (with_byte c) anything d t (c ∷ []) (between_tokens b.state) kind d.position h.unset b.known
-        (follows-byte c) (fails t outer at b.state stands b.left)
-        (record { kind = kind; index = d.position }) (noted_in d.first kind d.position) refl refl)
+        (follows-byte c) (fails t outer at b.state stands b.left))
 
     -- where it is an error whatever comes.
     pub byte-wrong : (kind : FaultKind) → ((outer : List OpenFrame) → IsAt level outer → (s : Arrived)
@@ -485,16 +475,7 @@ module _ (level : ℕ) (chunk : List ℕ) (i : Reader) (v : Tree) (h : IsHere le
         → HasTakenIn anything (document j x) (t ++ b ∷ []))
         → Steps level chunk i v j v 1
     trailed j root after other still same taken =
-        let moves : Moves level chunk i j 1 =
-        record {
-          within = omega (arith, h.inside);
-          some = inl (omega arith);
-          still = still;
-          depth = (omega (arith, h.here, same.0), omega (arith, h.here, same.0));
-          low = omega (arith, h.here, h.low, same.0);
-          deeper = λ more. absurd (omega (arith, h.here, same.0, more));
-        } in
-        steps-one level chunk i v j v h.inside moves (same.2 ∙ hidden-here)
+        steps-one level chunk i v j v h.inside (moves-one level chunk i h.here h.low j h.inside still same.0) (same.2 ∙ hidden-here)
         (λ x unset. shown-nothing (document j x) (same.1 ∙ none))
         (λ t outer at r.
         let x = filled outer v in

@@ -26,10 +26,11 @@ use Rattle.jiter_steps.specs.Frames.{items_frame, members_frame, value_from, val
 use Rattle.jiter_steps.specs.Read.{done, fault, prefix_answer, if_last, to_end, whole_answer}
 use Rattle.jiter_steps.specs.Tree.{Tree}
 use Rattle.jiter_steps.specs.PartialString.{HasTaken}
+use Rattle.jiter_steps.specs.Node.{nesting_limit}
 use Rattle.jiter_steps.specs.declared.parse.ContainerKind.{ContainerKind}
 use Rattle.jiter_incremental.specs.Arrived.{Arrived, HasRead, IsBeforeValue, IsBetweenParts, IsLeft, OpenValue, at_end, at_value, between_parts, owned}
-use Rattle.jiter_incremental.specs.Between.{BeginsItem, BeginsScalar, ClosesBefore, EndsHere, Everywhere, TakesByte, after_value, completed, passed}
-use Rattle.jiter_incremental.specs.Document.{BeginsAs, BeginsHere, Comes, Document, EndsRight, Follows, HasCome, HasTakenIn, Holding, HoldsScalar, HoldsWord, IsAllowed, IsAnswered, IsEnded, IsFaulty, IsOver, IsReadAs, IsReading, IsRefused, Known, Next, Opened, ReadsAt, StandsAt, anything, between_tokens, in_key, in_scalar, noted_in, opened_to, strictly, with_byte, with_first}
+use Rattle.jiter_incremental.specs.Between.{BeginsItem, ClosesBefore, EndsHere, Everywhere, TakesByte, after_value, completed, passed}
+use Rattle.jiter_incremental.specs.Document.{BeginsAs, BeginsHere, Comes, Document, EndsRight, Follows, HasCome, HasTakenIn, Holding, HoldsScalar, HoldsWord, IsAllowed, IsAnswered, IsEnded, IsFaulty, IsOver, IsReadAs, IsReading, IsRefused, Known, Next, Opened, ReadsAt, Strictness, by_mode, fault_by, settings_by, strict, StandsAt, anything, between_tokens, in_key, in_scalar, noted_in, opened_to, strictly, with_byte, with_first}
 use Rattle.jiter_incremental.specs.Names.{name_start}
 use Rattle.jiter_incremental.specs.Slot.{OpenFrame}
 use Rattle.jiter_value.specs.Settings.{answer_as, rules_as}
@@ -41,14 +42,14 @@ use Rattle.jiter_incremental.specs.declared.reader.Awaits.TheVariants as awaits
 use Rattle.jiter_value.specs.declared.settings.Settings.{Settings}
 
 -- A fault of the prefix is the text's answer.
-pub fault-answers : (p : Settings) (t : List ℕ) (k : Kind) (i stop : ℕ)
+pub prefix-fault : (p : Settings) (t : List ℕ) (k : Kind) (i stop : ℕ)
     → prefix_answer (rules_as owned p) t ≡ fault k i stop → answer_as owned p t ≡ fault k i stop
-fault-answers p t k i stop h =
+prefix-fault p t k i stop h =
     let r = rules_as owned p in
     if_case (λ x. x ≡ fault k i stop) (is_active p.mode) _ _ (λ on. h) (λ off. whole-is r t ∙ ap (to_end t) h)
 
 faulty-answers : (p : Settings) (t : List ℕ) (k : Kind) (i : ℕ) → IsFaulty p t k i → IsAnswered p t k i
-faulty-answers p t k i h = (h.0, fault-answers p t k i h.0 h.1)
+faulty-answers p t k i h = (h.0, prefix-fault p t k i h.0 h.1)
 
 -- A fault that is there is one of the first faults.
 pub noted-some : (x : Option Fault) (k : FaultKind) (i : ℕ) → noted_in x k i ≡ None → ⊥
@@ -76,19 +77,31 @@ module _ (p : Settings) (n m : Next) (t w : List ℕ) (o o' : Opened) (follows :
       subst (λ v. IsAnswered p v (fault_kind f.kind) f.index) (sym (append_assoc t w u)) (read (w ++ u) (follows u comes))
   reads-fault None k i read goes u comes = goes refl u comes
 
--- What is known of one document is known of another with these settings and faults.
-pub known-as : (m : Next) (d new : Document) (t : List ℕ) (o : Opened) → new.settings ≡ d.settings
-    → new.fault ≡ d.fault → new.first ≡ d.first → Known m d t o → Known m new t o
-known-as m d new t o settings unset noted k = record {
-  mode = λ u comes.
-      let a = subst (λ x. ReadsAt d.settings t u x o) (sym unset) (k.mode u comes) in
-      subst (λ p. ReadsAt p t u new.fault o) (sym settings) a;
-  strict = λ u comes.
-      let a = subst (λ x. ReadsAt (strictly d.settings) t u x o) (sym noted) (k.strict u comes) in
-      subst (λ p. ReadsAt (strictly p) t u new.first o) (sym settings) a;
-  ends = λ none. k.ends (sym noted ∙ none);
-  noted = λ none. unset ∙ k.noted (sym noted ∙ none);
-  same = λ off none. noted ∙ k.same (ap (λ (p : Settings). is_active p.mode) (sym settings) ∙ off) (sym unset ∙ none);
+-- The same is known of it.
+abbrev pub Keeps : Document → Document → Type 0
+Keeps d e = (e.settings ≡ d.settings) × (e.fault ≡ d.fault) × (e.first ≡ d.first)
+
+same-fault : (d e : Document) → Keeps d e → (by : Strictness) → fault_by by e.fault e.first ≡ fault_by by d.fault d.first
+same-fault d e k by_mode = k.1
+same-fault d e k strict = k.2
+
+pub known-as : (n : Next) (d e : Document) (t : List ℕ) (o : Opened) → Keeps d e → Known n d t o → Known n e t o
+known-as n d e t o k known = record {
+  reads = λ by u comes.
+      subst (λ p. ReadsAt (settings_by by p) t u (fault_by by e.fault e.first) o) (sym k.0)
+      (subst (λ x. ReadsAt (settings_by by d.settings) t u x o) (sym (same-fault d e k by)) (known.reads by u comes));
+  ends = λ none. known.ends (sym k.2 ∙ none);
+  noted = λ none. k.1 ∙ known.noted (sym k.2 ∙ none);
+  same = λ off none. k.2 ∙ known.same (ap (λ (p : Settings). is_active p.mode) (sym k.0) ∙ off) (sym k.1 ∙ none);
+}
+
+-- What is known whatever comes is known of what comes.
+pub known-any : (m : Next) (d : Document) (t : List ℕ) (o : Opened) → Known anything d t o → Known m d t o
+known-any m d t o k = record {
+  reads = λ by u comes. k.reads by u tt;
+  ends = k.ends;
+  noted = k.noted;
+  same = k.same;
 }
 
 module _ (n m : Next) (d : Document) (t w : List ℕ) (o o' : Opened) (k : Known n d t o) (follows : Follows n w m)
@@ -99,10 +112,9 @@ module _ (n m : Next) (d : Document) (t w : List ℕ) (o o' : Opened) (k : Known
         → opened_to p ((t ++ w) ++ u) o (length t) ≡ opened_to p ((t ++ w) ++ u) o' (length (t ++ w)))
         → (d.first ≡ None → EndsRight (t ++ w) o') → Known m d (t ++ w) o'
     known-on goes ends = record {
-      mode = reads-on d.settings n m t w o o' follows d.fault k.mode (λ none. goes d.settings (inl (refl, none)));
-      strict =
-          reads-on (strictly d.settings) n m t w o o' follows d.first k.strict
-          (λ none. goes (strictly d.settings) (inr (refl, none)));
+      reads = λ by.
+          reads-on (settings_by by d.settings) n m t w o o' follows (fault_by by d.fault d.first) (k.reads by)
+          (λ none. goes (settings_by by d.settings) (by, refl, none));
       ends = ends;
       noted = k.noted;
       same = k.same;
@@ -116,42 +128,51 @@ module _ (n m : Next) (d : Document) (t w : List ℕ) (o o' : Opened) (k : Known
         → IsAnswered (strictly d.settings) ((t ++ w) ++ u) (fault_kind kind) i)
         → Known m (with_first d (noted_in d.first kind i)) (t ++ w) o'
     known-noted kind i on goes fails = record {
-      mode = reads-on d.settings n m t w o o' follows d.fault k.mode goes;
-      strict = reads-fault (strictly d.settings) n m t w o o' follows d.first kind i k.strict fails;
+      reads = by;
       ends = λ none. absurd (noted-some d.first kind i none);
       noted = λ none. absurd (noted-some d.first kind i none);
       same = λ off none. absurd (off-on (sym off ∙ on));
     }
       where
+        new : Document
+        new = with_first d (noted_in d.first kind i)
+
+        by : (s : Strictness) (u : List ℕ) → Comes m u
+            → ReadsAt (settings_by s new.settings) (t ++ w) u (fault_by s new.fault new.first) o'
+        by by_mode = reads-on d.settings n m t w o o' follows d.fault (k.reads by_mode) goes
+        by strict = reads-fault (strictly d.settings) n m t w o o' follows d.first kind i (k.reads strict) fails
+
         off-on : false ≡ true → ⊥
         off-on h = cc
 
     -- They are refused for good.
     pub known-refused : (kind : FaultKind) (i : ℕ) → d.fault ≡ None
         → ((p : Settings) (u : List ℕ) → IsReading d p → Comes m u → IsAnswered p ((t ++ w) ++ u) (fault_kind kind) i)
-        → (f : Fault) (first : Option Fault) → f ≡ record { kind = kind; index = i } → first ≡ noted_in d.first f.kind f.index
-        → HasTakenIn m (record d { fault = Some f; first = first }) (t ++ w)
-    known-refused kind i unset fails f first is noted =
-        let p = d.settings in
-        let found : Fault = record { kind = kind; index = i } in
-        let all : HasTakenIn m (record d { fault = Some found; first = noted_in d.first kind i }) (t ++ w) =
+        → HasTakenIn m (record d { fault = Some (record { kind = kind; index = i }); first = noted_in d.first kind i }) (t ++ w)
+    known-refused kind i unset fails =
         record {
           opened = o';
-          known =
-              record {
-                mode = λ u comes. fails p u (inl (refl, unset)) comes;
-                strict =
-                    reads-fault (strictly p) n m t w o o' follows d.first kind i k.strict
-                    (λ none u comes. fails (strictly p) u (inr (refl, none)) comes);
-                ends = λ none. absurd (noted-some d.first kind i none);
-                noted = λ none. absurd (noted-some d.first kind i none);
-                same = λ off none. absurd (none-some found (sym none));
-              };
+          known = record {
+            reads = by;
+            ends = λ none. absurd (noted-some d.first kind i none);
+            noted = λ none. absurd (noted-some d.first kind i none);
+            same = λ off none. absurd (none-some found (sym none));
+          };
           held = λ none. absurd (none-some found (sym none));
-        } in
-        let named = noted ∙ ap (λ (x : Fault). noted_in d.first x.kind x.index) is in
-        let so = subst (λ x. HasTakenIn m (record d { fault = Some x; first = noted_in d.first kind i }) (t ++ w)) (sym is) all in
-        subst (λ x. HasTakenIn m (record d { fault = Some f; first = x }) (t ++ w)) (sym named) so
+        }
+      where
+        found : Fault
+        found = record { kind = kind; index = i }
+
+        new : Document
+        new = record d { fault = Some found; first = noted_in d.first kind i }
+
+        by : (s : Strictness) (u : List ℕ) → Comes m u
+            → ReadsAt (settings_by s new.settings) (t ++ w) u (fault_by s new.fault new.first) o'
+        by by_mode u comes = fails d.settings u (by_mode, refl, unset) comes
+        by strict u comes =
+            reads-fault (strictly d.settings) n m t w o o' follows d.first kind i (k.reads strict)
+            (λ none u comes. fails (strictly d.settings) u (strict, refl, none) comes) u comes
 
 -- what a text that is refused leaves open
 abbrev pub left_open : Opened
@@ -160,21 +181,19 @@ left_open = between_tokens (at_value awaits.Value [])
 -- The bytes w are refused where each text of them answers that;
 pub ended : (n m : Next) (d : Document) (t w : List ℕ) (o : Opened) (kind : FaultKind) (i : ℕ) → d.fault ≡ None
     → Known n d t o → Follows n w m → IsEnded d m (t ++ w) (fault_kind kind) i
-    → (f : Fault) (first : Option Fault) → f ≡ record { kind = kind; index = i } → first ≡ noted_in d.first f.kind f.index
-    → HasTakenIn m (record d { fault = Some f; first = first }) (t ++ w)
+    → HasTakenIn m (record d { fault = Some (record { kind = kind; index = i }); first = noted_in d.first kind i }) (t ++ w)
 ended n m d t w o kind i unset k follows fails = known-refused n m d t w o left_open k follows kind i unset fails
 
 -- also where it is the fault of what was read so far.
 pub refuses : (n m : Next) (d : Document) (t w : List ℕ) (o : Opened) (kind : FaultKind) (i : ℕ) → d.fault ≡ None
     → Known n d t o → Follows n w m → IsRefused d m (t ++ w) (fault_kind kind) i
-    → (f : Fault) (first : Option Fault) → f ≡ record { kind = kind; index = i } → first ≡ noted_in d.first f.kind f.index
-    → HasTakenIn m (record d { fault = Some f; first = first }) (t ++ w)
+    → HasTakenIn m (record d { fault = Some (record { kind = kind; index = i }); first = noted_in d.first kind i }) (t ++ w)
 refuses n m d t w o kind i unset k follows fails =
     ended n m d t w o kind i unset k follows
     (λ p u reading comes. faulty-answers p ((t ++ w) ++ u) (fault_kind kind) i (fails p u reading comes))
 
 -- After a value nothing but what stands there is missing.
-ends-after : (t : List ℕ) (x : Tree) (fs : List OpenFrame) → EndsRight t (between_tokens (after_value x fs))
+pub ends-after : (t : List ℕ) (x : Tree) (fs : List OpenFrame) → EndsRight t (between_tokens (after_value x fs))
 ends-after t x [] = (omega arith, λ u. let same : length t - 0 ≡ length t = omega arith in ap (past_blanks (t ++ u)) same)
 ends-after t x (items_frame xs ∷ fs) = tt
 ends-after t x (members_frame ms k ∷ fs) = tt
@@ -195,7 +214,7 @@ puts n m d v x t w fs b k follows left read reads =
     (λ none. ends-after (t ++ w) x fs) in
     record {
       opened = o';
-      known = known-as m d new (t ++ w) o' refl refl refl on;
+      known = known-as m d new (t ++ w) o' (refl, refl, refl) on;
       held = λ none. (refl, left);
     }
 
@@ -203,28 +222,14 @@ puts n m d v x t w fs b k follows left read reads =
 pub follows-byte : (c : ℕ) → Follows (with_byte c) (c ∷ []) anything
 follows-byte c u comes = (u, refl)
 
--- What is known whatever comes is known before a byte.
-pub known-before : (c : ℕ) (d : Document) (t : List ℕ) (o : Opened) → Known anything d t o
-    → Known (with_byte c) d t o
-known-before c d t o k = record {
-  mode = λ u comes. k.mode u tt;
-  strict = λ u comes. k.strict u tt;
-  ends = k.ends;
-  noted = k.noted;
-  same = k.same;
-}
-
 -- The byte stands there, and one byte is one more.
-byte-here : (c : ℕ) (t u : List ℕ) → slice_get ((t ++ c ∷ []) ++ u) (length t) ≡ Some c
-byte-here c t u =
-    let w = t ++ c ∷ u in
-    let long : length t < length w = omega (arith, length-append t (c ∷ u)) in
-    let here : slice_get w (length t) ≡ Some c =
-    slice_get-get_or w (length t) 0 long ∙ ap Some (get_or-append_seam t c u 0) in
-    subst (λ v. slice_get v (length t) ≡ Some c) (sym (append_assoc t (c ∷ []) u)) here
-
 pub byte-first : (c : ℕ) (t u : List ℕ) → slice_get (t ++ c ∷ u) (length t) ≡ Some c
-byte-first c t u = subst (λ v. slice_get v (length t) ≡ Some c) (append_assoc t (c ∷ []) u) (byte-here c t u)
+byte-first c t u =
+    let long = length-append t (c ∷ u) in
+    slice_get-get_or (t ++ c ∷ u) (length t) 0 (omega arith) ∙ ap Some (get_or-append_seam t c u 0)
+
+byte-here : (c : ℕ) (t u : List ℕ) → slice_get ((t ++ c ∷ []) ++ u) (length t) ≡ Some c
+byte-here c t u = subst (λ v. slice_get v (length t) ≡ Some c) (sym (append_assoc t (c ∷ []) u)) (byte-first c t u)
 
 pub one-more : (c : ℕ) (t : List ℕ) → length t + 1 ≡ length (t ++ c ∷ [])
 one-more c t = omega (arith, length-append t (c ∷ []))
@@ -243,6 +248,31 @@ known-here n d t o o' k goes ends =
     (goes p reading u comes))
     (λ none. subst (λ v. EndsRight v o') (sym same) (ends none)) in
     subst (λ v. Known n d v o') same on
+
+-- Where a token is unfinished, within the limit of nesting
+abbrev pub IsInside : Opened → Type 0
+IsInside (between_tokens s) = ⊥
+IsInside (in_scalar fs b) = length fs ≤ nesting_limit
+IsInside (in_key fs ms b) = Unit {0}
+
+pub ends-inside : (t : List ℕ) (o : Opened) → IsInside o → EndsRight t o
+ends-inside t (between_tokens s) i = absurd i
+ends-inside t (in_scalar fs b) i = tt
+ends-inside t (in_key fs ms b) i = tt
+
+same-inside : (p : Settings) (t : List ℕ) (o : Opened) (i j : ℕ) → IsInside o → opened_to p t o i ≡ opened_to p t o j
+same-inside p t (between_tokens s) i j h = absurd h
+same-inside p t (in_scalar fs b) i j h = refl
+same-inside p t (in_key fs ms b) i j h = refl
+
+-- bytes are taken inside it.
+pub known-in : (n m : Next) (d e : Document) (t w : List ℕ) (o : Opened) → IsInside o → Keeps d e → Follows n w m
+    → Known n d t o → Known m e (t ++ w) o
+known-in n m d e t w o i k follows known =
+    known-as m d e (t ++ w) o k
+    (known-on n m d t w o o known follows
+    (λ p reading u comes. same-inside p ((t ++ w) ++ u) o (length t) (length (t ++ w)) i)
+    (λ none. ends-inside (t ++ w) o i))
 
 -- What stands open where no token is unfinished
 pub record Between (n : Next) (d : Document) (t : List ℕ) : Type 0 where
@@ -267,16 +297,9 @@ taken-between n d t h unset none = opened-between n d t h.opened h.known (h.held
 -- What is read of the bytes so far, by settings that still read.
 pub reads-so : (n : Next) (d : Document) (t : List ℕ) (o : Opened) (p : Settings) → Known n d t o → IsReading d p
     → (u : List ℕ) → Comes n u → prefix_answer (rules_as owned p) (t ++ u) ≡ opened_to p (t ++ u) o (length t)
-reads-so n d t o p k (inl h) u comes =
-    let q = d.settings in
-    let read : prefix_answer (rules_as owned q) (t ++ u) ≡ opened_to q (t ++ u) o (length t) =
-    subst (λ x. ReadsAt q t u x o) h.1 (k.mode u comes) in
-    subst (λ q. prefix_answer (rules_as owned q) (t ++ u) ≡ opened_to q (t ++ u) o (length t)) (sym h.0) read
-reads-so n d t o p k (inr h) u comes =
-    let q = strictly d.settings in
-    let read : prefix_answer (rules_as owned q) (t ++ u) ≡ opened_to q (t ++ u) o (length t) =
-    subst (λ x. ReadsAt q t u x o) h.1 (k.strict u comes) in
-    subst (λ q. prefix_answer (rules_as owned q) (t ++ u) ≡ opened_to q (t ++ u) o (length t)) (sym h.0) read
+reads-so n d t o p k (by, is, none) u comes =
+    subst (λ q. prefix_answer (rules_as owned q) (t ++ u) ≡ opened_to q (t ++ u) o (length t)) (sym is)
+    (subst (λ x. ReadsAt (settings_by by d.settings) t u x o) none (k.reads by u comes))
 
 -- the same where w stands after them
 pub reads-after : (n m : Next) (d : Document) (t w : List ℕ) (o : Opened) (p : Settings) → Known n d t o
@@ -345,7 +368,7 @@ takes-byte d v c t s k none g =
     (λ first. byte-ends t c s g.next g.ends (k.ends first)) in
     record {
       opened = o';
-      known = known-as anything d new (t ++ c ∷ []) o' refl refl refl on;
+      known = known-as anything d new (t ++ c ∷ []) o' (refl, refl, refl) on;
       held = λ unset. (none, g.left);
     }
 
@@ -363,19 +386,16 @@ begins-in d v c t s fs k unset place left low goes =
     known-here n d t (between_tokens s) o' k
     (λ p reading u comes.
     let at : slice_get (t ++ u) (length t) ≡ Some c =
-    subst (λ v. slice_get (t ++ v) (length t) ≡ Some c) (sym comes.1) (before-here c t comes.0) in
+    subst (λ v. slice_get (t ++ v) (length t) ≡ Some c) (sym comes.1) (byte-first c t comes.0) in
     goes p (t ++ u) (length t) at)
     (λ first. tt) in
     record {
-      known = known-as n d new t o' refl refl refl on;
+      known = known-as n d new t o' (refl, refl, refl) on;
       left = left;
       low = low;
       unset = unset;
       position = place;
     }
-  where
-    before-here : (c : ℕ) (t u : List ℕ) → slice_get (t ++ c ∷ u) (length t) ≡ Some c
-    before-here c t u = subst (λ v. slice_get v (length t) ≡ Some c) (append_assoc t (c ∷ []) u) (byte-here c t u)
 
 -- It is wrong there: the document is refused.
 pub wrong-refused : (d : Document) (v : OpenValue) (c : ℕ) (t : List ℕ) (s : Arrived) (kind : FaultKind)
@@ -390,14 +410,14 @@ wrong-refused d v c t s kind at wrong p u reading comes =
 -- By strict settings each of a document's readings is strict, where its mode is off.
 reading-strict : (d : Document) (p : Settings) → is_active d.settings.mode ≡ false → IsReading d p
     → is_active p.mode ≡ false
-reading-strict d p off (inl h) = ap (λ (q : Settings). is_active q.mode) h.0 ∙ off
-reading-strict d p off (inr h) = ap (λ (q : Settings). is_active q.mode) h.0
+reading-strict d p off (by_mode, is, none) = ap (λ (q : Settings). is_active q.mode) is ∙ off
+reading-strict d p off (strict, is, none) = ap (λ (q : Settings). is_active q.mode) is
 
 -- and there is no fault that partial reading alone passes over.
 reading-first : (n : Next) (d : Document) (t : List ℕ) (o : Opened) (p : Settings) → Known n d t o
     → is_active d.settings.mode ≡ false → IsReading d p → d.first ≡ None
-reading-first n d t o p k off (inl h) = k.same off h.1
-reading-first n d t o p k off (inr h) = h.1
+reading-first n d t o p k off (by_mode, is, none) = k.same off none
+reading-first n d t o p k off (strict, is, none) = none
 
 -- A value that is whole
 record Whole (s : Arrived) : Type 0 where
@@ -481,7 +501,7 @@ trailing-noted d c t s at left none other on new is =
     omega (arith, length-append t (c ∷ [])) in
     ap (λ s. completed p w s (length t)) whole.is ∙ ap (done whole.value) place)
     (λ first u comes.
-    trailing-at d c t u s (strictly p) at left none other (inr (refl, first)) refl first) in
+    trailing-at d c t u s (strictly p) at left none other (strict, refl, first) refl first) in
     let all : HasTakenIn anything noted (t ++ c ∷ []) =
     record {
       opened = o';
@@ -530,7 +550,7 @@ closes-noted d v c t s kind at g on =
     (g.goes p (t ++ u) (length t) (here u comes) on))
     (λ first u comes.
     let q = strictly p in
-    let read = reads-so n d t o q at.known (inr (refl, first)) u comes in
+    let read = reads-so n d t o q at.known (strict, refl, first) u comes in
     faulty-answers q ((t ++ []) ++ u) (fault_kind kind) d.position
     (subst (λ v. IsFaulty q (v ++ u) (fault_kind kind) d.position) (sym (append-nil t)) (
       length t,
@@ -538,7 +558,7 @@ closes-noted d v c t s kind at g on =
     ))) in
     record {
       opened = o';
-      known = known-as n noted next t o' refl refl refl (subst (λ v. Known n noted v o') (append-nil t) known);
+      known = known-as n noted next t o' (refl, refl, refl) (subst (λ v. Known n noted v o') (append-nil t) known);
       held = λ unset. (at.token, g.left);
     }
 
@@ -553,21 +573,20 @@ new-arrived d unset first none position left read =
       read =
           record {
             opened = o;
-            known =
-                record {
-                  mode = λ u comes.
-                      subst (λ x. ReadsAt d.settings [] u x o) (sym unset) ((read d.settings).goes u);
-                  strict = λ u comes.
-                      subst (λ x. ReadsAt (strictly d.settings) [] u x o) (sym first)
-                      ((read (strictly d.settings)).goes u);
-                  ends = λ _. tt;
-                  noted = λ _. unset;
-                  same = λ _ _. first;
-                };
+            known = record { reads = by; ends = λ _. tt; noted = λ _. unset; same = λ _ _. first };
             held = λ _. (none, left);
           };
       position = position;
     }
+  where
+    by : (s : Strictness) (u : List ℕ) → Comes anything u
+        → ReadsAt (settings_by s d.settings) [] u (fault_by s d.fault d.first) (between_tokens (at_value awaits.Value []))
+    by by_mode u comes =
+        subst (λ x. ReadsAt d.settings [] u x (between_tokens (at_value awaits.Value []))) (sym unset)
+        ((read d.settings).goes u)
+    by strict u comes =
+        subst (λ x. ReadsAt (strictly d.settings) [] u x (between_tokens (at_value awaits.Value []))) (sym first)
+        ((read (strictly d.settings)).goes u)
 
 -- Where a document is over, any bytes leave it so.
 over-fault : (n m : Next) (d : Document) (t w : List ℕ) (f : Fault) → Follows n w m → d.fault ≡ Some f → HasTakenIn n d t
@@ -585,8 +604,8 @@ over-fault n m d t w f follows is h =
   where
     not-reading : (d : Document) (p : Settings) (f : Fault) → d.fault ≡ Some f
         → (d.first ≡ None → d.fault ≡ None) → IsReading d p → ⊥
-    not-reading d p f is noted (inl h) = none-some f (sym h.1 ∙ is)
-    not-reading d p f is noted (inr h) = none-some f (sym (noted h.1) ∙ is)
+    not-reading d p f is noted (by_mode, so, none) = none-some f (sym none ∙ is)
+    not-reading d p f is noted (strict, so, none) = none-some f (sym (noted none) ∙ is)
 
 over-whole : (n m : Next) (d : Document) (t w : List ℕ) (f : Fault) → Follows n w m → d.fault ≡ None → d.first ≡ Some f
     → d.token ≡ token.Nothing → d.value.awaits ≡ awaits.Nothing → HasTakenIn n d t
@@ -658,7 +677,7 @@ pub moved : (n : Next) (d : Document) (j : ℕ) (t : List ℕ) → HasTakenIn n 
     → HasTakenIn n (record d { position = j }) t
 moved n d j t h = record {
   opened = h.opened;
-  known = known-as n d (record d { position = j }) t h.opened refl refl refl h.known;
+  known = known-as n d (record d { position = j }) t h.opened (refl, refl, refl) h.known;
   held = λ unset. counted-holding d j t h.opened (h.held unset);
 }
 

@@ -1,121 +1,26 @@
--- A string that is shown goes on in its place: ASCII is appended to it, inside however many containers.
-use Rattle.std.proofs.Common.{◌≡◌, ◌≢◌, ℕ, suc, ◌+◌, ◌-◌, ◌<◌, true, List, [], ◌∷◌, ◌++◌, length, get_or, take}
-use Rattle.std.proofs.Common.{refl, sym, subst, ap, ap₂, ◌∙◌, append_assoc, arith, inl, length-append, Vec}
-use Rattle.std.proofs.lemmas.List.{take_all}
+-- A string that is shown goes on in its place: plain ASCII is appended to it.
+use Rattle.std.proofs.Common.{◌≡◌, ℕ, suc, ◌+◌, ◌<◌, true, List, [], ◌∷◌, ◌++◌, length, refl, sym, subst, ap, ap₂, ◌∙◌, arith, inl, inr}
 use Rattle.std.specs.List.{AllPass}
-use Rattle.std.specs.Prelude.{◌&&◌}
-use Rattle.std.specs.Prelude.{Result, Ok, Err, OnOk, OnErr, slice_range}
-use Rattle.std.specs.Vec.{with_item}
-use Rattle.std.specs.declared.alloc.Global.{Global}
+use Rattle.std.specs.Prelude.{◌&&◌, slice_range}
 use Rattle.jiter_scan.specs.Scan.{IsAsciiTo, Pass, is_ascii, is_plain, is_plain_ascii, scan_stop}
 use Rattle.jiter_steps.specs.PartialString.{IsEven, grown}
 use Rattle.jiter_steps.specs.Tree.{Tree, string}
 use Rattle.jiter_steps.proofs.OpenStrings.{grown-taken, plain-of, run-plain}
 use Rattle.jiter_incremental.specs.Between.{text_of}
-use Rattle.jiter_incremental.specs.Document.{Document, HasArrived, HasMoved, HasReadIn, Holding, IsMoved, IsShown, Known, MayRefuseAt, Opened}
+use Rattle.jiter_incremental.specs.Document.{Document, HasMoved, HasReadIn, Holding, IsMoved, IsShown, Known, Opened}
 use Rattle.jiter_incremental.specs.Document.{Settled, anything}
 use Rattle.jiter_incremental.specs.Document.{between_tokens, in_key, in_scalar, shown_as, token_tree}
-use Rattle.jiter_incremental.specs.Reader.{IsGrowing, document}
-use Rattle.jiter_incremental.specs.Slot.{AwaitsPart, HasValue, IsOfKey, OpenFrame, around, filled}
+use Rattle.jiter_incremental.specs.Reader.{IsAt, IsGrowing, IsHere, IsPlainRun, Steps, ahead, document}
+use Rattle.jiter_incremental.specs.Slot.{AwaitsPart, HasValue, IsOfKey, OpenFrame, filled}
+use Rattle.jiter_incremental.specs.Strings.{HasText, IsGrown, IsOfString}
 use Rattle.jiter_incremental.specs.declared.reader.Reader.{Reader}
 use Rattle.jiter_incremental.specs.declared.reader.Token.{Token}
 use Rattle.jiter_incremental.specs.declared.reader.Token.TheVariants as token
-use Rattle.jiter_incremental.proofs.Documents.{known-as}
-use Rattle.jiter_incremental.proofs.Documents.Strings.{goes-on, is-inside, known-more, with_string}
-use Rattle.jiter_incremental.proofs.Documents.Blanks.{refuse-on}
-use Rattle.jiter_incremental.proofs.Leading.{read-counted}
-use Rattle.jiter_incremental.proofs.Over.{refuse-read}
-use Rattle.jiter_incremental.proofs.Slots.{array-swapped, filled-push, last-of, object-swapped}
-use Rattle.jiter_value.specs.Stacks.{Member}
-use Rattle.jiter_value.specs.Value.{view}
-use Rattle.jiter_value.specs.declared.value.JsonValue.{JsonValue, Array, Object}
-
--- The outermost of the containers that a value is in, and what is in it
-pub record OuterPart (depth : ℕ) (v x : Tree) (fs : List OpenFrame) : Type 0 where
-  pub frame : OpenFrame
-  pub others : List OpenFrame
-  pub all : fs ≡ others ++ frame ∷ []
-  pub is : v ≡ around frame (filled others x)
-  pub deep : depth - 1 ≡ length others
-
-pub outer-part : (depth : ℕ) (v x : Tree) (fs : List OpenFrame) → depth ≢ 0 → HasValue depth v fs x
-    → OuterPart depth v x fs
-outer-part depth v x [] some h = absurd (some h.0)
-outer-part depth v x (g ∷ gs) some h =
-    let fs = g ∷ gs in
-    let l = last-of fs (omega arith) in
-    let others = take (length fs - 1) fs in
-    record {
-      frame = l.0;
-      others = others;
-      all = l.1;
-      is = h.1 ∙ ap (λ hs. filled hs x) l.1 ∙ filled-push others l.0 x;
-      deep = omega (arith, h.0, ap length l.1, length-append others (l.0 ∷ []));
-    }
-
--- Another value in the place of that one
-outer-back : (depth : ℕ) (v w x y : Tree) (fs : List OpenFrame) (p : OuterPart depth v x fs) → depth ≡ length fs
-    → w ≡ around p.frame (filled p.others y) → HasValue depth w fs y
-outer-back depth v w x y fs p deep is =
-    (deep, is ∙ sym (filled-push p.others p.frame y) ∙ sym (ap (λ hs. filled hs y) p.all))
-
--- The value itself
-pub inmost : (depth : ℕ) (v x : Tree) (fs : List OpenFrame) → depth ≡ 0 → HasValue depth v fs x → v ≡ x
-inmost depth v x [] none h = h.1
-inmost depth v x (g ∷ gs) none h = absurd (omega (arith, none, h.0))
-
-module _ {T E : Type 0} where
-  -- A text is replaced where it is the value itself,
-  pub root-grown : (r : Result T E) (depth : ℕ) (v w x y : Tree) (fs : List OpenFrame) → depth ≡ 0
-      → HasValue depth v fs x → (v ≡ x → OnOk r (w ≡ y)) → OnOk r (HasValue depth w fs y)
-  root-grown (Err e) depth v w x y fs none h grow = tt
-  root-grown (Ok o) depth v w x y [] none h grow = (none, grow h.1)
-  root-grown (Ok o) depth v w x y (g ∷ gs) none h grow = absurd (omega (arith, none, h.0))
-
-  -- in the last item,
-  pub array-grown : (r : Result T E) (depth : ℕ) (v : Vec JsonValue Global) (n : ℕ) (y z : JsonValue) (a b : Tree)
-      (fs : List OpenFrame) → depth ≢ 0 → n + 1 ≡ length v.items → y ≡ get_or v.items n y
-      → HasValue depth (view (Array v)) fs a
-      → ((gs : List OpenFrame) → HasValue (depth - 1) (view y) gs a → OnOk r (HasValue (depth - 1) (view z) gs b))
-      → OnOk r (HasValue depth (view (Array (with_item v n z))) fs b)
-  array-grown (Err e) depth v n y z a b fs some at got h grow = tt
-  array-grown (Ok o) depth v n y z a b fs some at got h grow =
-      let w = view (Array (with_item v n z)) in
-      let p = outer-part depth (view (Array v)) a fs some h in
-      let seen = array-swapped v (with_item v n z) n y z at got refl p.frame (filled p.others a) p.is in
-      let g = grow p.others (p.deep, seen.1) in
-      outer-back depth (view (Array v)) w a b fs p h.0 (seen.0 ∙ ap (around p.frame) g.1)
-
-  pub array-kept : (r : Result T E) (v : Vec JsonValue Global) (n : ℕ) (y z : JsonValue) (f : OpenFrame) (x : Tree)
-      → n + 1 ≡ length v.items → y ≡ get_or v.items n y → view (Array v) ≡ around f x
-      → OnErr r (view z ≡ view y) → OnErr r (view (Array (with_item v n z)) ≡ view (Array v))
-  array-kept (Err e) v n y z f x at got is h =
-      let seen = array-swapped v (with_item v n z) n y z at got refl f x is in
-      seen.0 ∙ ap (around f) (h ∙ seen.1) ∙ sym is
-  array-kept (Ok o) v n y z f x at got is h = tt
-
-  -- or in the value of the last member.
-  pub object-grown : (r : Result T E) (depth : ℕ) (v : Vec Member Global) (n : ℕ) (m : Member) (z : JsonValue)
-      (a b : Tree) (fs : List OpenFrame) → depth ≢ 0 → n + 1 ≡ length v.items → m ≡ get_or v.items n m
-      → HasValue depth (view (Object v)) fs a
-      → ((gs : List OpenFrame) → HasValue (depth - 1) (view m.1) gs a → OnOk r (HasValue (depth - 1) (view z) gs b))
-      → OnOk r (HasValue depth (view (Object (with_item v n (m.0, z)))) fs b)
-  object-grown (Err e) depth v n m z a b fs some at got h grow = tt
-  object-grown (Ok o) depth v n m z a b fs some at got h grow =
-      let w = view (Object (with_item v n (m.0, z))) in
-      let p = outer-part depth (view (Object v)) a fs some h in
-      let seen = object-swapped v (with_item v n (m.0, z)) n m z at got refl p.frame (filled p.others a) p.is in
-      let g = grow p.others (p.deep, seen.1) in
-      outer-back depth (view (Object v)) w a b fs p h.0 (seen.0 ∙ ap (around p.frame) g.1)
-
-  pub object-kept : (r : Result T E) (v : Vec Member Global) (n : ℕ) (m : Member) (z : JsonValue) (f : OpenFrame)
-      (x : Tree)
-      → n + 1 ≡ length v.items → m ≡ get_or v.items n m → view (Object v) ≡ around f x
-      → OnErr r (view z ≡ view m.1) → OnErr r (view (Object (with_item v n (m.0, z))) ≡ view (Object v))
-  object-kept (Err e) v n m z f x at got is h =
-      let seen = object-swapped v (with_item v n (m.0, z)) n m z at got refl f x is in
-      seen.0 ∙ ap (around f) (h ∙ seen.1) ∙ sym is
-  object-kept (Ok o) v n m z f x at got is h = tt
+use Rattle.jiter_incremental.proofs.Documents.{known-in}
+use Rattle.jiter_incremental.proofs.Documents.Strings.{goes-on, is-inside, with_string}
+use Rattle.jiter_incremental.proofs.Settling.{moves-here, read-any}
+use Rattle.jiter_incremental.proofs.Showing.{stands-part, stands-root}
+use Rattle.jiter_incremental.proofs.StringSteps.{ahead-string}
 
 -- A text that is unfinished is inside these containers.
 text-left : (a : Document) (t : List ℕ) (o : Opened) → a.token ≡ token.Text → Holding a t o
@@ -199,8 +104,7 @@ module _ (d : Document) (t : List ℕ) (o : Opened) (s : Settled d t o) (text : 
 
       pub grown-known : Known anything d t o → Known anything e (t ++ v) o
       grown-known known =
-          known-as anything (with_string d d.string) e (t ++ v) o refl refl refl
-          (known-more anything anything d t v o (is-inside a t (inl text-apart) o s.held) known (λ u c. tt) d.string)
+          known-in anything anything d e t v o (is-inside a t (inl text-apart) o s.held) (refl, refl, refl) (λ u c. tt) known
 
 -- Plain bytes below 80 hex
 plain-each : (v : List ℕ) → Pass is_plain v → AllPass is_ascii v → Pass is_plain_ascii v
@@ -208,52 +112,73 @@ plain-each [] h low = tt
 plain-each (c ∷ v) h low =
     (ap₂ (λ x y. x && y) h.0 (low 0 0 (omega arith)), plain-each v h.1 (λ i x l. low (suc i) x (omega arith)))
 
--- A chunk in which no byte stops a string, all of them below 80 hex
-pub plain-chunk : (v : List ℕ) (n : ℕ) → n ≡ scan_stop v 0 → IsAsciiTo v 0 n → n ≡ length v → Pass is_plain_ascii v
-plain-chunk v n stop low all =
-    let whole : slice_range v 0 n ≡ v = ap (λ m. take m v) (let no : n - 0 ≡ n = omega arith in no)
-    ∙ take_all n v (omega (arith, all)) in
-    subst (Pass is_plain_ascii) whole (plain-each (slice_range v 0 n) (run-plain v 0 n stop) low)
+pub plain-run : (v : List ℕ) (i n : ℕ) → n ≡ scan_stop v i → IsAsciiTo v i n → Pass is_plain_ascii (slice_range v i n)
+plain-run v i n stop low = plain-each (slice_range v i n) (run-plain v i n stop) low
 
-module _ (i : Reader) (v : Tree) (t : List ℕ) (h : HasArrived (document i v) t) (on : IsGrowing i) where
-  settled : Settled (document i v) t h.read.opened
-  settled = h.read.held on.0
+-- No key is shown.
+shown-text : (d : Document) (t : List ℕ) (o : Opened) (s : Settled d t o) → d.shown ≡ true → IsOfString d.token
+    → d.token ≡ token.Text
+shown-text d t o s on (inl is) = is
+shown-text d t o s on (inr is) =
+    let m = subst (λ b. IsMoved b s.apart d) on s.moved in
+    let key : s.apart.token ≡ token.Key = sym (ap (λ (q : Document). q.token) s.same) ∙ is in
+    absurd (subst (λ k. HasMoved k s.apart d.number d.string (token_tree s.apart k)) key m.0)
 
-  -- Some text is in the value so far,
-  pub growing-text : (w : List ℕ) × (fs : List OpenFrame) × HasValue i.depth v fs (string (text_of w))
+-- What went on in the slot went on in the value.
+grown-there : (level depth : ℕ) (v w : Tree) (u bytes : List ℕ) (outer fs : List OpenFrame) → depth ≡ level
+    → IsAt level outer → IsGrown level v bytes w → HasValue depth (filled outer v) fs (string (text_of u))
+    → HasValue depth (filled outer w) fs (string (text_of (u ++ bytes)))
+grown-there level depth v w u bytes outer [] here at g h =
+    let none : level ≡ 0 = omega (arith, here, h.0) in
+    (h.0, by outer (omega (arith, at, none)) ∙ g.root u none (stands-root level depth v _ outer [] none here at h))
+  where
+    by : (gs : List OpenFrame) → length gs ≡ 0 → filled gs w ≡ w
+    by [] e = refl
+    by (g ∷ gs) e = absurd (omega (arith, e))
+grown-there level depth v w u bytes outer (f ∷ gs) here at g h =
+    let some : 0 < level = omega (arith, here, h.0) in
+    let p = stands-part level depth v (string (text_of u)) outer (f ∷ gs) some here at h in
+    (h.0, ap (filled outer) (g.part u p.0 some p.2) ∙ ap (λ hs. filled hs (string (text_of (u ++ bytes)))) (sym p.1))
+
+module _ (level : ℕ) (chunk : List ℕ) (i : Reader) (v : Tree) (h : IsHere level chunk i v) (k : IsOfString i.token)
+    (on : IsGrowing i) where
+  -- The slot has the string last,
+  pub growing-text : HasText level v
   growing-text =
-      let seen = text-seen (document i v) t h.read.opened settled on.1 on.2 in
-      (settled.apart.string.text.text, seen.0, seen.1)
+      let outer = h.read.1 in
+      let d = document i (filled outer v) in
+      let read = h.read.3.read in
+      let s = read.held h.unset in
+      let seen = text-seen d h.read.0 read.opened s (shown-text d h.read.0 read.opened s on.0 k) on.0 in
+      let x = string (text_of s.apart.string.text.text) in (
+        s.apart.string.text.text,
+        λ none. stands-root level i.depth v x outer seen.0 none h.here h.read.2 seen.1,
+        λ some. let p = stands-part level i.depth v x outer seen.0 some h.here h.read.2 seen.1 in (p.0, p.2),
+      )
 
-  -- and the chunk goes on in it.
-  pub growing-taken : (chunk : List ℕ) (w : Tree) → Pass is_plain_ascii chunk → i.at ≡ 0
-      → ((u : List ℕ) (fs : List OpenFrame) → HasValue i.depth v fs (string (text_of u))
-      → HasValue i.depth w fs (string (text_of (u ++ chunk))))
-      → HasArrived (document (record i { at = length chunk }) w) (t ++ chunk)
-  growing-taken chunk w plain start put =
-      let d = document i v in
-      let o = h.read.opened in
-      let u = settled.apart.string.text.text in
-      let set = λ (gs : List OpenFrame). put u gs in
-      let e = record d { value = record d.value { tree = w } } in
-      let same = grown-settled d t o settled on.1 on.2 chunk w on.3 plain set in
-      let read : HasReadIn anything e (t ++ chunk) =
-      record {
-        opened = o;
-        known = grown-known d t o settled on.1 on.2 chunk w on.3 plain set h.read.known;
-        held = λ _. same;
-      } in
-      record {
-        read = read-counted anything e (i.base + length chunk) (t ++ chunk) read;
-        position = omega (arith, h.position, start, length-append t chunk);
-      }
-
-  -- An allocation may fail within it.
-  pub growing-refused : (chunk : List ℕ) → 0 < length chunk → MayRefuseAt (t ++ chunk) (i.base + i.at)
-  growing-refused [] some = absurd (omega (arith, some))
-  growing-refused (c ∷ rest) some =
-      let no : ¬ (i.token ≡ token.Nothing) = λ none. let both : token.Text ≡ token.Nothing = sym on.1 ∙ none in cc in
-      let one = refuse-read anything (document i v) t c h.read on.0 no in
-      subst (λ n. MayRefuseAt (t ++ c ∷ rest) n) (sym h.position)
-      (subst (λ s. MayRefuseAt s (length t)) (append_assoc t (c ∷ []) rest)
-      (refuse-on (t ++ c ∷ []) rest (length t) one))
+  -- and it goes on there.
+  pub growing-steps : (n : ℕ) (w : Tree) → 0 < n → IsPlainRun chunk i.at n
+      → IsGrown level v (slice_range chunk i.at (i.at + n)) w → Steps level chunk i v i w n
+  growing-steps n w some run g = record {
+    goes = λ t outer at r.
+        let d = document i (filled outer v) in
+        let o = r.read.opened in
+        let s = r.read.held h.unset in
+        let is = shown-text d t o s on.0 k in
+        let bytes = slice_range chunk i.at (i.at + n) in
+        let u = s.apart.string.text.text in
+        let put : (gs : List OpenFrame) → HasValue i.depth (filled outer v) gs (string (text_of u))
+        → HasValue i.depth (filled outer w) gs (string (text_of (u ++ bytes))) =
+        λ gs x. grown-there level i.depth v w u bytes outer gs h.here at g x in
+        let e = document i (filled outer w) in
+        let known = subst (λ m. Known m d t o) (ahead-string i.token i chunk i.at refl k) r.read.known in
+        let read : HasReadIn anything e (t ++ bytes) =
+        record {
+          opened = o;
+          known = grown-known d t o s is on.0 bytes (filled outer w) on.1 run.plain put known;
+          held = λ _. grown-settled d t o s is on.0 bytes (filled outer w) on.1 run.plain put;
+        } in
+        read-any (ahead i chunk (i.at + n)) e (t ++ bytes) read;
+    moves =
+        moves-here level chunk i h.here h.low i n some run.within (refl, refl, refl) refl;
+  }

@@ -6,6 +6,8 @@ use Rattle.std.proofs.lemmas.List.{append-nil, take_all}
 use Rattle.std.proofs.lemmas.Option.{slice_get_past}
 use Rattle.jiter_steps.specs.Frames.{items_frame, members_frame}
 use Rattle.jiter_steps.specs.Tree.{Tree}
+use Rattle.jiter_scan.specs.declared.partial_number.PartialNumber.{PartialNumber}
+use Rattle.jiter_steps.specs.declared.partial_string.PartialString.{PartialString}
 use Rattle.jiter_steps.specs.declared.parse.ContainerKind.TheVariants as shape
 use Rattle.jiter_incremental.specs.Arrived.{Arrived, IsLeft, OpenValue, at_value, between_parts, at_end}
 use Rattle.jiter_incremental.specs.Between.{text_of}
@@ -57,25 +59,28 @@ open-around depth v (f ∷ fs) x deep is some =
       is = is ∙ ap (filled fs) w.1;
     }
 
-moved-token : (k : Token) (d new : Document) → HasMoved k d new.number new.string (token_tree d k) → k ≡ token.Nothing → ⊥
-moved-token token.Nothing d new h none = h
-moved-token token.Word d new h none = h
-moved-token token.Number d new h none = cc
-moved-token token.Text d new h none = cc
-moved-token token.Key d new h none = h
+-- What was moved is no key, and no token is finished.
+pub moved-nothing : (k : Token) (d : Document) (n : PartialNumber) (s : PartialString) (x : Tree) → HasMoved k d n s x
+    → k ≡ token.Nothing → ⊥
+moved-nothing token.Nothing d n s x h is = h
+moved-nothing token.Word d n s x h is = h
+moved-nothing token.Number d n s x h is = cc
+moved-nothing token.Text d n s x h is = cc
+moved-nothing token.Key d n s x h is = h
 
-moved-key : (k : Token) (d new : Document) → HasMoved k d new.number new.string (token_tree d k) → k ≡ token.Key → ⊥
-moved-key token.Nothing d new h none = h
-moved-key token.Word d new h none = h
-moved-key token.Number d new h none = cc
-moved-key token.Text d new h none = cc
-moved-key token.Key d new h none = h
+pub moved-key : (k : Token) (d : Document) (n : PartialNumber) (s : PartialString) (x : Tree) → HasMoved k d n s x
+    → k ≡ token.Key → ⊥
+moved-key token.Nothing d n s x h is = h
+moved-key token.Word d n s x h is = h
+moved-key token.Number d n s x h is = cc
+moved-key token.Text d n s x h is = cc
+moved-key token.Key d n s x h is = h
 
 -- Where the scalar is in the value, it is the last part of the innermost container.
 open-shown : (d new : Document) (t : List ℕ) (o : Opened) → Holding d t o → IsMoved true d new → 0 < new.value.depth
     → OpenTree new.value.depth new.value.tree
-open-shown d new t (between_tokens s) h m some = absurd (moved-token d.token d new m.0 h.0)
-open-shown d new t (in_key fs ms b) h m some = absurd (moved-key d.token d new m.0 h.2)
+open-shown d new t (between_tokens s) h m some = absurd (moved-nothing d.token d new.number new.string _ m.0 h.0)
+open-shown d new t (in_key fs ms b) h m some = absurd (moved-key d.token d new.number new.string _ m.0 h.2)
 open-shown d new t (in_scalar fs b) h m some =
     let there = m.1.value fs h.3.2 h.3.3 in
     open-around new.value.depth new.value.tree fs (token_tree d d.token) there.0 there.1 some
@@ -205,7 +210,7 @@ pub read-counted : (n : Next) (d : Document) (p : ℕ) (t : List ℕ) → HasRea
     → HasReadIn n (record d { position = p }) t
 read-counted n d p t h = record {
   opened = h.opened;
-  known = known-as n d (record d { position = p }) t h.opened refl refl refl h.known;
+  known = known-as n d (record d { position = p }) t h.opened (refl, refl, refl) h.known;
   held = λ unset.
       let s = h.held unset in
       record {

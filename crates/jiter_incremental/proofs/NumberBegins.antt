@@ -1,7 +1,7 @@
 -- A scalar begins in a chunk, or a number is read there, in an open container whatever that is in.
 use Rattle.std.proofs.Common.{◌≡◌, ◌⊎◌, ℕ, ◌+◌, ◌-◌, ◌<◌, ◌≤◌, true, false, List, [], ◌∷◌, ◌++◌, length, refl, sym}
 use Rattle.std.proofs.Common.{subst, ap, ◌∙◌}
-use Rattle.std.proofs.Common.{◌==◌, Bool, arith, eqb-true, inl}
+use Rattle.std.proofs.Common.{◌==◌, Bool, arith, eqb-true}
 use Rattle.std.specs.Prelude.{slice_index, slice_range, Vec}
 use Rattle.std.specs.declared.alloc.Global.{Global}
 use Rattle.std.specs.declared.borrow.CowStr.{CowStr}
@@ -18,7 +18,7 @@ use Rattle.jiter_steps.specs.Tree.{Tree}
 use Rattle.jiter_steps.specs.declared.parse.Start.TheVariants as start
 use Rattle.jiter_value.specs.Owned.{owned_text, tree_as}
 use Rattle.jiter_incremental.specs.Document.{BeginsHere, HasReadIn, HasTakenIn, NameBegins, anything}
-use Rattle.jiter_incremental.specs.Document.{between_tokens, in_scalar, noted_in, with_byte}
+use Rattle.jiter_incremental.specs.Document.{between_tokens, in_scalar, with_byte}
 use Rattle.jiter_incremental.specs.Reader.{AwaitsValue, HasReadTo, IsAt, IsHere, Moves, Shows, Stays, Steps}
 use Rattle.jiter_incremental.specs.Reader.{after_level, ahead, document, refused, with_shown}
 use Rattle.jiter_incremental.specs.Slot.{AwaitsPart, HasRoomAt, IsContainer, IsPut, IsRoomy, OpenFrame, begun, filled}
@@ -33,7 +33,7 @@ use Rattle.jiter_incremental.proofs.Documents.{follows-byte, known-as, refuses, 
 use Rattle.jiter_incremental.proofs.Documents.Tokens.{decimal-starts, infinity-begins, infinity-first, name-denied}
 use Rattle.jiter_incremental.proofs.Documents.Tokens.{nan-begins, number-begins, range-first}
 use Rattle.jiter_incremental.proofs.Placing.{begins-there, number-put}
-use Rattle.jiter_incremental.proofs.Settling.{apart-read, read-any, reads-apart, shown-nothing, steps-one}
+use Rattle.jiter_incremental.proofs.Settling.{apart-read, moves-here, moves-one, read-any, reads-apart, shown-nothing, steps-one}
 use Rattle.jiter_incremental.proofs.Slots.{filled-same}
 
 -- The byte begins the one name or the other.
@@ -94,7 +94,7 @@ module _ (level : ℕ) (chunk : List ℕ) (i : Reader) (v : Tree) (h : IsHere le
               let all : HasTakenIn anything e t =
               record {
                 opened = o;
-                known = known-as anything d e t o refl refl refl b.known;
+                known = known-as anything d e t o (refl, refl, refl) b.known;
                 held = λ unset. (none, b.left);
               } in
               reads-apart anything e t all hidden (λ unset. shown-nothing e none);
@@ -110,26 +110,16 @@ module _ (level : ℕ) (chunk : List ℕ) (i : Reader) (v : Tree) (h : IsHere le
       name-refused k begins off =
           let kind = fault_of.ExpectedSomeValue in
           let j = refused i kind (i.base + i.at) in
-          let moves : Moves level chunk i j 1 =
-          record {
-            within = omega (arith, h.inside);
-            some = inl (omega arith);
-            still = (refl, refl, refl);
-            depth = (omega (arith, h.here), omega (arith, h.here));
-            low = omega (arith, h.here, h.low);
-            deeper = λ more. absurd (omega (arith, h.here, more));
-          } in
-          steps-one level chunk i v j v h.inside moves (hidden-here level chunk i v h none)
+          steps-one level chunk i v j v h.inside (moves-one level chunk i h.here h.low j h.inside (refl, refl, refl) refl) (hidden-here level chunk i v h none)
           (λ x unset. shown-nothing (document j x) none)
           (λ t outer at r.
           let d = document i (filled outer v) in
           let b = begins-there level chunk i v h none awaited other low t outer at r in
           let held = record d { value = record d.value { awaits = awaits.Value } } in
           let o = in_scalar b.0 (length t) in
-          let known = known-as (with_byte c) held d t o refl refl refl b.1.known in
+          let known = known-as (with_byte c) held d t o (refl, refl, refl) b.1.known in
           refuses (with_byte c) anything d t (c ∷ []) o kind d.position h.unset known (follows-byte c)
-          (name-denied held k t c b.0 b.1 begins off)
-          (record { kind = kind; index = d.position }) (noted_in d.first kind d.position) refl refl)
+          (name-denied held k t c b.0 b.1 begins off))
 
       module _ (begins : begins_decimal c ≡ true) where
         -- A number that lies whole in the chunk is put there.
@@ -161,14 +151,8 @@ module _ (level : ℕ) (chunk : List ℕ) (i : Reader) (v : Tree) (h : IsHere le
             let k = record i { begin = i.base + i.at; token = token.Number; awaits = awaits.Value; number = n } in
             let end : i.at + (e - i.at) ≡ e = omega (arith, some) in
             let moves : Moves level chunk i k (e - i.at) =
-            record {
-              within = omega (arith, end, within);
-              some = inl (omega (arith, some));
-              still = (refl, refl, refl);
-              depth = (omega (arith, h.here), omega (arith, h.here));
-              low = omega (arith, h.here, h.low);
-              deeper = λ _. h.unset;
-            } in
+            moves-here level chunk i h.here h.low k (e - i.at) (omega (arith, some)) (omega (arith, end, within))
+            (refl, refl, refl) refl in
             shown-steps level chunk i v k v j w (e - i.at) moves shows same
             (λ t outer at r.
             let d = document i (filled outer v) in
@@ -179,7 +163,7 @@ module _ (level : ℕ) (chunk : List ℕ) (i : Reader) (v : Tree) (h : IsHere le
             let o = in_scalar b.0 (length t) in
             let there : BeginsHere c first t b.0 =
             record {
-              known = known-as (with_byte c) was first t o refl refl refl b.1.known;
+              known = known-as (with_byte c) was first t o (refl, refl, refl) b.1.known;
               left = b.1.left;
               low = b.1.low;
               unset = b.1.unset;
@@ -188,7 +172,7 @@ module _ (level : ℕ) (chunk : List ℕ) (i : Reader) (v : Tree) (h : IsHere le
             let is = range-first chunk i.at e some within in
             let rest = slice_range chunk (i.at + 1) e in
             let all : HasTakenIn anything new (t ++ c ∷ rest) =
-            number-begins first new t c rest b.0 there record { settings = refl; fault = refl; first = refl } refl refl
+            number-begins first new t c rest b.0 there (refl, refl, refl) refl refl
             refl refl (decimal-starts c begins) (subst (HoldsNumber n) is held) in
             subst (λ m. HasTakenIn anything new (t ++ slice_range chunk i.at m)) (sym end)
             (subst (λ s. HasTakenIn anything new (t ++ s)) (sym is) all))

@@ -17,7 +17,7 @@ use Rattle.jiter_scan.specs.declared.partial_word.PartialWord.{PartialWord}
 use Rattle.jiter_steps.specs.Blank.{is_blank}
 use Rattle.jiter_steps.specs.StringDecoder.{text_view}
 use Rattle.jiter_steps.specs.Tree.{Tree}
-use Rattle.jiter_incremental.specs.Document.{HasCome, HasReadIn, HasTakenIn, IsReadAs, anything, in_scalar, is_shown, noted_in, own_number, with_byte}
+use Rattle.jiter_incremental.specs.Document.{HasCome, HasReadIn, HasTakenIn, IsReadAs, anything, in_scalar, is_shown, own_number, with_byte}
 use Rattle.jiter_incremental.specs.Names.{name_word}
 use Rattle.jiter_incremental.specs.Reader.{HasReadTo, HasTakenTo, Hides, IsApart, IsAt, IsHere, IsStill, Moves, Shows, Stays, Steps, StepsFrom, after_level, ahead, ahead_as}
 use Rattle.jiter_incremental.specs.Reader.{document, refused, with_shown}
@@ -31,24 +31,13 @@ use Rattle.jiter_incremental.proofs.Documents.{puts, refuses}
 use Rattle.jiter_incremental.proofs.Documents.Names.{minus-alone, name-refused, name-taken}
 use Rattle.jiter_incremental.proofs.Documents.Tokens.{number-ends, number-known, number-minus, number-open, number-refused, number-stays, number-takes}
 use Rattle.jiter_incremental.proofs.Placing.{depth-of, put-there}
-use Rattle.jiter_incremental.proofs.Settling.{ahead-level, one-slice, read-any, reads-apart, shown-word}
+use Rattle.jiter_incremental.proofs.Settling.{ahead-level, moves-here, moves-one, one-slice, read-any, reads-apart, shown-word}
 use Rattle.jiter_incremental.proofs.Showing.{apart-here}
 
 -- The next byte is taken where a scalar is unfinished and apart.
 module _ (level : ℕ) (chunk : List ℕ) (i : Reader) (v : Tree) (h : IsApart level chunk i v) where
   pub come-here : (x : Tree) (t : List ℕ) → HasTakenTo i x t → HasCome (document i x) t
   come-here x t r = record { read = r.read; position = r.position }
-
-  moves-one : (j : Reader) → j.settings ≡ i.settings → j.base ≡ i.base → j.at ≡ i.at → j.depth ≡ i.depth
-      → Moves level chunk i j 1
-  moves-one j settings base at depth = record {
-    within = omega (arith, h.inside);
-    some = inl (omega arith);
-    still = (settings, base, at);
-    depth = (omega (arith, h.here, depth), omega (arith, h.here, depth));
-    low = omega (arith, h.here, h.low, depth);
-    deeper = λ more. absurd (omega (arith, h.here, depth, more));
-  }
 
   pub from-one : (j : Reader) → Moves level chunk i j 1 → j.shown ≡ false
       → ((x : Tree) → j.fault ≡ None → is_shown (document j x) ≡ false)
@@ -73,15 +62,14 @@ module _ (level : ℕ) (chunk : List ℕ) (i : Reader) (v : Tree) (h : IsApart l
         → StepsFrom level chunk i v (refused i kind at) v 1
     number-wrong kind w at bad leads fails =
         let j = refused i kind at in
-        from-one j (moves-one j refl refl refl refl) h.hidden (λ x none. absurd (none-some _ (sym none)))
+        from-one j (moves-one level chunk i h.here h.low j h.inside (refl, refl, refl) refl) h.hidden (λ x none. absurd (none-some _ (sym none)))
         (λ t outer place r.
         let d = document i (filled outer v) in
         let c = slice_index chunk i.at in
         let x = number-open d t (come-here (filled outer v) t r) h.unset is in
         refuses anything anything d t (c ∷ []) (in_scalar x.frames x.begin) kind at h.unset x.known (λ u comes. tt)
         (number-refused d t x c w (fault_kind kind) at bad leads
-        (λ names u. ap (λ n. number_by names u n w) (sym r.position) ∙ fails names u))
-        (record { kind = kind; index = at }) (noted_in d.first kind at) refl refl)
+        (λ names u. ap (λ n. number_by names u n w) (sym r.position) ∙ fails names u)))
 
     -- begins a name after its minus,
     module _ (fits : Fits i.number.stage (slice_index chunk i.at) went.Named) where
@@ -90,14 +78,14 @@ module _ (level : ℕ) (chunk : List ℕ) (i : Reader) (v : Tree) (h : IsApart l
           → StepsFrom level chunk i v (record i { token = token.Word; name = name.MinusInfinity; word = o }) v 1
       name-begins o word one allowed =
           let j = record i { token = token.Word; name = name.MinusInfinity; word = o } in
-          from-one j (moves-one j refl refl refl refl) h.hidden (λ x none. shown-word (document j x) refl)
+          from-one j (moves-one level chunk i h.here h.low j h.inside (refl, refl, refl) refl) h.hidden (λ x none. shown-word (document j x) refl)
           (λ t outer place r.
           let d = document i (filled outer v) in
           let e = document j (filled outer v) in
           let x = number-open d t (come-here (filled outer v) t r) h.unset is in
           let minus = number-minus d t x (slice_index chunk i.at) (minus-alone d.number x.bytes x.held.0 fits.0) in
           subst (λ b. HasTakenIn anything e (t ++ b ∷ [])) (sym fits.1)
-          (name-taken d t x.frames x.begin x.known minus e record { settings = refl; fault = refl; first = refl } refl
+          (name-taken d t x.frames x.begin x.known minus e (refl, refl, refl) refl
           refl refl refl word one allowed))
 
       pub name-wrong : i.settings.allow_inf_nan ≡ false
@@ -105,7 +93,7 @@ module _ (level : ℕ) (chunk : List ℕ) (i : Reader) (v : Tree) (h : IsApart l
       name-wrong off =
           let at = i.base + i.at in
           let j = refused i fault_of.InvalidNumber at in
-          from-one j (moves-one j refl refl refl refl) h.hidden (λ x none. absurd (none-some _ (sym none)))
+          from-one j (moves-one level chunk i h.here h.low j h.inside (refl, refl, refl) refl) h.hidden (λ x none. absurd (none-some _ (sym none)))
           (λ t outer place r.
           let d = document i (filled outer v) in
           let e = document j (filled outer v) in
@@ -113,9 +101,7 @@ module _ (level : ℕ) (chunk : List ℕ) (i : Reader) (v : Tree) (h : IsApart l
           let minus = number-minus d t x (slice_index chunk i.at) (minus-alone d.number x.bytes x.held.0 fits.0) in
           subst (λ b. HasTakenIn anything e (t ++ b ∷ [])) (sym fits.1)
           (refuses anything anything d t (73 ∷ []) (in_scalar x.frames x.begin) fault_of.InvalidNumber at h.unset
-          x.known (λ u comes. tt) (name-refused d t x.frames x.begin x.known minus r.position off)
-          (record { kind = fault_of.InvalidNumber; index = at }) (noted_in d.first fault_of.InvalidNumber at) refl
-          refl))
+          x.known (λ u comes. tt) (name-refused d t x.frames x.begin x.known minus r.position off)))
 
     -- or follows it.
     abbrev ended : PartialNumber → CowStr Global → Reader
@@ -252,14 +238,8 @@ module _ (level : ℕ) (chunk : List ℕ) (i : Reader) (v : Tree) (h : IsHere le
               let read = shows.goes anything (t ++ bytes) outer at more in
               subst (λ p. HasReadIn (ahead k chunk (p + n)) e (t ++ slice_range chunk p (p + n))) place
               (read-any (ahead k chunk (j.at + n)) e (t ++ bytes) read);
-          moves = record {
-            within = subst (λ p. p + n ≤ length chunk) place part.1;
-            some = inl part.0;
-            still = number-still;
-            depth = (omega (arith, h.here, number-depth), omega (arith, h.here, number-depth));
-            low = omega (arith, h.here, h.low, number-depth);
-            deeper = λ more. absurd (omega (arith, h.here, number-depth, more));
-          };
+          moves = moves-here level chunk i h.here h.low k n part.0 (subst (λ p. p + n ≤ length chunk) place part.1)
+              number-still number-depth;
         }
 
     pub number-steps : {E : Type 0} (r : Result ℕ E) → IfOk r (λ n. (0 < n) × (j.at + n ≤ length chunk))

@@ -1,6 +1,6 @@
 -- Whitespace of a chunk is taken, in an open container whatever that is in.
 use Rattle.std.proofs.Common.{◌≡◌, ℕ, ◌+◌, ◌-◌, ◌<◌, ◌≤◌, true, List, ◌∷◌, [], ◌++◌, length, refl, sym, subst, ap, ◌∙◌}
-use Rattle.std.proofs.Common.{append_assoc, arith, inl}
+use Rattle.std.proofs.Common.{append_assoc, arith}
 use Rattle.std.specs.Prelude.{slice_index, slice_range}
 use Rattle.jiter_scan.proofs.Standing.{slice_range-split}
 use Rattle.jiter_steps.specs.Blank.{is_blank, past_blanks}
@@ -15,7 +15,7 @@ use Rattle.jiter_incremental.proofs.Arms.{here-at, hidden-here}
 use Rattle.jiter_incremental.proofs.Between.{goes-blank}
 use Rattle.jiter_incremental.proofs.Documents.{takes-byte}
 use Rattle.jiter_incremental.proofs.Documents.Blanks.{first-blank, run-taken}
-use Rattle.jiter_incremental.proofs.Settling.{one-slice, read-any, reads-apart, shown-nothing}
+use Rattle.jiter_incremental.proofs.Settling.{moves-here, one-slice, read-any, reads-apart, shown-nothing}
 
 pub blanks-step : (level : ℕ) (chunk : List ℕ) (i : Reader) (v : Tree) (h : IsHere level chunk i v)
     → i.token ≡ token.Nothing → (n : ℕ) → 0 < n → i.at + n ≡ past_blanks chunk i.at → i.at + n ≤ length chunk
@@ -45,12 +45,5 @@ blanks-step level chunk i v h none n some end within =
           (reads-apart anything d u (subst (HasTakenIn anything d) bytes more) (hidden-here level chunk i v h none)
           (λ unset. shown-nothing d none));
       moves =
-          record {
-            within = within;
-            some = inl some;
-            still = (refl, refl, refl);
-            depth = (omega (arith, h.here), omega (arith, h.here));
-            low = omega (arith, h.here, h.low);
-            deeper = λ _. h.unset;
-          };
+          moves-here level chunk i h.here h.low i n some within (refl, refl, refl) refl;
     }

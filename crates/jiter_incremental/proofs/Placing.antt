@@ -19,7 +19,7 @@ use Rattle.jiter_steps.specs.declared.parse.Start.TheVariants as start
 use Rattle.jiter_incremental.specs.Arrived.{at_value, between_parts}
 use Rattle.jiter_incremental.specs.Between.{Everywhere, TakesByte, completed}
 use Rattle.jiter_incremental.specs.Document.{BeginsHere, Follows, HasReadIn, IsAllowed, IsNumberWithin, IsScalarWithin, StandsAt, WordBegins, anything}
-use Rattle.jiter_incremental.specs.Document.{between_tokens, noted_in, with_byte}
+use Rattle.jiter_incremental.specs.Document.{between_tokens, with_byte}
 use Rattle.jiter_incremental.specs.Names.{name_start, name_word}
 use Rattle.jiter_incremental.specs.declared.names.Name.{Name}
 use Rattle.jiter_scan.specs.declared.partial_word.PartialWord.{PartialWord}
@@ -34,7 +34,7 @@ use Rattle.jiter_incremental.proofs.Between.{no-parts, put-left, scalar-read, va
 use Rattle.jiter_incremental.proofs.Documents.{begins-in, follows-byte, puts, refuses, takes-byte, wrong-refused}
 use Rattle.jiter_incremental.proofs.Documents.Bytes.{scalar-follows, scalar-reads}
 use Rattle.jiter_incremental.proofs.Documents.Tokens.{number-within-ends, word-begins, word-held}
-use Rattle.jiter_incremental.proofs.Settling.{ahead-level, read-any, reads-apart, shown-nothing, shown-word, steps-one}
+use Rattle.jiter_incremental.proofs.Settling.{ahead-level, moves-here, moves-one, read-any, reads-apart, shown-nothing, shown-word, steps-one}
 use Rattle.jiter_incremental.proofs.Slots.{filled-same}
 
 -- How many containers are open
@@ -75,16 +75,7 @@ module _ (level : ℕ) (chunk : List ℕ) (i : Reader) (v : Tree) (h : IsHere le
         → Steps level chunk i v (refused i kind (i.base + i.at)) v 1
     value-wrong kind wrong =
         let j = refused i kind (i.base + i.at) in
-        let moves : Moves level chunk i j 1 =
-        record {
-          within = omega (arith, h.inside);
-          some = inl (omega arith);
-          still = (refl, refl, refl);
-          depth = (omega (arith, h.here), omega (arith, h.here));
-          low = omega (arith, h.here, h.low);
-          deeper = λ more. absurd (omega (arith, h.here, more));
-        } in
-        steps-one level chunk i v j v h.inside moves (hidden-here level chunk i v h none)
+        steps-one level chunk i v j v h.inside (moves-one level chunk i h.here h.low j h.inside (refl, refl, refl) refl) (hidden-here level chunk i v h none)
         (λ x unset. shown-nothing (document j x) none)
         (λ t outer at r.
         let x = filled outer v in
@@ -95,8 +86,7 @@ module _ (level : ℕ) (chunk : List ℕ) (i : Reader) (v : Tree) (h : IsHere le
         record { known = a.1.known; token = none; unset = h.unset; position = r.position } in
         let deep : length a.0 ≡ level = sym (depth-of i.depth x a.0 a.1.part) ∙ h.here in
         refuses (with_byte c) anything d t (c ∷ []) (between_tokens s) kind d.position h.unset a.1.known
-        (follows-byte c) (wrong-refused d d.value c t s kind stands (wrong a.0 deep))
-        (record { kind = kind; index = d.position }) (noted_in d.first kind d.position) refl refl)
+        (follows-byte c) (wrong-refused d d.value c t s kind stands (wrong a.0 deep)))
 
     module _ (other : is_blank c ≡ false) where
       -- It would be too deep,
@@ -179,14 +169,8 @@ module _ (level : ℕ) (chunk : List ℕ) (i : Reader) (v : Tree) (h : IsHere le
                 (reads-apart anything got (t ++ bytes) all (hidden-here level chunk i v h none)
                 (λ unset. refl)));
             moves =
-                record {
-                  within = omega (arith, end, within.within);
-                  some = inl (omega (arith, within.begins));
-                  still = (refl, refl, refl);
-                  depth = (omega (arith, h.here), omega (arith, h.here));
-                  low = omega (arith, h.here, h.low);
-                  deeper = λ more. h.unset;
-                };
+                moves-here level chunk i h.here h.low j (e - i.at) (omega (arith, within.begins))
+                (omega (arith, end, within.within)) (refl, refl, refl) refl;
           }
 
       -- A number that is complete with the byte after it is put there: that byte is known to come next.
@@ -226,14 +210,8 @@ module _ (level : ℕ) (chunk : List ℕ) (i : Reader) (v : Tree) (h : IsHere le
                 subst (λ m. HasReadIn (ahead j chunk m) got (t ++ slice_range chunk i.at m)) (sym end)
                 (subst (λ m. HasReadIn m got (t ++ bytes)) (sym next) read);
             moves =
-                record {
-                  within = omega (arith, end, within.ends.within);
-                  some = inl (omega (arith, within.ends.begins));
-                  still = (refl, refl, refl);
-                  depth = (omega (arith, h.here), omega (arith, h.here));
-                  low = omega (arith, h.here, h.low);
-                  deeper = λ more. h.unset;
-                };
+                moves-here level chunk i h.here h.low j (e - i.at) (omega (arith, within.ends.begins))
+                (omega (arith, end, within.ends.within)) (refl, refl, refl) refl;
           }
 
       -- A scalar begins there.
@@ -266,20 +244,11 @@ module _ (level : ℕ) (chunk : List ℕ) (i : Reader) (v : Tree) (h : IsHere le
           }) v 1
       word-step k o low starts allowed begins word seen =
           let j = record i { begin = i.base + i.at; token = token.Word; awaits = awaits.Value; name = k; word = o } in
-          let moves : Moves level chunk i j 1 =
-          record {
-            within = omega (arith, h.inside);
-            some = inl (omega arith);
-            still = (refl, refl, refl);
-            depth = (omega (arith, h.here), omega (arith, h.here));
-            low = omega (arith, h.here, h.low);
-            deeper = λ _. h.unset;
-          } in
-          steps-one level chunk i v j v h.inside moves (hidden-here level chunk i v h none)
+          steps-one level chunk i v j v h.inside (moves-one level chunk i h.here h.low j h.inside (refl, refl, refl) refl) (hidden-here level chunk i v h none)
           (λ x unset. shown-word (document j x) refl)
           (λ t outer at r.
           let b = begins-there low t outer at r in
           let d = document i (filled outer v) in
           let held = record d { value = record d.value { awaits = awaits.Value } } in
-          word-begins held (document j (filled outer v)) k t c b.0 b.1 record { settings = refl; fault = refl; first = refl }
-          refl refl refl refl (word-held k o c begins word seen) allowed starts)
+          word-begins held (document j (filled outer v)) k t c b.0 b.1 (refl, refl, refl) refl refl refl
+          refl (word-held k o c begins word seen) allowed starts)

@@ -1,29 +1,21 @@
 -- A document whose unfinished scalar is in the value so far, or apart from it.
 use Rattle.std.proofs.Common.{◌≡◌, ℕ, zero, suc, ◌+◌, ◌-◌, ◌<◌, Bool, false, List, [], ◌∷◌, ◌++◌, length, take, drop, get_or, refl, sym, subst, ap, ◌∙◌}
-use Rattle.std.proofs.Common.{arith}
+use Rattle.std.proofs.Common.{◌≤◌, arith, inl}
+use Rattle.jiter_steps.specs.Node.{nesting_limit}
 use Rattle.std.specs.Prelude.{slice_index, slice_range, None}
 use Rattle.std.proofs.lemmas.Option.{slice_get-get_or}
 use Rattle.jiter_scan.proofs.Standing.{slice-one}
 use Rattle.jiter_steps.specs.Tree.{Tree}
 use Rattle.jiter_incremental.specs.Document.{Document, HasReadIn, HasTakenIn, Holding, HoldsScalar}
-use Rattle.jiter_incremental.specs.Document.{IsMoved, Known, Next, Opened, anything, between_tokens}
+use Rattle.jiter_incremental.specs.Document.{IsMoved, Next, Opened, anything, between_tokens}
 use Rattle.jiter_incremental.specs.Document.{in_key, in_scalar, is_shown, shown_as, with_byte, with_parts}
-use Rattle.jiter_incremental.specs.Reader.{HasReadTo, IsAt, Moves, Steps, after_level, ahead, ahead_as, document, next_of}
+use Rattle.jiter_incremental.specs.Reader.{HasReadTo, IsAt, IsStill, Moves, Steps, after_level, ahead, ahead_as, document, next_of}
 use Rattle.jiter_incremental.specs.Slot.{OpenFrame, filled}
+use Rattle.jiter_incremental.proofs.Documents.{known-any}
 use Rattle.jiter_incremental.specs.declared.reader.Awaits.{Awaits}
 use Rattle.jiter_incremental.specs.declared.reader.Reader.{Reader}
 use Rattle.jiter_incremental.specs.declared.reader.Token.{Token}
 use Rattle.jiter_incremental.specs.declared.reader.Token.TheVariants as token
-
--- What is known whatever comes is known of what comes.
-pub known-any : (m : Next) (d : Document) (t : List ℕ) (o : Opened) → Known anything d t o → Known m d t o
-known-any m d t o k = record {
-  mode = λ u comes. k.mode u tt;
-  strict = λ u comes. k.strict u tt;
-  ends = k.ends;
-  noted = k.noted;
-  same = k.same;
-}
 
 pub read-any : (m : Next) (d : Document) (t : List ℕ) → HasReadIn anything d t → HasReadIn m d t
 read-any m d t h = record { opened = h.opened; known = known-any m d t h.opened h.known; held = h.held }
@@ -100,6 +92,22 @@ apart-read n d t h hidden = record {
 -- One byte is taken.
 pub one-slice : (chunk : List ℕ) (at : ℕ) → at < length chunk → slice_range chunk at (at + 1) ≡ slice_index chunk at ∷ []
 one-slice chunk at within = slice-one chunk at (get_or chunk at 0) (slice_get-get_or chunk at 0 within)
+
+-- The same container is open after them.
+module _ (level : ℕ) (chunk : List ℕ) (i : Reader) (here : i.depth ≡ level) (low : level ≤ nesting_limit + 1) where
+  pub moves-here : (j : Reader) (n : ℕ) → 0 < n → i.at + n ≤ length chunk → IsStill i j → j.depth ≡ i.depth
+      → Moves level chunk i j n
+  moves-here j n some within still depth = record {
+    within = within;
+    some = inl some;
+    still = still;
+    depth = (omega (arith, here, depth), omega (arith, here, depth));
+    low = omega (arith, here, low, depth);
+    deeper = λ more. absurd (omega (arith, here, depth, more));
+  }
+
+  pub moves-one : (j : Reader) → i.at < length chunk → IsStill i j → j.depth ≡ i.depth → Moves level chunk i j 1
+  moves-one j inside still depth = moves-here j 1 (omega arith) (omega (arith, inside)) still depth
 
 module _ (level : ℕ) (chunk : List ℕ) (i : Reader) (v : Tree) (j : Reader) (w : Tree) where
   -- The next byte is taken,

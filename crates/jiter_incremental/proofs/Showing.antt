@@ -26,7 +26,7 @@ use Rattle.jiter_incremental.specs.declared.reader.Reader.{Reader}
 use Rattle.jiter_incremental.specs.declared.reader.Token.{Token}
 use Rattle.jiter_incremental.specs.declared.reader.Token.TheVariants as token
 use Rattle.jiter_incremental.proofs.Documents.{known-as}
-use Rattle.jiter_incremental.proofs.Leading.{open-settled}
+use Rattle.jiter_incremental.proofs.Leading.{moved-key, moved-nothing, open-settled}
 use Rattle.jiter_incremental.proofs.Placing.{depth-of, put-there}
 use Rattle.jiter_incremental.proofs.Settling.{reads-apart}
 use Rattle.jiter_incremental.proofs.Slots.{filled-same}
@@ -44,7 +44,7 @@ shows-moved level i v w x n s k here on seen moved put = record {
       let is = seen (filled outer v) in
       record {
         opened = h.opened;
-        known = known-as next d e t h.opened refl refl refl h.known;
+        known = known-as next d e t h.opened (refl, refl, refl) h.known;
         held = λ unset. record {
           apart = d;
           held = h.held unset;
@@ -71,23 +71,6 @@ pub shows-none : (level : ℕ) (i : Reader) (v : Tree) → i.shown ≡ false →
 shows-none level i v hidden off = record {
   goes = λ next t outer at h. reads-apart next (document i (filled outer v)) t h hidden (λ unset. off (filled outer v));
 }
-
--- What was moved is no key, and no token is finished.
-moved-nothing : (k : Token) (d : Document) (n : PartialNumber) (s : PartialString) (x : Tree) → HasMoved k d n s x
-    → k ≡ token.Nothing → ⊥
-moved-nothing token.Nothing d n s x h is = h
-moved-nothing token.Word d n s x h is = h
-moved-nothing token.Number d n s x h is = cc
-moved-nothing token.Text d n s x h is = cc
-moved-nothing token.Key d n s x h is = h
-
-moved-key : (k : Token) (d : Document) (n : PartialNumber) (s : PartialString) (x : Tree) → HasMoved k d n s x
-    → k ≡ token.Key → ⊥
-moved-key token.Nothing d n s x h is = h
-moved-key token.Word d n s x h is = h
-moved-key token.Number d n s x h is = cc
-moved-key token.Text d n s x h is = cc
-moved-key token.Key d n s x h is = h
 
 -- a scalar that is unfinished
 pub record InScalar (d : Document) (t : List ℕ) (o : Opened) : Type 0 where
@@ -162,12 +145,20 @@ key-on : (k : Text) (f : OpenFrame) (fs : List OpenFrame) → IsOfKey k (f ∷ [
 key-on k (items_frame xs) fs of = tt
 key-on k (members_frame ms l) fs of = of
 
-stands-part : (level depth : ℕ) (v x : Tree) (outer fs : List OpenFrame) → 0 < level → depth ≡ level → IsAt level outer
+pub stands-part : (level depth : ℕ) (v x : Tree) (outer fs : List OpenFrame) → 0 < level → depth ≡ level → IsAt level outer
     → HasValue depth (filled outer v) fs x → (f : OpenFrame) × (fs ≡ f ∷ outer) × (v ≡ around f x)
 stands-part level depth v x outer [] some here at h = absurd (omega (arith, some, here, h.0))
 stands-part level depth v x outer (f ∷ gs) some here at h =
     let same = filled-same outer gs v (around f x) (omega (arith, some, here, at, h.0)) h.1 in
     (f, ap (λ hs. f ∷ hs) (sym same.0), same.1)
+
+pub stands-root : (level depth : ℕ) (v x : Tree) (outer fs : List OpenFrame) → level ≡ 0 → depth ≡ level
+    → IsAt level outer → HasValue depth (filled outer v) fs x → v ≡ x
+stands-root level depth v x outer [] none here at h = by outer (omega (arith, at, none)) h.1 where
+  by : (gs : List OpenFrame) → length gs ≡ 0 → filled gs v ≡ x → v ≡ x
+  by [] e is = is
+  by (g ∷ gs) e is = absurd (omega (arith, e))
+stands-root level depth v x outer (f ∷ gs) none here at h = absurd (omega (arith, none, here, h.0))
 
 -- and is taken out of it, so that it is awaited again.
 pub record FreeAgain (y x : Tree) (depth : ℕ) (w : Tree) (k : Text) (fs : List OpenFrame) : Type 0 where
@@ -179,11 +170,8 @@ free-again : (level depth : ℕ) (v x y w : Tree) (k : Text) (outer fs : List Op
     → IsAt level outer → HasValue depth (filled outer v) fs x → IsTaken level v y w k → FreeAgain y x depth (filled outer w) k fs
 free-again level depth v x y w k outer [] here at h taken =
     let none : level ≡ 0 = omega (arith, here, h.0) in
-    record { is = taken.root none ∙ by outer (omega (arith, at, none)) h.1; part = h.0; key = tt }
-  where
-    by : (gs : List OpenFrame) → length gs ≡ 0 → filled gs v ≡ x → v ≡ x
-    by [] e is = is
-    by (g ∷ gs) e is = absurd (omega (arith, e))
+    let is = taken.root none ∙ stands-root level depth v x outer [] none here at h in
+    record { is = is; part = h.0; key = tt }
 free-again level depth v x y w k outer (f ∷ gs) here at h taken =
     let some : 0 < level = omega (arith, here, h.0) in
     let same = filled-same outer gs v (around f x) (omega (arith, some, here, at, h.0)) h.1 in
@@ -244,7 +232,7 @@ hides-moved level i v w y n s k here unset on taken number text = record {
       let same : e ≡ with_parts z.apart false n s e.value = ap (λ a. with_parts a false n s e.value) z.same in
       record {
         opened = h.opened;
-        known = known-as next d e t h.opened refl refl refl h.known;
+        known = known-as next d e t h.opened (refl, refl, refl) h.known;
         held = λ none.
             subst (λ a. Holding a t h.opened) (sym same)
             (subst (λ o. Holding (with_parts z.apart false n s e.value) t o) (sym x.is) held);

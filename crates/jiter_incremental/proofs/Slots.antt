@@ -1,7 +1,8 @@
 -- The open containers of a value that comes in chunks: a part is put into one, taken out of it, or changed inside it.
 use Rattle.std.proofs.Common.{◌≡◌, ℕ, zero, suc, ◌≤◌, ◌+◌, ◌-◌, ◌<◌, List, [], ◌∷◌, ◌++◌, length, take, map, get_or}
 use Rattle.std.proofs.Common.{refl, sym, subst, ap, ap₂, ◌∙◌, arith, length-append, Vec, rules, vec_len}
-use Rattle.std.specs.Prelude.{slice_set}
+use Rattle.std.specs.Prelude.{slice_set, Result, Ok, Err, OnOk, OnErr}
+use Rattle.std.specs.Vec.{with_item}
 use Rattle.std.specs.declared.alloc.Global.{Global}
 use Rattle.std.specs.declared.borrow.CowStr.{CowStr}
 use Rattle.std.proofs.Math.Seq.{set-append_seam, get_or-append_seam}
@@ -9,7 +10,9 @@ use Rattle.std.proofs.lemmas.List.{map_push, take_all, take_more, length-map, sa
 use Rattle.jiter_steps.specs.Frames.{items_frame, members_frame}
 use Rattle.jiter_steps.specs.StringDecoder.{text_view}
 use Rattle.jiter_steps.specs.Tree.{Text, Tree, Items, no_items, item, Members, no_members, member, array, object}
-use Rattle.jiter_steps.specs.Tree.{items_of, members_of}
+use Rattle.jiter_steps.specs.Tree.{items_of, members_of, string}
+use Rattle.jiter_incremental.specs.Between.{text_of}
+use Rattle.jiter_incremental.specs.Strings.{IsGrown}
 use Rattle.jiter_incremental.specs.Slot.{OpenFrame, around, begun, filled, IsOfKey}
 use Rattle.jiter_value.specs.Stacks.{Member, member_view}
 use Rattle.jiter_value.specs.Value.{view}
@@ -222,6 +225,58 @@ object-swapped old new n m z at got set f x h =
       object-around new l.before l.key z put ∙ ap (λ g. around g (view z)) (sym l.frame),
       ap (λ (e : Member). view e.1) read ∙ l.part,
     )
+
+module _ {T E : Type 0} where
+  -- where a text goes on, so does the root,
+  pub root-grown : (r : Result T E) (level : ℕ) (v w : Tree) (bytes : List ℕ) → level ≡ 0
+      → ((u : List ℕ) → v ≡ string (text_of u) → OnOk r (w ≡ string (text_of (u ++ bytes))))
+      → OnOk r (IsGrown level v bytes w)
+  root-grown (Err e) level v w bytes none grow = tt
+  root-grown (Ok o) level v w bytes none grow =
+      record { root = λ t deep is. grow t is; part = λ t f some is. absurd (omega (arith, some, none)) }
+
+  -- or the container,
+  pub array-grown : (r : Result T E) (level : ℕ) (v : Vec JsonValue Global) (n : ℕ) (y z : JsonValue) (bytes : List ℕ)
+      → 0 < level → n + 1 ≡ length v.items → y ≡ get_or v.items n y
+      → ((w : List ℕ) → view y ≡ string (text_of w) → OnOk r (view z ≡ string (text_of (w ++ bytes))))
+      → OnOk r (IsGrown level (view (Array v)) bytes (view (Array (with_item v n z))))
+  array-grown (Err e) level v n y z bytes some at got grow = tt
+  array-grown (Ok o) level v n y z bytes some at got grow = record {
+    root = λ t none is. absurd (omega (arith, some, none));
+    part = λ t f deep is.
+        let seen = array-swapped v (with_item v n z) n y z at got refl f (string (text_of t)) is in
+        seen.0 ∙ ap (around f) (grow t seen.1);
+  }
+
+  pub object-grown : (r : Result T E) (level : ℕ) (v : Vec Member Global) (n : ℕ) (m : Member) (z : JsonValue)
+      (bytes : List ℕ) → 0 < level → n + 1 ≡ length v.items → m ≡ get_or v.items n m
+      → ((w : List ℕ) → view m.1 ≡ string (text_of w) → OnOk r (view z ≡ string (text_of (w ++ bytes))))
+      → OnOk r (IsGrown level (view (Object v)) bytes (view (Object (with_item v n (m.0, z)))))
+  object-grown (Err e) level v n m z bytes some at got grow = tt
+  object-grown (Ok o) level v n m z bytes some at got grow = record {
+    root = λ t none is. absurd (omega (arith, some, none));
+    part = λ t f deep is.
+        let seen = object-swapped v (with_item v n (m.0, z)) n m z at got refl f (string (text_of t)) is in
+        seen.0 ∙ ap (around f) (grow t seen.1);
+  }
+
+  -- or it stays,
+  pub array-kept : (r : Result T E) (v : Vec JsonValue Global) (n : ℕ) (y z : JsonValue) (f : OpenFrame) (x : Tree)
+      → n + 1 ≡ length v.items → y ≡ get_or v.items n y → view (Array v) ≡ around f x
+      → OnErr r (view z ≡ view y) → OnErr r (view (Array (with_item v n z)) ≡ view (Array v))
+  array-kept (Err e) v n y z f x at got is h =
+      let seen = array-swapped v (with_item v n z) n y z at got refl f x is in
+      seen.0 ∙ ap (around f) (h ∙ seen.1) ∙ sym is
+  array-kept (Ok o) v n y z f x at got is h = tt
+
+  pub object-kept : (r : Result T E) (v : Vec Member Global) (n : ℕ) (m : Member) (z : JsonValue) (f : OpenFrame)
+      (x : Tree)
+      → n + 1 ≡ length v.items → m ≡ get_or v.items n m → view (Object v) ≡ around f x
+      → OnErr r (view z ≡ view m.1) → OnErr r (view (Object (with_item v n (m.0, z))) ≡ view (Object v))
+  object-kept (Err e) v n m z f x at got is h =
+      let seen = object-swapped v (with_item v n (m.0, z)) n m z at got refl f x is in
+      seen.0 ∙ ap (around f) (h ∙ seen.1) ∙ sym is
+  object-kept (Ok o) v n m z f x at got is h = tt
 
 -- and there is one.
 pub array-place : (s : JsonValue) (v : Vec JsonValue Global) (f : OpenFrame) (x : Tree) (size : ℕ) → s ≡ Array v

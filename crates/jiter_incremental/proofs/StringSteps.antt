@@ -25,7 +25,7 @@ use Rattle.jiter_incremental.specs.Document.{Opened, anything}
 use Rattle.jiter_incremental.specs.Document.{HoldsScalar, between_tokens, in_key, in_scalar, is_shown, noted_in}
 use Rattle.jiter_incremental.specs.Document.{with_byte}
 use Rattle.jiter_incremental.specs.Names.{name_tree}
-use Rattle.jiter_incremental.specs.Reader.{HasReadTo, HasTakenTo, Hides, IsApart, IsAt, IsHere, Moves, Steps}
+use Rattle.jiter_incremental.specs.Reader.{HasReadTo, HasTakenTo, Hides, IsApart, IsAt, IsHere, Steps}
 use Rattle.jiter_incremental.specs.Reader.{StepsFrom, after_level, ahead, ahead_as}
 use Rattle.jiter_incremental.specs.Reader.{Shows, document, noted, refused, with_shown}
 use Rattle.jiter_incremental.specs.Slot.{IsPut, OpenFrame, filled}
@@ -35,14 +35,14 @@ use Rattle.jiter_incremental.specs.declared.reader.Token.{Token}
 use Rattle.jiter_incremental.specs.declared.reader.Token.TheVariants as token
 use Rattle.jiter_incremental.proofs.Arms.{turned}
 use Rattle.jiter_incremental.proofs.Between.{key-read, put-left, scalar-read}
-use Rattle.jiter_incremental.proofs.Documents.{puts, refuses}
-use Rattle.jiter_incremental.proofs.Documents.Strings.{closed-refused, index-low, is-held, key-taken, known-same}
+use Rattle.jiter_incremental.proofs.Documents.{known-as, puts, refuses}
+use Rattle.jiter_incremental.proofs.Documents.Strings.{closed-refused, index-low, is-held, key-taken}
 use Rattle.jiter_incremental.proofs.Documents.Strings.{noted-held, noted-known, noted-text}
 use Rattle.jiter_incremental.proofs.Documents.Strings.{taken-on, taken-same, whole-text, with_string, wrong-low}
 use Rattle.jiter_incremental.proofs.Documents.Strings.{wrong-refused}
 use Rattle.jiter_incremental.proofs.Documents.Tokens.{Unfinished, word-ends, word-goes-on, word-open, word-refused}
 use Rattle.jiter_incremental.proofs.Placing.{depth-of, put-there}
-use Rattle.jiter_incremental.proofs.Settling.{apart-read, read-any, reads-apart, shown-nothing, shown-word, steps-one}
+use Rattle.jiter_incremental.proofs.Settling.{apart-read, moves-here, moves-one, read-any, reads-apart, shown-nothing, shown-word, steps-one}
 
 -- ---- words
 
@@ -69,17 +69,6 @@ module _ (level : ℕ) (chunk : List ℕ) (i : Reader) (v : Tree) (h : IsHere le
     open-word : (t : List ℕ) (x : Tree) → HasReadTo chunk i x t → Unfinished (document i x) t token.Word
     open-word t x r = word-open (document i x) t (come t x r) h.unset word
 
-    moves-one : (j : Reader) → j.settings ≡ i.settings → j.base ≡ i.base → j.at ≡ i.at → j.depth ≡ i.depth
-        → Moves level chunk i j 1
-    moves-one j settings base at depth = record {
-      within = omega (arith, h.inside);
-      some = inl (omega arith);
-      still = (settings, base, at);
-      depth = (omega (arith, h.here, depth), omega (arith, h.here, depth));
-      low = omega (arith, h.here, depth, h.low);
-      deeper = λ more. absurd (omega (arith, h.here, depth, more));
-    }
-
     -- A word goes on,
     pub word-part : (m : PartialWord) → m.word ≡ i.word.word
         → ((t : List ℕ) (j : ℕ) → slice_get t j ≡ Some c
@@ -87,7 +76,7 @@ module _ (level : ℕ) (chunk : List ℕ) (i : Reader) (v : Tree) (h : IsHere le
         → Steps level chunk i v (record i { word = m }) v 1
     word-part m same leads =
         let j = record i { word = m } in
-        steps-one level chunk i v j v h.inside (moves-one j refl refl refl refl) hidden
+        steps-one level chunk i v j v h.inside (moves-one level chunk i h.here h.low j h.inside (refl, refl, refl) refl) hidden
         (λ x unset. shown-word (document j x) word)
         (λ t outer at r.
         let x = filled outer v in
@@ -101,7 +90,7 @@ module _ (level : ℕ) (chunk : List ℕ) (i : Reader) (v : Tree) (h : IsHere le
         → Steps level chunk i v (record (turned i (after_level level) i.depth k) { token = token.Nothing }) w 1
     word-last m k w leads put =
         let j = record (turned i (after_level level) i.depth k) { token = token.Nothing } in
-        steps-one level chunk i v j w h.inside (moves-one j refl refl refl refl) hidden
+        steps-one level chunk i v j w h.inside (moves-one level chunk i h.here h.low j h.inside (refl, refl, refl) refl) hidden
         (λ x unset. shown-nothing (document j x) refl)
         (λ t outer at r.
         let y = filled outer v in
@@ -123,15 +112,14 @@ module _ (level : ℕ) (chunk : List ℕ) (i : Reader) (v : Tree) (h : IsHere le
     word-wrong m leads =
         let kind = fault_of.ExpectedSomeIdent in
         let j = refused i kind (i.base + i.at) in
-        steps-one level chunk i v j v h.inside (moves-one j refl refl refl refl) hidden
+        steps-one level chunk i v j v h.inside (moves-one level chunk i h.here h.low j h.inside (refl, refl, refl) refl) hidden
         (λ x unset. shown-word (document j x) word)
         (λ t outer at r.
         let x = filled outer v in
         let d = document i x in
         let o = open-word t x r in
         refuses anything anything d t (c ∷ []) (in_scalar o.frames o.begin) kind d.position h.unset o.known
-        (λ u comes. tt) (word-refused d t o m c r.position leads) (record { kind = kind; index = d.position })
-        (noted_in d.first kind d.position) refl refl)
+        (λ u comes. tt) (word-refused d t o m c r.position leads))
 
 -- ---- strings that end
 
@@ -167,7 +155,7 @@ text-goes level i v w k s n t outer (in_scalar fs b) here at is put known held f
     let deep = depth-of i.depth y fs held.3.2 in
     let there = put-there level i.depth v w x (text_view i.key) outer fs put at here held.3.2 held.3.3 in
     let left = put-left new x fs (deep, there) (ap after_level (sym here)) in
-    puts n anything (with_string d s) new x t (34 ∷ []) fs b (known-same n d s t (in_scalar fs b) known) follows left
+    puts n anything (with_string d s) new x t (34 ∷ []) fs b (known-as n d (with_string d s) t (in_scalar fs b) (refl, refl, refl) known) follows left
     (λ p u n m. scalar-read x p u n m fs) text
 text-goes level i v w k s n t outer (in_key fs ms b) here at is put known held follows text =
     absurd (let no : token.Text ≡ token.Key = sym is ∙ held.2 in cc)
@@ -187,7 +175,7 @@ key-goes i y k s n t (in_key fs ms b) is unset named known held follows text =
     let new = (document (after_key i k s) y).value in
     let low : b < length (t ++ 34 ∷ []) =
     omega (arith, ap length held.1.is, length-append held.1.prefix held.0, held.1.begin, length-append t (34 ∷ [])) in
-    key-taken (with_string d s) new n anything t (34 ∷ []) fs ms b u (known-same n d s t (in_key fs ms b) known) follows
+    key-taken (with_string d s) new n anything t (34 ∷ []) fs ms b u (known-as n d (with_string d s) t (in_key fs ms b) (refl, refl, refl) known) follows
     unset (held.4, tt, (held.5, held.6), sym named) low text (λ p t j e ms fs. key-read p t j e ms fs u)
 
 some-none : (f : Fault) → Some f ≡ None → ⊥
@@ -213,14 +201,7 @@ module _ (level : ℕ) (chunk : List ℕ) (i : Reader) (v : Tree) (h : IsApart l
           (read-any (ahead j chunk (i.at + 1)) d u
           (reads-apart anything d u (goes t outer o r) hidden (off (filled outer w))));
       moves =
-          record {
-            within = omega (arith, h.inside);
-            some = inl (omega arith);
-            still = (settings, base, at);
-            depth = (omega (arith, h.here, depth), omega (arith, h.here, depth));
-            low = omega (arith, h.here, depth, h.low);
-            deeper = λ more. absurd (omega (arith, h.here, depth, more));
-          };
+          moves-one level chunk i h.here h.low j h.inside (settings, base, at) depth;
     }
 
     -- The text is put by a reader that noted a fault or none.
@@ -296,8 +277,7 @@ module _ (level : ℕ) (chunk : List ℕ) (i : Reader) (v : Tree) (h : IsApart l
             let x = filled outer v in
             let d = document i x in
             refuses anything anything d t (34 ∷ []) r.read.opened kind index h.unset r.read.known (λ u c. tt)
-            (closed-refused d k h.unset t (apart-come t x r) whole kept text_kept key_kept broken index place is) f
-            (noted_in d.first kind index) refl refl)
+            (closed-refused d k h.unset t (apart-come t x r) whole kept text_kept key_kept broken index place is))
 
     -- The place after its characters is in the text so far.
     pub quote-low : i.begin + 1 + length i.string.text.text ≤ i.base + i.at
@@ -308,7 +288,7 @@ module _ (level : ℕ) (chunk : List ℕ) (i : Reader) (v : Tree) (h : IsApart l
 
 -- ---- strings that go on
 
-ahead-string : (k : Token) (r : Reader) (chunk : List ℕ) (i : ℕ) → r.token ≡ k → IsOfString k
+pub ahead-string : (k : Token) (r : Reader) (chunk : List ℕ) (i : ℕ) → r.token ≡ k → IsOfString k
     → ahead r chunk i ≡ anything
 ahead-string k r chunk i is (inl e) = ap (λ x. ahead_as x r.awaits chunk i) (is ∙ e)
 ahead-string k r chunk i is (inr e) = ap (λ x. ahead_as x r.awaits chunk i) (is ∙ e)
@@ -414,19 +394,11 @@ module _ (level : ℕ) (chunk : List ℕ) (i : Reader) (v : Tree) (j : Reader) (
             subst (λ m. HasReadIn (ahead x chunk (m + n)) e (t ++ slice_range chunk m (m + n)))
             same-at (read-any (ahead x chunk (j.at + n)) (document x (filled outer y)) u read);
         moves =
-            let depth = ap (λ (r : Reader). r.depth) is ∙ same-depth in
-            record {
-              within = omega (arith, part.1, same-at);
-              some = inl part.0;
-              still = (
-                ap (λ (r : Reader). r.settings) is ∙ same-settings,
-                ap (λ (r : Reader). r.base) is ∙ same-base,
-                ap (λ (r : Reader). r.at) is ∙ same-at,
-              );
-              depth = (omega (arith, h.here, depth), omega (arith, h.here, depth));
-              low = omega (arith, h.here, depth, h.low);
-              deeper = λ more. absurd (omega (arith, h.here, depth, more));
-            };
+            moves-here level chunk i h.here h.low x n part.0 (omega (arith, part.1, same-at)) (
+              ap (λ (r : Reader). r.settings) is ∙ same-settings,
+              ap (λ (r : Reader). r.base) is ∙ same-base,
+              ap (λ (r : Reader). r.at) is ∙ same-at,
+            ) (ap (λ (r : Reader). r.depth) is ∙ same-depth);
       }
 
       -- A byte is wrong.
@@ -456,18 +428,10 @@ module _ (level : ℕ) (chunk : List ℕ) (i : Reader) (v : Tree) (j : Reader) (
                   let e = document x (filled outer w) in
                   let all : HasTakenIn anything e (t ++ run) =
                   refuses anything anything (with_string d s) t run c.read.opened kind index unset-so
-                  (known-same anything d s t c.read.opened c.read.known) (λ u q. tt) fails f
-                  (noted_in d.first kind index) refl refl in
+                  (known-as anything d (with_string d s) t c.read.opened (refl, refl, refl) c.read.known) (λ u q. tt) fails in
                   subst (λ m. HasReadIn (ahead x chunk (m + 1)) e (t ++ slice_range chunk m (m + 1))) same-at
                   (read-any (ahead x chunk (j.at + 1)) e (t ++ run)
                   (reads-apart anything e (t ++ run) all off (λ unset. absurd (some-none f unset))));
               moves =
-                  record {
-                    within = omega (arith, there, same-at);
-                    some = inl (omega arith);
-                    still = (same-settings, same-base, same-at);
-                    depth = (omega (arith, h.here, same-depth), omega (arith, h.here, same-depth));
-                    low = omega (arith, h.here, same-depth, h.low);
-                    deeper = λ more. absurd (omega (arith, h.here, same-depth, more));
-                  };
+                  moves-one level chunk i h.here h.low x h.inside (same-settings, same-base, same-at) same-depth;
             }

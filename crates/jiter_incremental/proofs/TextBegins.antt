@@ -1,7 +1,7 @@
 -- A string or a key of a chunk, in an open container whatever that is in: it is read whole, or begins there.
 use Rattle.std.proofs.Common.{◌≡◌, ℕ, ◌+◌, ◌-◌, ◌<◌, ◌≤◌, false, List, [], ◌∷◌, ◌++◌, length, get_or, refl, sym, subst}
 use Rattle.std.proofs.Common.{ap, ◌∙◌}
-use Rattle.std.proofs.Common.{arith, inl}
+use Rattle.std.proofs.Common.{arith}
 use Rattle.std.specs.Prelude.{slice_index, slice_range, Vec}
 use Rattle.std.specs.declared.alloc.Global.{Global}
 use Rattle.std.specs.declared.borrow.CowStr.{CowStr}
@@ -15,7 +15,7 @@ use Rattle.jiter_steps.specs.declared.partial_string.PartialString.{PartialStrin
 use Rattle.jiter_incremental.specs.Arrived.{Arrived, IsLeft, at_value}
 use Rattle.jiter_incremental.specs.Between.{TakesByte, text_of}
 use Rattle.jiter_incremental.specs.Document.{HasTakenIn, anything, in_key, with_byte}
-use Rattle.jiter_incremental.specs.Reader.{AwaitsKey, AwaitsValue, HasReadTo, IsAt, IsHere, Moves, Shows, Steps, ahead}
+use Rattle.jiter_incremental.specs.Reader.{AwaitsKey, AwaitsValue, HasReadTo, IsAt, IsHere, Shows, Steps, ahead}
 use Rattle.jiter_incremental.specs.Reader.{document, with_shown}
 use Rattle.jiter_incremental.specs.Slot.{OpenFrame, filled}
 use Rattle.jiter_incremental.specs.declared.reader.Awaits.TheVariants as awaits
@@ -23,13 +23,14 @@ use Rattle.jiter_incremental.specs.declared.reader.Reader.{Reader}
 use Rattle.jiter_incremental.specs.declared.reader.Token.TheVariants as token
 use Rattle.jiter_incremental.proofs.Arms.{hidden-here}
 use Rattle.jiter_incremental.proofs.Between.{at-value, goes-colon, key-read}
+use Rattle.jiter_incremental.proofs.Documents.{follows-byte, known-in}
 use Rattle.jiter_incremental.proofs.Documents.Bytes.{takes-here}
 use Rattle.jiter_incremental.proofs.Documents.Strings.{key-taken}
-use Rattle.jiter_incremental.proofs.Documents.Tokens.{follows-here, key-token, known-on, range-after, string-begins}
+use Rattle.jiter_incremental.proofs.Documents.Tokens.{range-after, string-begins}
 use Rattle.jiter_incremental.proofs.Documents.WholeTexts.{text-follows, text-key, text-some}
 use Rattle.jiter_incremental.proofs.NumberBegins.{shown-steps}
 use Rattle.jiter_incremental.proofs.Placing.{begins-there}
-use Rattle.jiter_incremental.proofs.Settling.{one-slice, read-any, reads-apart, shown-key, shown-nothing, steps-one}
+use Rattle.jiter_incremental.proofs.Settling.{moves-here, moves-one, one-slice, read-any, reads-apart, shown-key, shown-nothing, steps-one}
 
 -- The buffer in which escapes are decoded is no part of a document.
 pub tape-steps : (level : ℕ) (chunk : List ℕ) (i : Reader) (v : Tree) (j : Reader) (w : Tree) (n : ℕ) (s : Vec ℕ Global)
@@ -52,18 +53,6 @@ module _ (level : ℕ) (chunk : List ℕ) (i : Reader) (v : Tree) (h : IsHere le
     abbrev c : ℕ
     c = slice_index chunk i.at
 
-    -- The same container is open after them.
-    moves-here : (j : Reader) (n : ℕ) → 0 < n → i.at + n ≤ length chunk → j.settings ≡ i.settings → j.base ≡ i.base
-        → j.at ≡ i.at → j.depth ≡ i.depth → j.fault ≡ i.fault → Moves level chunk i j n
-    moves-here j n some within settings base at depth unset = record {
-      within = within;
-      some = inl some;
-      still = (settings, base, at);
-      depth = (omega (arith, h.here, depth), omega (arith, h.here, depth));
-      low = omega (arith, h.here, h.low, depth);
-      deeper = λ _. unset ∙ h.unset;
-    }
-
     -- A string begins there.
     pub text-kept : AwaitsValue level chunk i v → is_blank c ≡ false → level ≤ 200 → c ≡ ascii.quote
         → (s : PartialString) (b : Vec ℕ Global) → HasTaken s [] → (j : Reader) (w : Tree)
@@ -84,7 +73,7 @@ module _ (level : ℕ) (chunk : List ℕ) (i : Reader) (v : Tree) (h : IsHere le
         → Steps level chunk i v j w 1
     text-kept awaited other low quote s b fresh j w shows same =
         let k = record i { begin = i.base + i.at; token = token.Text; awaits = awaits.Value; string = s; tape = b } in
-        let moves = moves-here k 1 (omega arith) (omega (arith, h.inside)) refl refl refl refl refl in
+        let moves = moves-one level chunk i h.here h.low k h.inside (refl, refl, refl) refl in
         shown-steps level chunk i v k v j w 1 moves shows same
         (λ t outer at r.
         let d = document i (filled outer v) in
@@ -92,7 +81,7 @@ module _ (level : ℕ) (chunk : List ℕ) (i : Reader) (v : Tree) (h : IsHere le
         let b = begins-there level chunk i v h none awaited other low t outer at r in
         let held = record d { value = record d.value { awaits = awaits.Value } } in
         subst (λ x. HasTakenIn anything new (t ++ x)) (sym (one-slice chunk i.at h.inside))
-        (string-begins held new t c b.0 b.1 record { settings = refl; fault = refl; first = refl } refl refl refl quote
+        (string-begins held new t c b.0 b.1 (refl, refl, refl) refl refl refl quote
         fresh))
 
     module _ (awaited : AwaitsKey level chunk i v) where
@@ -107,7 +96,7 @@ module _ (level : ℕ) (chunk : List ℕ) (i : Reader) (v : Tree) (h : IsHere le
           }) v 1
       key-kept s b fresh =
           let j = record i { begin = i.base + i.at; token = token.Key; awaits = awaits.Colon; string = s; tape = b } in
-          let moves = moves-here j 1 (omega arith) (omega (arith, h.inside)) refl refl refl refl refl in
+          let moves = moves-one level chunk i h.here h.low j h.inside (refl, refl, refl) refl in
           steps-one level chunk i v j v h.inside moves (hidden-here level chunk i v h none)
           (λ x unset. shown-key (document j x) refl)
           (λ t outer at r.
@@ -120,8 +109,7 @@ module _ (level : ℕ) (chunk : List ℕ) (i : Reader) (v : Tree) (h : IsHere le
           record {
             opened = o;
             known =
-                known-on (with_byte c) anything d e t (c ∷ []) o (key-token fs ms (length t))
-                record { settings = refl; fault = refl; first = refl } (follows-here c) a.2.known;
+                known-in (with_byte c) anything d e t (c ∷ []) o tt (refl, refl, refl) (follows-byte c) a.2.known;
             held = λ unset. (
               c ∷ [],
               record { prefix = t; is = refl; begin = refl; place = a.2.position },
@@ -169,8 +157,8 @@ module _ (level : ℕ) (chunk : List ℕ) (i : Reader) (v : Tree) (h : IsHere le
                     (key-there t outer at r))
                     (hidden-here level chunk i v h none) (λ unset. shown-nothing d none));
                 moves =
-                    moves-here ended (e - i.at) (omega (arith, within.within.0)) (omega (arith, end, within.within.1))
-                    refl refl refl refl refl;
+                    moves-here level chunk i h.here h.low ended (e - i.at) (omega (arith, within.within.0)) (omega (arith, end, within.within.1))
+                    (refl, refl, refl) refl;
               }
 
           -- also with its colon.
@@ -203,6 +191,6 @@ module _ (level : ℕ) (chunk : List ℕ) (i : Reader) (v : Tree) (h : IsHere le
                     (subst (HasTakenIn anything d) bytes one))
                     (hidden-here level chunk i v h none) (λ unset. shown-nothing d none));
                 moves =
-                    moves-here j (e + 1 - i.at) (omega (arith, within.within.0)) (omega (arith, end, more)) refl refl
-                    refl refl refl;
+                    moves-here level chunk i h.here h.low j (e + 1 - i.at) (omega (arith, within.within.0)) (omega (arith, end, more)) (refl, refl, refl)
+                    refl;
               }

@@ -1,12 +1,10 @@
 -- A value that comes byte by byte: what the next byte makes of it, whatever comes after it.
-use Rattle.std.specs.Prelude.{◌≡◌, ◌⊎◌, ℕ, ◌+◌, ◌≤◌, true, false, List, [], ◌∷◌, ◌++◌, length, slice_get, Some}
+use Rattle.std.specs.Prelude.{◌≡◌, ◌⊎◌, ℕ, ◌+◌, true, false, List, [], ◌∷◌, ◌++◌, length, slice_get, Some}
 use Rattle.jiter_scan.specs.Ascii as ascii
 use Rattle.jiter_scan.specs.Kind.{Kind}
 use Rattle.jiter_scan.specs.PartialMode.{is_active}
 use Rattle.jiter_steps.specs.Blank.{is_blank}
-use Rattle.jiter_steps.specs.Frames.{items_frame, members_frame, value_from, key_from}
-use Rattle.jiter_steps.specs.Literal.{start_of}
-use Rattle.jiter_steps.specs.Node.{nesting_limit}
+use Rattle.jiter_steps.specs.Frames.{items_frame, members_frame, key_from}
 use Rattle.jiter_steps.specs.Read.{Reading, fault}
 use Rattle.jiter_steps.specs.Step.{begins_part}
 use Rattle.jiter_steps.specs.Tree.{Text, Tree, object, members_of}
@@ -62,14 +60,6 @@ IsScalarStart start.Array = ⊥
 IsScalarStart start.Object = ⊥
 IsScalarStart start.Nothing = ⊥
 IsScalarStart other = Unit {0}
-
--- A scalar begins with the byte: inside these containers, within the limit, and there is room for it.
-pub record BeginsScalar (new : OpenValue) (s : Arrived) (c : ℕ) : Type 0 where
-  pub frames : List OpenFrame
-  pub left : IsLeft new (at_value awaits.Value frames)
-  pub low : length frames ≤ nesting_limit
-  pub starts : IsScalarStart (start_of c)
-  pub goes : Everywhere c (λ p t j. completed p t s j ≡ value_from (rules_as owned p) t frames j)
 
 -- an item may begin with the byte: it is no blank, and ends no array
 abbrev pub BeginsItem : ℕ → Type 0

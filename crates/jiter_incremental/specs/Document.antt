@@ -147,11 +147,26 @@ Comes (with_byte c) u = (v : List ℕ) × (u ≡ c ∷ v)
 abbrev pub Follows : Next → List ℕ → Next → Type 0
 Follows n w m = (u : List ℕ) → Comes m u → Comes n (w ++ u)
 
--- The bytes t were read: by the document's settings and with partial reading off they are refused for good with the
--- fault that was found, or what comes after them completes what is open.
+-- A document is read in its own mode, and with partial reading off:
+pub data Strictness : Type 0 where
+  by_mode : Strictness
+  strict : Strictness
+
+-- by these settings,
+abbrev pub settings_by : Strictness → Settings → Settings
+settings_by by_mode p = p
+settings_by strict p = strictly p
+
+-- with this one of the two first faults.
+abbrev pub fault_by : Strictness → Option Fault → Option Fault → Option Fault
+fault_by by_mode f g = f
+fault_by strict f g = g
+
+-- The bytes t were read: by each strictness they are refused for good with the fault that was found, or what comes
+-- after them completes what is open.
 pub record Known (n : Next) (d : Document) (t : List ℕ) (o : Opened) : Type 0 where
-  pub mode : (u : List ℕ) → Comes n u → ReadsAt d.settings t u d.fault o
-  pub strict : (u : List ℕ) → Comes n u → ReadsAt (strictly d.settings) t u d.first o
+  pub reads : (by : Strictness) (u : List ℕ) → Comes n u
+      → ReadsAt (settings_by by d.settings) t u (fault_by by d.fault d.first) o
   pub ends : d.first ≡ None → EndsRight t o
   pub noted : d.first ≡ None → d.fault ≡ None
   pub same : is_active d.settings.mode ≡ false → d.fault ≡ None → d.first ≡ None
@@ -251,7 +266,7 @@ pub record WordBegins (k : Name) (c : ℕ) : Type 0 where
 
 -- The document is still read by these settings.
 abbrev pub IsReading : Document → Settings → Type 0
-IsReading d p = ((p ≡ d.settings) × (d.fault ≡ None)) ⊎ ((p ≡ strictly d.settings) × (d.first ≡ None))
+IsReading d p = (by : Strictness) × (p ≡ settings_by by d.settings) × (fault_by by d.fault d.first ≡ None)
 
 -- by them a text is refused so,
 abbrev pub IsFaulty : Settings → List ℕ → Kind → ℕ → Type 0
@@ -339,7 +354,3 @@ noted_in None k i = Some (record { kind = k; index = i })
 -- the same document, with this first fault
 abbrev pub with_first : Document → Option Fault → Document
 with_first d f = record d { first = f }
-
--- some bytes have come, and are not refused; this token is unfinished
-abbrev pub IsIn : Document → Token → Type 0
-IsIn d k = ((t : List ℕ) × HasCome d t) × (d.fault ≡ None) × (d.token ≡ k)

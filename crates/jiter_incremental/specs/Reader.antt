@@ -4,6 +4,7 @@ use Rattle.std.specs.Prelude.{Option, Some, None}
 use Rattle.std.specs.declared.alloc.Global.{Global}
 use Rattle.std.specs.declared.borrow.CowStr.{CowStr}
 use Rattle.jiter_scan.specs.Ascii as ascii
+use Rattle.jiter_scan.specs.Scan.{Pass, is_plain_ascii}
 use Rattle.jiter_scan.specs.declared.partial_number.PartialNumber.{PartialNumber}
 use Rattle.jiter_steps.specs.declared.partial_string.PartialString.{PartialString}
 use Rattle.jiter_steps.specs.Node.{nesting_limit}
@@ -195,6 +196,11 @@ pub record Refuses (level : ℕ) (chunk : List ℕ) (i : Reader) (v : Tree) (j :
       → HasReadTo chunk i (filled outer v) (t ++ take i.at chunk) → MayRefuseAt (t ++ chunk) (j.base + j.at)
   pub free : ahead j chunk j.at ≡ anything
 
--- A string that is shown is unfinished, and its bytes so far are whole characters and whole escapes.
+-- The bytes of the string that is shown are whole characters and whole escapes so far.
 abbrev pub IsGrowing : Reader → Type 0
-IsGrowing r = (r.fault ≡ None) × (r.token ≡ token.Text) × (r.shown ≡ true) × IsEven r.string
+IsGrowing r = (r.shown ≡ true) × IsEven r.string
+
+-- So many bytes of the chunk from a place on are plain and below 80 hex.
+pub record IsPlainRun (chunk : List ℕ) (at n : ℕ) : Type 0 where
+  pub within : at + n ≤ length chunk
+  pub plain : Pass is_plain_ascii (slice_range chunk at (at + n))

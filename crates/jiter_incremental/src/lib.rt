@@ -2,7 +2,6 @@
 #![tactic(auto)]
 
 pub mod ends;
-mod growing;
 pub mod incremental_parser;
 mod line_index;
 pub mod names;

@@ -401,9 +401,6 @@ impl Reader {
         ensures within { self.new.at ≤ length chunk.now }
         ensures same { (self.new.settings ≡ self.old.settings) × (self.new.base ≡ self.old.base) }
     {
-        if self.is_growing(chunk) {
-            return self.grow(root, chunk);
-        }
         while self.at < chunk.len() {
             if self.is_over() {
                 self.at = chunk.len();

@@ -4,7 +4,8 @@
 ghost use Rattle.std.specs.Prelude.{◌≡◌, ◌+◌, ◌<◌, ◌++◌, ◌∷◌, [], List, OnErr, OnOk, length, vec_capacity, vec_len, ℕ};
 ghost use Rattle.std.specs.Str.{IsAscii};
 ghost use Rattle.jiter_incremental.specs.Between.{text_of};
-ghost use Rattle.jiter_incremental.specs.Slot.{HasPart, HasRoomAt, HasValue, IsContainer, IsOfKey, IsPut, IsRoomy, IsTaken};
+ghost use Rattle.jiter_incremental.specs.Strings.{HasText, IsGrown};
+ghost use Rattle.jiter_incremental.specs.Slot.{HasPart, HasRoomAt, IsContainer, IsOfKey, IsPut, IsRoomy, IsTaken};
 ghost use Rattle.jiter_incremental.specs.Slot.{OpenFrame, around, begun, filled};
 ghost use Rattle.jiter_steps.specs.StringDecoder.{text_view};
 ghost use Rattle.jiter_steps.specs.Tree.{Tree, string};
@@ -145,7 +146,6 @@ fn append_text(value: &mut JsonValue<'static>, bytes: &[u8]) -> Result<(), Alloc
     ensures ok { (w : List ℕ) → view value.old ≡ string (text_of w)
         → OnOk result (view value.new ≡ string (text_of (w ++ bytes.now))) }
     ensures refused { OnErr result (view value.new ≡ view value.old) }
-    ensures some { OnErr result (0 < length bytes.now) }
 {
     match value {
         JsonValue::Str(CowStr::Owned(text)) => push_ascii(text, bytes),
@@ -153,31 +153,28 @@ fn append_text(value: &mut JsonValue<'static>, bytes: &[u8]) -> Result<(), Alloc
     }
 }
 
-/// Appends bytes below 80 hex to the string that is inside `depth` open containers. If the allocation fails, nothing
-/// changes.
-pub fn grow_inside(
+/// Appends bytes below 80 hex to the string that [`put_in`] stored. If the allocation fails, nothing changes.
+pub fn append_in(
     slot: &mut JsonValue<'static>,
-    depth: usize,
+    level: usize,
     bytes: &[u8],
 ) -> Result<(), AllocFailed>
-    requires text { (w : List ℕ) × (fs : List OpenFrame) × HasValue depth (view slot.old) fs (string (text_of w)) }
+    requires text { HasText level (view slot.old) }
     requires ascii { IsAscii bytes.now }
-    ensures ok { (w : List ℕ) → (fs : List OpenFrame) → HasValue depth (view slot.old) fs (string (text_of w))
-        → OnOk result (HasValue depth (view slot.new) fs (string (text_of (w ++ bytes.now)))) }
+    ensures ok { OnOk result (IsGrown level (view slot.old) bytes.now (view slot.new)) }
     ensures refused { OnErr result (view slot.new ≡ view slot.old) }
-    ensures some { OnErr result (0 < length bytes.now) }
 {
-    if depth == 0 {
+    if level == 0 {
         return append_text(slot, bytes);
     }
     match slot {
         JsonValue::Array(items) => {
             let last = items.len() - 1;
-            grow_inside(&mut items[last], depth - 1, bytes)
+            append_text(&mut items[last], bytes)
         }
         JsonValue::Object(members) => {
             let last = members.len() - 1;
-            grow_inside(&mut members[last].1, depth - 1, bytes)
+            append_text(&mut members[last].1, bytes)
         }
         _ => unreachable!(),
     }

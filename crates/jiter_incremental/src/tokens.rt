@@ -5,7 +5,7 @@ ghost use Rattle.std.specs.Prelude.{Some, string_bytes, false, true, ℕ};
 ghost use Rattle.jiter_incremental.specs.Between.{text_of};
 ghost use Rattle.jiter_incremental.specs.Document.{Next, HasMoved, HasReadIn, bytes_in, is_shown, token_tree};
 ghost use Rattle.jiter_incremental.specs.Names.{name_word};
-ghost use Rattle.jiter_incremental.specs.Reader.{Hides, IsApart, IsAt, IsHere, Shows, Stays, Steps, StepsFrom, after_level};
+ghost use Rattle.jiter_incremental.specs.Reader.{Hides, IsApart, IsAt, IsGrowing, IsHere, IsPlainRun, Shows, Stays, Steps, StepsFrom, after_level};
 ghost use Rattle.jiter_incremental.specs.Reader.{document, with_shown};
 ghost use Rattle.jiter_incremental.specs.Slot.{HasRoomAt, IsPut, OpenFrame, filled};
 ghost use Rattle.jiter_incremental.specs.declared.reader.Token.TheVariants as token_kind;
@@ -24,12 +24,13 @@ ghost use Rattle.jiter_value.specs.Value.{view};
 use crate::names::Name;
 use crate::punctuation::is_blank;
 use crate::reader::{Reader, Token};
-use crate::slot::{put_in, reserve_in, take_from};
+use crate::slot::{append_in, put_in, reserve_in, take_from};
 use crate::values::text_value;
 use jiter_scan::errors::FaultKind;
 use jiter_scan::memory::AllocFailed;
 use jiter_scan::partial_number::{OwnNumber, Went as NumberWent};
 use jiter_scan::partial_word::Seen;
+use jiter_scan::simd::scan_string;
 use jiter_steps::partial_string::Went as StringWent;
 use jiter_value::value::JsonValue;
 use std::alloc::Global;
@@ -327,8 +328,22 @@ impl Reader {
         1
     }
 
+    // How many bytes of the chunk can be appended to the string where it is in the value: plain ASCII, after complete
+    // characters and escapes.
+    #[inline(always)]
+    fn growth(&self, chunk: &[u8]) -> usize
+        requires { self.now.at < length chunk.now }
+        ensures { 0 < result → IsGrowing self.now × IsPlainRun chunk.now self.now.at result }
+    {
+        if !self.shown || !self.string.is_even() {
+            return 0;
+        }
+        let (stop, low) = scan_string(chunk, self.at);
+        if low { stop - self.at } else { 0 }
+    }
+
     // A wrong byte counts as taken: the error is final.
-    fn take_string(
+    fn move_string(
         &mut self,
         slot: &mut JsonValue<'static>,
         level: usize,
@@ -356,6 +371,25 @@ impl Reader {
                 Err(error)
             }
         }
+    }
+
+    fn take_string(
+        &mut self,
+        slot: &mut JsonValue<'static>,
+        level: usize,
+        chunk: &[u8],
+    ) -> Result<usize, AllocFailed>
+        requires here { IsHere level chunk.now self.old (view slot.old) }
+        requires token { (self.old.token ≡ token_kind.Text) ⊎ (self.old.token ≡ token_kind.Key) }
+        ensures steps { IfOk result (λ n. Steps level chunk.now self.old (view slot.old) self.new (view slot.new) n) }
+        ensures stays { OnErr result (Stays level chunk.now self.old (view slot.old) self.new (view slot.new)) }
+    {
+        let count = self.growth(chunk);
+        if count == 0 {
+            return self.move_string(slot, level, chunk);
+        }
+        append_in(slot, level, &chunk[self.at..self.at + count])?;
+        Ok(count)
     }
 
     /// Takes bytes of the unfinished token.

@@ -2,7 +2,6 @@
 //! complete in the chunk is read at once.
 ghost use Rattle.std.specs.Prelude.{◌≡◌, ◌+◌, ◌-◌, ◌^◌, ◌<◌, ◌≤◌, ◌++◌, [], IfOk, OnErr, OnOk, length, slice_index, true, false};
 ghost use Rattle.std.specs.Prelude.{string_bytes};
-ghost use Rattle.std.specs.Str.{IsAscii};
 ghost use Rattle.jiter_incremental.specs.Between.{text_of};
 ghost use Rattle.jiter_incremental.specs.Names.{name_word};
 ghost use Rattle.jiter_incremental.specs.Reader.{AwaitsKey, AwaitsValue, IsHere, Stays, Steps};
@@ -17,7 +16,7 @@ ghost use Rattle.jiter_steps.specs.Literal.{start_of};
 ghost use Rattle.jiter_steps.specs.Node.{nesting_limit, number_tree};
 ghost use Rattle.jiter_steps.specs.PartialString.{HasTaken};
 ghost use Rattle.jiter_steps.specs.Step.{opening};
-ghost use Rattle.jiter_steps.specs.Tree.{float, int, string};
+ghost use Rattle.jiter_steps.specs.Tree.{string};
 ghost use Rattle.jiter_steps.specs.declared.parse.Start.TheVariants as start;
 ghost use Rattle.jiter_value.specs.Owned.{owned_text, tree_as};
 ghost use Rattle.jiter_value.specs.Value.{view};
@@ -27,9 +26,8 @@ use crate::reader::{Awaits, Reader, Token};
 use crate::slot::{empty, reserve_in};
 use jiter_scan::errors::FaultKind;
 use jiter_scan::memory::{AllocFailed, copy_text};
-use jiter_scan::number_within::{ShortWithin, number_within, short_within};
+use jiter_scan::number_within::number_within;
 use jiter_scan::partial_number::begun_at;
-use jiter_scan::text::ascii_text;
 use jiter_scan::{NumberAny, NumberInt};
 use jiter_steps::fast::fast_literal_end;
 use jiter_steps::parse::{ContainerKind, Literal, NESTING_LIMIT, Start, start_of};
@@ -37,9 +35,6 @@ use jiter_steps::partial_string::{PartialString, text_within};
 use jiter_value::value::JsonValue;
 use std::alloc::Global;
 use std::borrow::CowStr;
-
-// `short_within` reads seventeen bytes.
-const SHORT_REACH: usize = 17;
 
 // The source text is copied: the value outlives the chunk.
 fn number_value(alloc: Global, number: NumberAny<'_>) -> Result<JsonValue<'static>, AllocFailed>
@@ -57,21 +52,6 @@ fn number_value(alloc: Global, number: NumberAny<'_>) -> Result<JsonValue<'stati
             Ok(JsonValue::Float(CowStr::Owned(copy)))
         }
     }
-}
-
-#[inline(always)]
-fn int_value(number: i64) -> JsonValue<'static>
-    ensures { view result ≡ int number }
-{
-    JsonValue::Int(number)
-}
-
-fn float_value(alloc: Global, bytes: &[u8]) -> Result<JsonValue<'static>, AllocFailed>
-    requires { IsAscii bytes.now }
-    ensures { IfOk result (λ v. view v ≡ float (owned_text (record { owned = false; bytes = bytes.now }))) }
-{
-    let copy = copy_text(alloc, ascii_text(bytes))?;
-    Ok(JsonValue::Float(CowStr::Owned(copy)))
 }
 
 // Does not allocate.
@@ -184,9 +164,8 @@ impl Reader {
         Ok(end - self.at)
     }
 
-    // The number may be long.
     #[inline(never)]
-    fn long_number(
+    fn number(
         &mut self,
         slot: &mut JsonValue<'static>,
         level: usize,
@@ -209,40 +188,6 @@ impl Reader {
                 Ok(end - self.at)
             }
             None => self.begin_number(slot, level, chunk),
-        }
-    }
-
-    #[inline(always)]
-    fn number(
-        &mut self,
-        slot: &mut JsonValue<'static>,
-        level: usize,
-        chunk: &[u8],
-    ) -> Result<usize, AllocFailed>
-        requires here { IsHere level chunk.now self.old (view slot.old) }
-        requires token { self.old.token ≡ token_kind.Nothing }
-        requires awaited { AwaitsValue level chunk.now self.old (view slot.old) }
-        requires other { is_blank (slice_index chunk.now self.old.at) ≡ false }
-        requires space { HasRoomAt level slot.old }
-        requires low { level ≤ nesting_limit }
-        requires begins { begins_decimal (slice_index chunk.now self.old.at) ≡ true }
-        ensures steps { IfOk result (λ n. Steps level chunk.now self.old (view slot.old) self.new (view slot.new) n) }
-        ensures stays { OnErr result (Stays level chunk.now self.old (view slot.old) self.new (view slot.new)) }
-    {
-        if chunk.len() - self.at < SHORT_REACH {
-            return self.long_number(slot, level, chunk);
-        }
-        match short_within(chunk, self.at) {
-            ShortWithin::Int(number, end) => {
-                self.put(slot, level, int_value(number));
-                Ok(end - self.at)
-            }
-            ShortWithin::Float(end) => {
-                let value = float_value(self.alloc, &chunk[self.at..end])?;
-                self.put(slot, level, value);
-                Ok(end - self.at)
-            }
-            ShortWithin::Other => self.long_number(slot, level, chunk),
         }
     }
 

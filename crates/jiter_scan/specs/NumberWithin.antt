@@ -1,14 +1,11 @@
 -- A number that lies whole in a piece of a text (RFC 8259, 6).
 use Rattle.std.specs.Prelude.{◌≡◌, ◌+◌, ◌-◌, ◌<◌, ◌==◌, ◌||◌, ℕ, Bool, false, List, length, slice_get, slice_index, slice_range}
-use Rattle.std.specs.Str.{IsAscii}
 use Rattle.jiter_scan.specs.Ascii as ascii
 use Rattle.jiter_scan.specs.Digits.{is_digit}
-use Rattle.jiter_scan.specs.Number.{Number, float, integer, number_value}
+use Rattle.jiter_scan.specs.Number.{Number, number_value}
 use Rattle.jiter_scan.specs.NumberReading.{number_extent}
 use Rattle.jiter_scan.specs.Scanned.{taken}
 use Rattle.jiter_scan.specs.Stands.{Stands}
-use Rattle.jiter_scan.specs.declared.number_within.ShortWithin.{ShortWithin}
-use Rattle.jiter_scan.specs.declared.number_within.ShortWithin.TheVariants as short
 
 -- a byte with which a number may go on: a digit, a point or the letter of an exponent
 abbrev pub continues_number : ℕ → Bool
@@ -27,13 +24,3 @@ pub record EndsWithin (piece : List ℕ) (at : ℕ) (n : Number) (e : ℕ) : Typ
 pub record EndsNumber (piece : List ℕ) (e : ℕ) : Type 0 where
   pub within : e < length piece
   pub stops : continues_number (slice_index piece e) ≡ false
-
--- a number with a point or an exponent
-abbrev pub IsFloatWithin : List ℕ → ℕ → ℕ → Type 0
-IsFloatWithin piece at e = EndsWithin piece at (float (slice_range piece at e)) e × IsAscii (slice_range piece at e)
-
--- what was found at a place of a piece
-abbrev pub IsShortWithin : List ℕ → ℕ → ShortWithin → Type 0
-IsShortWithin piece at (short.Int n e) = EndsWithin piece at (integer n) e
-IsShortWithin piece at (short.Float e) = IsFloatWithin piece at e
-IsShortWithin piece at short.Other = Unit {0}

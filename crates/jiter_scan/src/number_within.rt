@@ -1,23 +1,9 @@
 //! Numbers that are complete in a chunk (RFC 8259, 6): the chunk also has the byte that ends them.
 ghost use Rattle.std.specs.Prelude.{◌≡◌, ◌+◌, ◌<◌, ◌≤◌, IfSome, length, true};
 ghost use Rattle.jiter_scan.specs.NumberDecoder.{number_view};
-ghost use Rattle.jiter_scan.specs.NumberWithin.{EndsWithin, EndsNumber};
-ghost use Rattle.jiter_scan.specs.NumberWithin.{IsShortWithin, continues_number};
+ghost use Rattle.jiter_scan.specs.NumberWithin.{EndsNumber, EndsWithin, continues_number};
 
-use crate::fast_number::{FastNumber, padded_number_at, signed};
 use crate::number_decoder::{NumberAny, number_at};
-use crate::number_extent::minus_end;
-
-/// A short number that is complete in a chunk.
-#[derive(Clone, Copy, Debug)]
-pub enum ShortWithin {
-    /// An integer, and the index after it.
-    Int(i64, usize),
-    /// A number with a point or an exponent: the index after it.
-    Float(usize),
-    /// Anything else: the fast path finds no complete number.
-    Other,
-}
 
 // A complete number ends with a digit, so a sign doesn't continue it.
 #[inline(always)]
@@ -32,33 +18,6 @@ fn ends_number(piece: &[u8], end: usize) -> bool
     ensures { result ≡ true → EndsNumber piece.now end }
 {
     end < piece.len() && !continues_number(piece[end])
-}
-
-/// Returns the short number at `at`, if the chunk also has the byte that ends it. At least seventeen bytes must be
-/// left.
-#[inline(always)]
-pub fn short_within(piece: &[u8], at: usize) -> ShortWithin
-    requires { at + 17 ≤ length piece.now }
-    ensures { IsShortWithin piece.now at result }
-{
-    let from = minus_end(piece, at);
-    match padded_number_at(piece, from) {
-        FastNumber::Int(magnitude, end) => {
-            if ends_number(piece, end) {
-                ShortWithin::Int(signed(magnitude, from > at), end)
-            } else {
-                ShortWithin::Other
-            }
-        }
-        FastNumber::Float(end) => {
-            if ends_number(piece, end) {
-                ShortWithin::Float(end)
-            } else {
-                ShortWithin::Other
-            }
-        }
-        FastNumber::Other => ShortWithin::Other,
-    }
 }
 
 /// Returns the number at `at` and the index after it, if the chunk also has the byte that ends it.

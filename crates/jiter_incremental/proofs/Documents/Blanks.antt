@@ -11,15 +11,11 @@ use Rattle.jiter_scan.proofs.Standing.{slice-one, slice_range-split}
 use Rattle.jiter_steps.specs.Blank.{is_blank, past_blanks}
 use Rattle.jiter_steps.proofs.Grammar.Blanks.{no_blank-after, past_blanks-bound}
 use Rattle.jiter_incremental.specs.Between.{IsScalarStart}
-use Rattle.jiter_incremental.specs.Document.{Document, HasTakenIn, Holding, HoldsScalar, MayRefuseAt, Opened, anything, between_tokens, in_key, in_scalar}
-use Rattle.jiter_incremental.specs.Names.{name_start}
-use Rattle.jiter_incremental.specs.declared.names.Name.{Name}
-use Rattle.jiter_incremental.specs.declared.names.Name.TheVariants as name
+use Rattle.jiter_incremental.specs.Document.{Document, HasTakenIn, Holding, HoldsScalar, MayRefuseAt, Opened, anything, between_tokens, in_key, in_scalar, with_byte}
 use Rattle.jiter_incremental.specs.declared.reader.Token.{Token}
 use Rattle.jiter_incremental.specs.declared.reader.Token.TheVariants as token
-use Rattle.jiter_incremental.proofs.Documents.Ends.{no-blank}
-use Rattle.jiter_incremental.proofs.Documents.Tokens.{stands-last}
-use Rattle.jiter_incremental.proofs.Documents.{known-before, taken-between, takes-byte}
+use Rattle.jiter_incremental.proofs.Documents.Ends.{name-starts, no-blank}
+use Rattle.jiter_incremental.proofs.Documents.{byte-first, known-any, taken-between, takes-byte}
 use Rattle.jiter_incremental.proofs.Between.{goes-blank}
 
 -- a blank is taken
@@ -27,7 +23,7 @@ blank-taken : (d : Document) (t : List ℕ) (c : ℕ) → HasTakenIn anything d 
     → d.token ≡ token.Nothing → is_blank c ≡ true → HasTakenIn anything d (t ++ c ∷ [])
 blank-taken d t c h unset none blank =
     let b = taken-between anything d t h unset none in
-    takes-byte d d.value c t b.state (known-before c d t (between_tokens b.state) b.known) none
+    takes-byte d d.value c t b.state (known-any (with_byte c) d t (between_tokens b.state) b.known) none
     (goes-blank d.value b.state c blank b.left)
 
 module _ (d : Document) (t : List ℕ) (h : HasTakenIn anything d t) (unset : d.fault ≡ None)
@@ -74,7 +70,7 @@ blank-stops s i c here other = by (cases_lt i (past_blanks s 0)) where
 -- Before a byte that is no blank memory may be refused.
 pub refuse-here : (t : List ℕ) (c : ℕ) → is_blank c ≡ false → MayRefuseAt (t ++ c ∷ []) (length t)
 refuse-here t c other = record {
-  begun = blank-stops (t ++ c ∷ []) (length t) c (stands-last t [] c) other;
+  begun = blank-stops (t ++ c ∷ []) (length t) c (byte-first c t []) other;
   before = omega (arith, length-append t (c ∷ []));
 }
 
@@ -109,10 +105,6 @@ refuse-on s r i h =
     record { begun = omega (arith, h.begun); before = omega (arith, h.before, length-append s r) }
 
 -- a token begins with a byte that is no blank
-name-starts : (k : Name) → IsScalarStart (name_start k)
-name-starts (name.Literal l) = tt
-name-starts other = tt
-
 scalar-begins : (d : Document) (k : Token) (w : List ℕ) → HoldsScalar d k w
     → (c : ℕ) × (rest : List ℕ) × (w ≡ c ∷ rest) × (is_blank c ≡ false)
 scalar-begins d token.Word w h =
@@ -131,7 +123,7 @@ held-byte d t (in_scalar fs b) h begun =
     record {
       place = length f.prefix;
       byte = w.0;
-      here = ap (λ u. slice_get u (length f.prefix)) is ∙ stands-last f.prefix w.1 w.0;
+      here = ap (λ u. slice_get u (length f.prefix)) is ∙ byte-first w.0 f.prefix w.1;
       other = w.3;
     }
 held-byte d t (in_key fs ms b) h begun =
@@ -141,7 +133,7 @@ held-byte d t (in_key fs ms b) h begun =
     record {
       place = length f.prefix;
       byte = 34;
-      here = ap (λ u. slice_get u (length f.prefix)) is ∙ stands-last f.prefix q.rest 34;
+      here = ap (λ u. slice_get u (length f.prefix)) is ∙ byte-first 34 f.prefix q.rest;
       other = refl;
     }
 

@@ -9,7 +9,7 @@ use Rattle.jiter_incremental.specs.Arrived.{Arrived, IsLeft, OpenValue}
 use Rattle.jiter_incremental.specs.Between.{TakesByte}
 use Rattle.jiter_incremental.specs.Document.{Document, Follows, HasTakenIn, IsReadAs, IsScalarWithin, anything, between_tokens, with_byte}
 use Rattle.jiter_incremental.specs.declared.reader.Token.TheVariants as token
-use Rattle.jiter_incremental.proofs.Documents.{known-before, taken-between, takes-byte}
+use Rattle.jiter_incremental.proofs.Documents.{known-any, taken-between, takes-byte}
 
 -- A scalar that ends within a chunk: it is followed by what comes then,
 module _ (chunk : List ℕ) (at : ℕ) (v : Tree) (e : ℕ) (h : IsScalarWithin chunk at v e) where
@@ -38,4 +38,4 @@ pub takes-here : (c : ℕ) (d : Document) (v : OpenValue) (t : List ℕ) → Has
     → HasTakenIn anything (record d { value = v }) (t ++ c ∷ [])
 takes-here c d v t h unset none passes =
     let b = taken-between anything d t h unset none in
-    takes-byte d v c t b.state (known-before c d t (between_tokens b.state) b.known) none (passes b.state b.left)
+    takes-byte d v c t b.state (known-any (with_byte c) d t (between_tokens b.state) b.known) none (passes b.state b.left)

@@ -63,6 +63,7 @@ use Rattle.jiter_incremental.specs.declared.reader.Token.{Token}
 use Rattle.jiter_incremental.specs.declared.reader.Token.TheVariants as token
 use Rattle.jiter_incremental.proofs.Arrivals.{Sticks, all-close, fault-closes, led-answers, led-end, off-answers}
 use Rattle.jiter_incremental.proofs.Between.{scalar-read}
+use Rattle.jiter_incremental.proofs.Documents.{ends-after, prefix-fault}
 use Rattle.jiter_incremental.proofs.Documents.Strings.{begin_of, is-held, is-placed, text-low}
 use Rattle.jiter_incremental.proofs.Documents.Tokens.{held-end, held-stands, number-done, number-failed, word-failed}
 use Rattle.jiter_value.proofs.MadeTexts.{rules_as-advances}
@@ -131,15 +132,6 @@ pub root-answers : (p : Settings) (t : List ℕ) (b : ℕ) (k : Kind) (i stop : 
     → prefix_answer (rules_as owned p) t ≡ fault k i stop
 root-answers p t b k i stop read led = led ∙ read
 
--- a fault of the prefix is one of the whole
-pub prefix-fault : (p : Settings) (t : List ℕ) (k : Kind) (i stop : ℕ)
-    → prefix_answer (rules_as owned p) t ≡ fault k i stop → answer_as owned p t ≡ fault k i stop
-prefix-fault p t k i stop h = by (is_active p.mode) refl where
-  by : (b : Bool) → is_active p.mode ≡ b → answer_as owned p t ≡ fault k i stop
-  by true on =
-      let r = rules_as owned p in if-true (is_active p.mode) (prefix_answer r t) (whole_answer r t) on ∙ h
-  by false off = off-answers p t off ∙ ap (to_end t) h
-
 -- a scalar that is a value where the input ends leads on after it
 pub value-led : (p : Settings) (t : List ℕ) (fs : List OpenFrame) (b : ℕ) (v : Tree)
     → value_in (rules_as owned p) t (length fs) b ≡ done v (length t)
@@ -183,11 +175,9 @@ allowed-so p q name.NaN same h = same ∙ h
 allowed-so p q name.Infinity same h = same ∙ h
 allowed-so p q name.MinusInfinity same h = same ∙ h
 
-name-starts : (k : Name) → IsScalarStart (name_start k)
+pub name-starts : (k : Name) → IsScalarStart (name_start k)
 name-starts (name.Literal l) = tt
-name-starts name.NaN = tt
-name-starts name.Infinity = tt
-name-starts name.MinusInfinity = tt
+name-starts other = tt
 
 module _ (d : Document) (t : List ℕ) (b : ℕ) (w : List ℕ) (from : TakenFrom d t b w) where
   all-stand : Stands t b (b + length w) w
@@ -363,7 +353,7 @@ far-hidden d k fs b is sure =
     ap (λ j. if shown_as d j then after_value (token_tree d j) fs else at_value awaits.Value fs) is
     ∙ if-false (shown_as d k) _ _ sure
 
-kind-whole : (d : Document) (fs : List OpenFrame) (b : ℕ) → d.token ≡ token.Number → is_whole d.number.stage ≡ true
+pub kind-whole : (d : Document) (fs : List OpenFrame) (b : ℕ) → d.token ≡ token.Number → is_whole d.number.stage ≡ true
     → kind_at_end d (in_scalar fs b) ≡ end_of (after_value (token_tree d token.Number) fs)
 kind-whole d fs b is sure =
     ap (λ k. kind_as d k (in_scalar fs b)) is ∙ if-true (is_whole d.number.stage) _ _ sure
@@ -372,14 +362,6 @@ kind-cut : (d : Document) (fs : List OpenFrame) (b : ℕ) → d.token ≡ token.
     → kind_at_end d (in_scalar fs b) ≡ Some eof_value
 kind-cut d fs b is sure =
     ap (λ k. kind_as d k (in_scalar fs b)) is ∙ if-false (is_whole d.number.stage) _ _ sure
-
--- a value that has just ended
-ends-after : (t : List ℕ) (v : Tree) (fs : List OpenFrame) → EndsRight t (between_tokens (after_value v fs))
-ends-after t v [] =
-    let none : length t - 0 ≡ length t = omega arith in
-    (omega arith, λ u. ap (past_blanks (t ++ u)) none)
-ends-after t v (items_frame xs ∷ fs) = tt
-ends-after t v (members_frame ms k ∷ fs) = tt
 
 -- With partial reading off: between two tokens,
 module _ (d : Document) (t : List ℕ) (place : d.position ≡ length t) where

@@ -23,8 +23,9 @@ use Rattle.jiter_incremental.specs.Slot.{OpenFrame}
 use Rattle.jiter_incremental.specs.declared.names.Name.TheVariants as name
 use Rattle.jiter_incremental.specs.declared.reader.Token.TheVariants as token
 use Rattle.jiter_incremental.specs.declared.reader.Awaits.TheVariants as awaits
-use Rattle.jiter_incremental.proofs.Documents.Tokens.{Keeps, held-end, held-stands, known-on, minus-fails, minus-goes}
-use Rattle.jiter_incremental.proofs.Documents.Tokens.{number-failed, reading-names, scalar-refused, scalar-token, stands-prefix}
+use Rattle.jiter_incremental.proofs.Documents.{Keeps, known-in}
+use Rattle.jiter_incremental.proofs.Documents.Tokens.{held-end, held-stands, minus-fails, minus-goes}
+use Rattle.jiter_incremental.proofs.Documents.Tokens.{number-failed, reading-names, scalar-refused, stands-prefix}
 
 -- ---- the bytes of a number of which the minus was read
 
@@ -100,7 +101,7 @@ module _ (d : Document) (t : List ℕ) (fs : List OpenFrame) (b : ℕ) (known : 
         → d.settings.allow_inf_nan ≡ true → HasTakenIn anything e (t ++ 73 ∷ [])
     name-taken e k value begin tok is word one allowed = record {
       opened = in_scalar fs b;
-      known = known-on anything anything d e t (73 ∷ []) (in_scalar fs b) (scalar-token fs b) k (λ u comes. tt) known;
+      known = known-in anything anything d e t (73 ∷ []) (in_scalar fs b) h.low k (λ u comes. tt) known;
       held = λ unset. (
         both,
         record { prefix = h.prefix; is = both-last; begin = h.begin; place = begin ∙ h.place },
@@ -112,7 +113,7 @@ module _ (d : Document) (t : List ℕ) (fs : List OpenFrame) (b : ℕ) (known : 
                 goes = λ v i s. minus-goes v i s ∙ ap (λ x. word_from x 1 v (i + 2)) (sym word)
                     ∙ ap (λ m. word_from e.word.word.now m v (i + 2)) (sym one);
               },
-              ap (λ p. p.allow_inf_nan) k.settings ∙ allowed,
+              ap (λ p. p.allow_inf_nan) k.0 ∙ allowed,
               record { first = 45; rest = 73 ∷ []; is = refl; starts = refl },
             )),
         subst (λ v. IsLeft v (at_value awaits.Value fs)) (sym value) h.left,

@@ -18,12 +18,11 @@ use Rattle.jiter_scan.specs.declared.errors.Fault.{Fault}
 use Rattle.jiter_scan.specs.declared.errors.FaultKind.{FaultKind}
 use Rattle.jiter_scan.specs.declared.errors.FaultKind.TheVariants as fault_of
 use Rattle.jiter_steps.specs.Answer.{nothing_forgiven, seen_as, value_form}
-use Rattle.jiter_steps.specs.Frames.{members_frame, resume, value_in, value_from, key_from}
+use Rattle.jiter_steps.specs.Frames.{members_frame, resume, value_in, key_from}
 use Rattle.jiter_steps.specs.Literal.{start_of}
-use Rattle.jiter_steps.specs.Node.{nesting_limit}
 use Rattle.jiter_steps.specs.PartialString.{Goes, HasTaken, text_or}
 use Rattle.jiter_steps.specs.PartialText.{HoldsBytes}
-use Rattle.jiter_steps.specs.Read.{Rules, done, fault, prefix_answer, scalar_at, to_end}
+use Rattle.jiter_steps.specs.Read.{Rules, done, fault, scalar_at, to_end}
 use Rattle.jiter_steps.specs.StringReading.{Form, Stop, whole, text_form, text_in_form, content_at}
 use Rattle.jiter_steps.specs.StringReading.{Body, body_at, closed, unclosed, cut, wrong}
 use Rattle.jiter_steps.specs.Tree.{Text, Tree, string}
@@ -38,11 +37,12 @@ use Rattle.jiter_steps.proofs.Reading.Values.{inside_at-starts}
 use Rattle.jiter_steps.proofs.Reading.WholeTexts.{whole-is}
 use Rattle.jiter_incremental.specs.Arrived.{IsLeft, OpenValue, at_value, owned}
 use Rattle.jiter_incremental.specs.Between.{completed, text_of}
-use Rattle.jiter_incremental.specs.Document.{Comes, Document, EndsRight, Follows, HasCome, HasTakenIn, Holding, HoldsScalar, HoldsString, IsReading, IsRefused, Known, Next, Opened, ReadsAt, TakenFrom, anything, between_tokens, in_key, in_scalar, noted_in, opened_to, strictly, with_byte, with_first}
+use Rattle.jiter_incremental.specs.Document.{Comes, Document, Follows, HasCome, HasTakenIn, Holding, HoldsScalar, HoldsString, IsReading, IsRefused, Known, Next, Opened, ReadsAt, Strictness, TakenFrom, anything, by_mode, fault_by, settings_by, strict, between_tokens, in_key, in_scalar, noted_in, opened_to, strictly, with_byte, with_first}
 use Rattle.jiter_incremental.specs.Slot.{OpenFrame}
+use Rattle.jiter_incremental.proofs.Documents.{IsInside, ends-inside, known-as, known-in, known-on, noted-some, reads-after, same-inside}
 use Rattle.jiter_incremental.specs.Strings.{IsClosedAs, IsKeyAs, IsOfString, IsTextAs}
 use Rattle.jiter_value.specs.Owned.{owned_text}
-use Rattle.jiter_value.specs.Settings.{answer_as, rules_as}
+use Rattle.jiter_value.specs.Settings.{rules_as}
 use Rattle.jiter_incremental.specs.declared.reader.Token.{Token}
 use Rattle.jiter_incremental.specs.declared.reader.Token.TheVariants as token
 use Rattle.jiter_incremental.specs.declared.reader.Awaits.TheVariants as awaits
@@ -60,12 +60,6 @@ with_string d s = turned d s d.first
 -- and between two tokens, with this value
 abbrev pub with_value : Document → OpenValue → Document
 with_value d v = record d { token = token.Nothing; value = v }
-
--- Where a string or a key is unfinished, within the limit of nesting
-abbrev pub IsInside : Opened → Type 0
-IsInside (between_tokens s) = ⊥
-IsInside (in_scalar fs b) = length fs ≤ nesting_limit
-IsInside (in_key fs ms b) = Unit {0}
 
 -- where it begins
 abbrev pub begin_of : Opened → ℕ
@@ -153,55 +147,6 @@ module _ (d : Document) (t : List ℕ) (k : IsOfString d.token) where
     goes-on (in_key fs ms b) h =
         (h.0 ++ v, from-longer b h.0 h.1, h.2, string-longer h.0 h.3, h.4, h.5, h.6)
 
--- What is known, more bytes after
-reads-more : (p : Settings) (t v u : List ℕ) (f : Option Fault) (o : Opened) → IsInside o → ReadsAt p t (v ++ u) f o
-    → ReadsAt p (t ++ v) u f o
-reads-more p t v u (Some f) o i h =
-    subst (λ x. (stop : ℕ) × (answer_as owned p x ≡ fault (fault_kind f.kind) f.index stop)) (sym (append_assoc t v u)) h
-reads-more p t v u None (between_tokens s) i h = absurd i
-reads-more p t v u None (in_scalar fs b) i h =
-    subst (λ x. prefix_answer (rules_as owned p) x ≡ value_from (rules_as owned p) x fs b) (sym (append_assoc t v u)) h
-reads-more p t v u None (in_key fs ms b) i h =
-    subst (λ x. prefix_answer (rules_as owned p) x ≡ key_from (rules_as owned p) x fs ms b) (sym (append_assoc t v u)) h
-
-ends-inside : (t : List ℕ) (o : Opened) → IsInside o → EndsRight t o
-ends-inside t (between_tokens s) i = absurd i
-ends-inside t (in_scalar fs b) i = tt
-ends-inside t (in_key fs ms b) i = tt
-
-module _ (n m : Next) (d : Document) (t v : List ℕ) (o : Opened) (i : IsInside o) (known : Known n d t o)
-    (follows : Follows n v m) where
-  pub known-more : (s : PartialString) → Known m (with_string d s) (t ++ v) o
-  known-more s = record {
-    mode = λ u c. reads-more d.settings t v u d.fault o i (known.mode (v ++ u) (follows u c));
-    strict = λ u c. reads-more (strictly d.settings) t v u d.first o i (known.strict (v ++ u) (follows u c));
-    ends = λ h. ends-inside (t ++ v) o i;
-    noted = known.noted;
-    same = known.same;
-  }
-
-  -- and what is read by settings that refuse nothing yet
-  pub known-reads : (p : Settings) (u : List ℕ) → IsReading d p → Comes m u → ReadsAt p (t ++ v) u None o
-  known-reads p u (inl r) c =
-      reads-more p t v u None o i
-      (subst (λ q. ReadsAt q t (v ++ u) None o) (sym r.0)
-      (subst (λ f. ReadsAt d.settings t (v ++ u) f o) r.1 (known.mode (v ++ u) (follows u c))))
-  known-reads p u (inr r) c =
-      reads-more p t v u None o i
-      (subst (λ q. ReadsAt q t (v ++ u) None o) (sym r.0)
-      (subst (λ f. ReadsAt (strictly d.settings) t (v ++ u) f o) r.1 (known.strict (v ++ u) (follows u c))))
-
--- the same string, with nothing more known of it
-pub known-same : (n : Next) (d : Document) (s : PartialString) (t : List ℕ) (o : Opened) → Known n d t o
-    → Known n (with_string d s) t o
-known-same n d s t o known = record {
-  mode = known.mode;
-  strict = known.strict;
-  ends = known.ends;
-  noted = known.noted;
-  same = known.same;
-}
-
 -- Bytes are taken into the string.
 pub taken-on : (d : Document) (s : PartialString) (t v : List ℕ) → IsOfString d.token → d.fault ≡ None
     → ((w : List ℕ) → HasTaken d.string w → HasTaken s (w ++ v)) → HasTakenIn anything d t
@@ -211,7 +156,8 @@ taken-on d s t v k unset more h =
     record {
       opened = h.opened;
       known =
-          known-more anything anything d t v h.opened (is-inside d t k h.opened held) h.known (λ u c. tt) s;
+          known-in anything anything d (with_string d s) t v h.opened (is-inside d t k h.opened held) (refl, refl, refl)
+          (λ u c. tt) h.known;
       held = λ e. goes-on d t k s d.first v more h.opened held;
     }
 
@@ -369,32 +315,16 @@ module _ (d : Document) (v : OpenValue) (n m : Next) (t w : List ℕ) (fs : List
   abbrev after : Opened
   after = between_tokens (at_value awaits.Colon (members_frame ms k ∷ fs))
 
-  key-leads : (p : Settings) (u : List ℕ) → IsReading d p → Comes m u → ReadsAt p (t ++ w) u None after
-  key-leads p u r c =
-      let T = (t ++ w) ++ u in
-      let low : b < length T = omega (arith, begun, length-append (t ++ w) u) in
-      known-reads n m d t w (in_key fs ms b) tt known follows p u r c
-      ∙ goes p T b (length (t ++ w)) ms fs low (is p u r c)
-
-  key-strict : (u : List ℕ) → Comes m u → (f : Option Fault) → d.first ≡ f
-      → ReadsAt (strictly d.settings) (t ++ w) u f after
-  key-strict u c None e = key-leads (strictly d.settings) u (inr (refl, e)) c
-  key-strict u c (Some f) e =
-      reads-more (strictly d.settings) t w u (Some f) (in_key fs ms b) tt
-      (subst (λ f. ReadsAt (strictly d.settings) t (w ++ u) f (in_key fs ms b)) e (known.strict (w ++ u) (follows u c)))
-
   pub key-taken : HasTakenIn m (with_value d v) (t ++ w)
   key-taken = record {
     opened = after;
-    known = record {
-      mode = λ u c.
-          subst (λ f. ReadsAt d.settings (t ++ w) u f after) (sym unset)
-          (key-leads d.settings u (inl (refl, unset)) c);
-      strict = λ u c. key-strict u c d.first refl;
-      ends = λ e. tt;
-      noted = known.noted;
-      same = known.same;
-    };
+    known =
+        known-as m d (with_value d v) (t ++ w) after (refl, refl, refl)
+        (known-on n m d t w (in_key fs ms b) after known follows
+        (λ p reading u comes.
+        let low : b < length ((t ++ w) ++ u) = omega (arith, begun, length-append (t ++ w) u) in
+        goes p ((t ++ w) ++ u) b (length (t ++ w)) ms fs low (is p u reading comes))
+        (λ none. tt));
     held = λ e. (refl, left);
   }
 
@@ -407,7 +337,8 @@ pub refused-so : (n m : Next) (d : Document) (t v : List ℕ) (o : Opened) (k : 
     → IsRefused d m (t ++ v) k x
 refused-so n m d t v o k x i known follows bad quote fails = λ p u r c. (
   begin_of o,
-  known-reads n m d t v o i known follows p u r c
+  reads-after n m d t v o p known follows r u c
+      ∙ same-inside p ((t ++ v) ++ u) o (length t) (length (t ++ v)) i
       ∙ opened-fails p ((t ++ v) ++ u) o k x (length (t ++ v)) i (quote p u r c) bad (fails p u r c),
 )
 
@@ -562,22 +493,18 @@ module _ (d : Document) (k : IsOfString d.token) (unset : d.fault ≡ None) (t :
               by : (p : Settings) (u : List ℕ) → IsReading d p
                   → content_at (form_of p o) (on u) (begin_of o + 1)
                   ≡ failed invalid_code_point (begin_of o + 1 + length text)
-              by p u (inl r) =
+              by p u (by_mode, same, none) =
                   subst (λ q. content_at (form_of q o) (on u) (begin_of o + 1)
-                  ≡ failed invalid_code_point (begin_of o + 1 + length text)) (sym r.0)
+                  ≡ failed invalid_code_point (begin_of o + 1 + length text)) (sym same)
                   (form-closed false is o held (on u) u (on-is u))
-              by p u (inr r) =
+              by p u (strict, same, none) =
                   subst (λ q. content_at (form_of q o) (on u) (begin_of o + 1)
-                  ≡ failed invalid_code_point (begin_of o + 1 + length text)) (sym r.0)
+                  ≡ failed invalid_code_point (begin_of o + 1 + length text)) (sym same)
                   (strict-fails (on u) u (on-is u))
 
         -- and else noted.
         abbrev noted : Document
         noted = with_first d (noted_in d.first fault_of.InvalidUnicodeCodePoint index)
-
-        noted-some : (f : Option Fault) (kind : FaultKind) (i : ℕ) → noted_in f kind i ≡ None → ⊥
-        noted-some (Some f) kind i e = absurd (cc)
-        noted-some None kind i e = absurd (cc)
 
         is-kept : (keep : Bool) → IsClosedAs d.string keep true → keep ≡ true
         is-kept true is = refl
@@ -608,11 +535,15 @@ module _ (d : Document) (k : IsOfString d.token) (unset : d.fault ≡ None) (t :
                   (quoted T c.0 at) refl (strict-fails T c.0 at ∙ ap (failed invalid_code_point) index-is)),
             )
 
+        reads-noted : (by : Strictness) (u : List ℕ) → Comes (with_byte 34) u
+            → ReadsAt (settings_by by noted.settings) t u (fault_by by noted.fault noted.first) o
+        reads-noted by_mode u c = h.read.known.reads by_mode u tt
+        reads-noted strict u c = strict-noted u c d.first (h.read.known.reads strict u tt)
+
         module _ (is : IsClosedAs d.string kept true) where
           pub noted-known : Known (with_byte 34) noted t o
           noted-known = record {
-            mode = λ u c. h.read.known.mode u tt;
-            strict = λ u c. strict-noted u c d.first (h.read.known.strict u tt);
+            reads = reads-noted;
             ends = λ e. ends-inside t o inside;
             noted = λ e. absurd (noted-some d.first fault_of.InvalidUnicodeCodePoint index e);
             same = λ off e. absurd (on-mode k (is-kept kept is) off);
@@ -625,8 +556,9 @@ module _ (d : Document) (k : IsOfString d.token) (unset : d.fault ≡ None) (t :
               (λ w x. subst (HasTaken d.string) (sym (append-nil w)) x) o held)
 
           noted-reading : (p : Settings) → IsReading noted p → p ≡ d.settings
-          noted-reading p (inl r) = r.0
-          noted-reading p (inr r) = absurd (noted-some d.first fault_of.InvalidUnicodeCodePoint index r.1)
+          noted-reading p (by_mode, same, none) = same
+          noted-reading p (strict, same, none) =
+              absurd (noted-some d.first fault_of.InvalidUnicodeCodePoint index none)
 
           pub noted-text : IsTextAs noted anything (t ++ 34 ∷ []) o text
           noted-text =

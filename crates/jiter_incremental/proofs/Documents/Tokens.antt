@@ -2,8 +2,8 @@
 use Rattle.std.proofs.Common.{◌≡◌, ◌⊎◌, inl, inr, ℕ, ◌+◌, ◌-◌, ◌<◌, ◌≤◌, ◌==◌, Bool, true, false, List, [], ◌∷◌, ◌++◌}
 use Rattle.std.proofs.Common.{length, take, drop, get_or, refl, sym, subst, ap, ◌∙◌, arith, append_assoc, length-append}
 use Rattle.std.proofs.Common.{slice_range, codes}
-use Rattle.std.specs.Prelude.{slice_get, string_bytes, Option, Some, None}
-use Rattle.std.proofs.Math.Seq.{get_or-append_seam, drop-append_seam, take-append_seam}
+use Rattle.std.specs.Prelude.{slice_get, string_bytes, Some, None}
+use Rattle.std.proofs.Math.Seq.{drop-append_seam, take-append_seam}
 use Rattle.std.proofs.lemmas.Bool.Decides.{nat_tests}
 use Rattle.std.proofs.lemmas.List.{append-nil}
 use Rattle.std.proofs.lemmas.Option.{slice_get-get_or, get_or_from_slice_get}
@@ -20,7 +20,6 @@ use Rattle.jiter_scan.specs.PartialMode.{is_active}
 use Rattle.jiter_scan.specs.Scanned.{taken, failed}
 use Rattle.jiter_scan.specs.Stands.{Stands}
 use Rattle.jiter_scan.specs.Word.{Extent, word_at}
-use Rattle.jiter_scan.specs.declared.errors.Fault.{Fault}
 use Rattle.jiter_scan.specs.declared.partial_number.PartialNumber.{PartialNumber}
 use Rattle.jiter_scan.specs.declared.partial_number.Went.{Went}
 use Rattle.jiter_scan.specs.declared.partial_number.Went.TheVariants as went
@@ -40,13 +39,13 @@ use Rattle.jiter_steps.specs.declared.parse.Literal.TheVariants as literal
 use Rattle.jiter_steps.specs.declared.parse.Start.{Start}
 use Rattle.jiter_steps.specs.declared.parse.Start.TheVariants as start
 use Rattle.jiter_incremental.proofs.Chunks.{range-long}
-use Rattle.jiter_incremental.specs.Arrived.{Arrived, IsLeft, at_value, owned}
-use Rattle.jiter_incremental.specs.Between.{BeginsKey}
-use Rattle.jiter_incremental.specs.Document.{BeginsAs, BeginsHere, Comes, Document, EndsBefore, EndsRight, Follows, HasCome, HasTakenIn, Holding, HoldsMinus, HoldsScalar, HoldsString, HoldsWord, IsAllowed, IsNumberWithin, IsReadAs, IsReading, IsRefused, Known, NameBegins, Next, Opened, ReadsAt, StandsAt, TakenFrom, WordBegins, anything, between_tokens, in_key, in_scalar, opened_to, own_number, strictly, with_byte}
+use Rattle.jiter_incremental.proofs.Documents.{Keeps, byte-first, follows-byte, known-as, known-in, reads-so}
+use Rattle.jiter_incremental.specs.Arrived.{IsLeft, at_value, owned}
+use Rattle.jiter_incremental.specs.Document.{BeginsAs, BeginsHere, Comes, Document, EndsBefore, Follows, HasCome, HasTakenIn, Holding, HoldsMinus, HoldsScalar, HoldsString, HoldsWord, IsAllowed, IsNumberWithin, IsReadAs, IsReading, IsRefused, Known, NameBegins, Next, Opened, TakenFrom, WordBegins, anything, between_tokens, in_key, in_scalar, own_number, by_mode, strict, with_byte}
 use Rattle.jiter_incremental.specs.Names.{name_bytes, name_extent, name_start, name_tree, name_word}
 use Rattle.jiter_incremental.specs.Slot.{OpenFrame}
 use Rattle.jiter_value.specs.Owned.{owned_text, tree_as}
-use Rattle.jiter_value.specs.Settings.{answer_as, rules_as}
+use Rattle.jiter_value.specs.Settings.{rules_as}
 use Rattle.jiter_incremental.specs.declared.names.Name.{Name}
 use Rattle.jiter_incremental.specs.declared.names.Name.TheVariants as name
 use Rattle.jiter_incremental.specs.declared.reader.Token.{Token}
@@ -55,12 +54,6 @@ use Rattle.jiter_incremental.specs.declared.reader.Awaits.TheVariants as awaits
 use Rattle.jiter_value.specs.declared.settings.Settings.{Settings}
 
 -- ---- bytes in a text
-
--- the byte after the first ones
-pub stands-last : (t u : List ℕ) (c : ℕ) → slice_get (t ++ c ∷ u) (length t) ≡ Some c
-stands-last t u c =
-    let long = length-append t (c ∷ u) in
-    slice_get-get_or (t ++ c ∷ u) (length t) 0 (omega arith) ∙ ap Some (get_or-append_seam t c u 0)
 
 pub stands-prefix : (prefix w u : List ℕ) → Stands (prefix ++ (w ++ u)) (length prefix) (length prefix + length w) w
 stands-prefix prefix w u =
@@ -228,79 +221,14 @@ module _ (w : List ℕ) (n m : ℕ) (c : ℕ)
         slice-stands rest 0 (length rest) (drop n w) (word_at-sound rest (drop n w) 0 (length rest) tt rest-read)
         ∙ sym (slice-stands rest 0 (length rest) rest (stands-whole rest))
 
--- ---- what is known of a document
-
--- The same is known of it.
-pub record Keeps (d e : Document) : Type 0 where
-  pub settings : e.settings ≡ d.settings
-  pub fault : e.fault ≡ d.fault
-  pub first : e.first ≡ d.first
-
--- what a token that is unfinished leaves open
-pub record IsInToken (o : Opened) : Type 0 where
-  pub same : (p : Settings) (t : List ℕ) (i j : ℕ) → opened_to p t o i ≡ opened_to p t o j
-  pub ends : (t : List ℕ) → EndsRight t o
-
-pub scalar-token : (fs : List OpenFrame) (b : ℕ) → IsInToken (in_scalar fs b)
-scalar-token fs b = record { same = λ p t i j. refl; ends = λ t. tt }
-
-pub key-token : (fs : List OpenFrame) (ms : List (Text × Tree)) (b : ℕ) → IsInToken (in_key fs ms b)
-key-token fs ms b = record { same = λ p t i j. refl; ends = λ t. tt }
-
-reads-on : (p : Settings) (t w u : List ℕ) (f : Option Fault) (o : Opened) → IsInToken o → ReadsAt p t (w ++ u) f o
-    → ReadsAt p (t ++ w) u f o
-reads-on p t w u (Some f) o h r = (r.0, ap (answer_as owned p) (append_assoc t w u) ∙ r.1)
-reads-on p t w u None o h r =
-    ap (prefix_answer (rules_as owned p)) (append_assoc t w u) ∙ r
-    ∙ h.same p (t ++ (w ++ u)) (length t) (length (t ++ w))
-    ∙ ap (λ v. opened_to p v o (length (t ++ w))) (sym (append_assoc t w u))
-
--- Bytes are taken inside a token.
-pub known-on : (n m : Next) (d e : Document) (t w : List ℕ) (o : Opened) → IsInToken o → Keeps d e → Follows n w m
-    → Known n d t o → Known m e (t ++ w) o
-known-on n m d e t w o h k follows known = record {
-  mode = λ u comes. subst (λ q. ReadsAt q (t ++ w) u e.fault o) (sym k.settings)
-      (subst (λ f. ReadsAt d.settings (t ++ w) u f o) (sym k.fault)
-      (reads-on d.settings t w u d.fault o h (known.mode (w ++ u) (follows u comes))));
-  strict = λ u comes. subst (λ q. ReadsAt (strictly q) (t ++ w) u e.first o) (sym k.settings)
-      (subst (λ f. ReadsAt (strictly d.settings) (t ++ w) u f o) (sym k.first)
-      (reads-on (strictly d.settings) t w u d.first o h (known.strict (w ++ u) (follows u comes))));
-  ends = λ none. h.ends (t ++ w);
-  noted = λ none. k.fault ∙ known.noted (sym k.first ∙ none);
-  same = λ off none. k.first
-      ∙ known.same (sym (ap (λ q. is_active q.mode) k.settings) ∙ off) (sym k.fault ∙ none);
-}
-
-pub known-same : (n : Next) (d e : Document) (t : List ℕ) (o : Opened) → Keeps d e → Known n d t o → Known n e t o
-known-same n d e t o k known = record {
-  mode = λ u comes. subst (λ q. ReadsAt q t u e.fault o) (sym k.settings)
-      (subst (λ f. ReadsAt d.settings t u f o) (sym k.fault) (known.mode u comes));
-  strict = λ u comes. subst (λ q. ReadsAt (strictly q) t u e.first o) (sym k.settings)
-      (subst (λ f. ReadsAt (strictly d.settings) t u f o) (sym k.first) (known.strict u comes));
-  ends = λ none. known.ends (sym k.first ∙ none);
-  noted = λ none. k.fault ∙ known.noted (sym k.first ∙ none);
-  same = λ off none. k.first
-      ∙ known.same (sym (ap (λ q. is_active q.mode) k.settings) ∙ off) (sym k.fault ∙ none);
-}
-
 pub number-known : (n : Next) (d : Document) (m : PartialNumber) (t : List ℕ) (o : Opened) → Known n d t o
     → Known n (record d { number = m }) t o
 number-known n d m t o =
-    known-same n d (record d { number = m }) t o record { settings = refl; fault = refl; first = refl }
-
--- what is read by settings that it is still read by
-known-reads : (n : Next) (d : Document) (t : List ℕ) (o : Opened) (p : Settings) (u : List ℕ) → Known n d t o
-    → IsReading d p → Comes n u → prefix_answer (rules_as owned p) (t ++ u) ≡ opened_to p (t ++ u) o (length t)
-known-reads n d t o p u k (inl (is, none)) comes =
-    subst (λ q. prefix_answer (rules_as owned q) (t ++ u) ≡ opened_to q (t ++ u) o (length t)) (sym is)
-    (subst (λ f. ReadsAt d.settings t u f o) none (k.mode u comes))
-known-reads n d t o p u k (inr (is, none)) comes =
-    subst (λ q. prefix_answer (rules_as owned q) (t ++ u) ≡ opened_to q (t ++ u) o (length t)) (sym is)
-    (subst (λ f. ReadsAt (strictly d.settings) t u f o) none (k.strict u comes))
+    known-as n d (record d { number = m }) t o (refl, refl, refl)
 
 pub reading-names : (d : Document) (p : Settings) → IsReading d p → p.allow_inf_nan ≡ d.settings.allow_inf_nan
-reading-names d p (inl (is, none)) = ap (λ q. q.allow_inf_nan) is
-reading-names d p (inr (is, none)) = ap (λ q. q.allow_inf_nan) is
+reading-names d p (by_mode, is, none) = ap (λ q. q.allow_inf_nan) is
+reading-names d p (strict, is, none) = ap (λ q. q.allow_inf_nan) is
 
 reading-allows : (d : Document) (p : Settings) (k : Name) → IsReading d p → IsAllowed d.settings k → IsAllowed p k
 reading-allows d p (name.Literal l) h ok = tt
@@ -317,15 +245,12 @@ pub scalar-refused : (n m : Next) (d : Document) (t w : List ℕ) (fs : List Ope
 scalar-refused n m d t w fs b k i known follows bad fails = λ p u reading comes. (
   b,
   ap (prefix_answer (rules_as owned p)) (append_assoc t w u)
-      ∙ known-reads n d t (in_scalar fs b) p (w ++ u) known reading (follows u comes)
+      ∙ reads-so n d t (in_scalar fs b) p known reading (w ++ u) (follows u comes)
       ∙ ap (resume (rules_as owned p) (t ++ (w ++ u)) fs) (fails p u reading comes)
       ∙ resume-fault (rules_as owned p) (t ++ (w ++ u)) fs k i b (kept p (t ++ (w ++ u)) k bad),
 )
 
 -- ---- tokens that begin
-
-pub follows-here : (c : ℕ) → Follows (with_byte c) (c ∷ []) anything
-follows-here c = λ u comes. (u, refl)
 
 -- a scalar, of which these bytes begin with the one that comes
 pub scalar-begins : (d e : Document) (t : List ℕ) (c : ℕ) (w : List ℕ) (fs : List OpenFrame) → BeginsHere c d t fs
@@ -333,7 +258,7 @@ pub scalar-begins : (d e : Document) (t : List ℕ) (c : ℕ) (w : List ℕ) (fs
     → HasTakenIn anything e (t ++ c ∷ w)
 scalar-begins d e t c w fs h k value begin held = record {
   opened = in_scalar fs (length t);
-  known = known-on (with_byte c) anything d e t (c ∷ w) (in_scalar fs (length t)) (scalar-token fs (length t)) k
+  known = known-in (with_byte c) anything d e t (c ∷ w) (in_scalar fs (length t)) h.low k
       (λ u comes. (w ++ u, refl)) h.known;
   held = λ unset. (
     c ∷ w,
@@ -362,7 +287,7 @@ word-begins d e k t c fs h keeps value begin tok is held ok starts =
     (subst (λ o. HoldsScalar e o (c ∷ [])) (sym tok)
     (subst (λ n. HoldsWord n e.word (c ∷ []) × IsAllowed e.settings n × BeginsAs (c ∷ []) (name_start n)) (sym is) (
       held,
-      subst (λ s. IsAllowed s k) (sym keeps.settings) ok,
+      subst (λ s. IsAllowed s k) (sym keeps.0) ok,
       record { first = c; rest = []; is = refl; starts = starts },
     )))
 
@@ -387,10 +312,10 @@ pub name-denied : (d : Document) (k : Name) (t : List ℕ) (c : ℕ) (fs : List 
     → IsRefused d anything (t ++ c ∷ []) expected_value d.position
 name-denied d k t c fs h begins off =
     subst (λ i. IsRefused d anything (t ++ c ∷ []) expected_value i) (sym h.position)
-    (scalar-refused (with_byte c) anything d t (c ∷ []) fs (length t) expected_value (length t) h.known (follows-here c)
+    (scalar-refused (with_byte c) anything d t (c ∷ []) fs (length t) expected_value (length t) h.known (follows-byte c)
     refl
     (λ p u reading comes.
-    let here = stands-last t u c in
+    let here = byte-first c t u in
     number-failed p (t ++ c ∷ u) (length fs) (length t) c h.low here expected_value (length t)
     (begins.starts ∙ begins.number)
     (ap (λ n. number_extent n (t ++ c ∷ u) (length t)) (reading-names d p reading ∙ off)
@@ -406,49 +331,6 @@ pub string-begins : (d e : Document) (t : List ℕ) (c : ℕ) (fs : List OpenFra
 string-begins d e t c fs h keeps value begin tok is fresh =
     scalar-begins d e t c [] fs h keeps value begin
     (subst (λ o. HoldsScalar e o (c ∷ [])) (sym tok) (string-held e c is fresh))
-
--- a key
-key-reads : (p : Settings) (t u : List ℕ) (c : ℕ) (f : Option Fault) (d : Document) (s : Arrived)
-    → (k : BeginsKey d.value s c) → ReadsAt p t (c ∷ u) f (between_tokens s)
-    → ReadsAt p t (c ∷ u) f (in_key k.frames k.members (length t))
-key-reads p t u c (Some f) d s k r = r
-key-reads p t u c None d s k r = r ∙ k.goes p (t ++ c ∷ u) (length t) (stands-last t u c)
-
--- what is known where a key begins
-pub key-known : (d : Document) (t : List ℕ) (c : ℕ) (s : Arrived) → StandsAt c d t s → (k : BeginsKey d.value s c)
-    → Known (with_byte c) d t (in_key k.frames k.members (length t))
-key-known d t c s h k = record {
-  mode = λ u comes. subst (λ v. ReadsAt d.settings t v d.fault (in_key k.frames k.members (length t))) (sym comes.1)
-      (key-reads d.settings t comes.0 c d.fault d s k
-      (subst (λ v. ReadsAt d.settings t v d.fault (between_tokens s)) comes.1 (h.known.mode u comes)));
-  strict = λ u comes.
-      subst (λ v. ReadsAt (strictly d.settings) t v d.first (in_key k.frames k.members (length t))) (sym comes.1)
-      (key-reads (strictly d.settings) t comes.0 c d.first d s k
-      (subst (λ v. ReadsAt (strictly d.settings) t v d.first (between_tokens s)) comes.1 (h.known.strict u comes)));
-  ends = λ none. tt;
-  noted = h.known.noted;
-  same = h.known.same;
-}
-
-pub key-begins : (d e : Document) (t : List ℕ) (c : ℕ) (s : Arrived) → StandsAt c d t s → BeginsKey d.value s c
-    → Keeps d e → e.value ≡ d.value → e.begin ≡ d.position → e.token ≡ token.Key → HasTaken e.string []
-    → HasTakenIn anything e (t ++ c ∷ [])
-key-begins d e t c s h k keeps value begin tok fresh =
-    let o = in_key k.frames k.members (length t) in
-    record {
-      opened = o;
-      known = known-on (with_byte c) anything d e t (c ∷ []) o (key-token k.frames k.members (length t)) keeps
-          (follows-here c) (key-known d t c s h k);
-      held = λ unset. (
-        c ∷ [],
-        record { prefix = t; is = refl; begin = refl; place = begin ∙ h.position },
-        tok,
-        string-held e c k.quote fresh,
-        ap (λ v. v.awaits) value ∙ k.awaits,
-        ap (λ v. v.depth) value ∙ k.deep,
-        ap (λ v. v.tree) value ∙ k.left,
-      );
-    }
 
 -- ---- tokens that go on and end
 
@@ -523,15 +405,14 @@ module _ (d : Document) (t : List ℕ) (k : Token) (x : Unfinished d t k) where
       (subst (λ w. Stands (t ++ u) x.begin (x.begin + length x.bytes) w) g.is (bytes-stand u)).0
 
   next-stands : (u : List ℕ) (c : ℕ) → slice_get (t ++ c ∷ u) (x.begin + length x.bytes) ≡ Some c
-  next-stands u c = ap (slice_get (t ++ c ∷ u)) bytes-end ∙ stands-last t u c
+  next-stands u c = ap (slice_get (t ++ c ∷ u)) bytes-end ∙ byte-first c t u
 
   -- The bytes w are taken into it.
   pub token-on : (e : Document) (w : List ℕ) → Keeps d e → e.value ≡ d.value → e.begin ≡ d.begin
       → HoldsScalar e e.token (x.bytes ++ w) → HasTakenIn anything e (t ++ w)
   token-on e w keeps value begin held = record {
     opened = in_scalar x.frames x.begin;
-    known = known-on anything anything d e t w (in_scalar x.frames x.begin) (scalar-token x.frames x.begin) keeps
-        (λ u comes. tt) x.known;
+    known = known-in anything anything d e t w (in_scalar x.frames x.begin) x.low keeps (λ u comes. tt) x.known;
     held = λ unset. (
       x.bytes ++ w,
       record {
@@ -597,7 +478,7 @@ module _ (d : Document) (t : List ℕ) (x : Unfinished d t token.Word) (m : Part
       → HasTakenIn anything (record d { word = m }) (t ++ c ∷ [])
   word-goes-on is same leads =
       let e : Document = record d { word = m } in
-      token-on d t token.Word x e (c ∷ []) record { settings = refl; fault = refl; first = refl } refl refl
+      token-on d t token.Word x e (c ∷ []) (refl, refl, refl) refl refl
       (subst (λ k. HoldsScalar e k (x.bytes ++ c ∷ [])) (sym is) (
         word-on d.name d.word m x.bytes c x.held.0 same leads,
         x.held.1,
@@ -679,7 +560,7 @@ pub number-takes : (d : Document) (m : PartialNumber) (t v : List ℕ) → HasCo
 number-takes d m t v h unset is more =
     let x = number-open d t h unset is in
     let e : Document = record d { number = m } in
-    token-on d t token.Number x e v record { settings = refl; fault = refl; first = refl } refl refl
+    token-on d t token.Number x e v (refl, refl, refl) refl refl
     (subst (λ k. HoldsScalar e k (x.bytes ++ v)) (sym is)
     (more x.bytes x.held.0, begins-more x.bytes v start.Number x.held.1))
 
@@ -690,7 +571,7 @@ module _ (d : Document) (t : List ℕ) (x : Unfinished d t token.Number) (c : �
   extent-by w leads names u =
       x.held.0.goes names (t ++ c ∷ u) x.begin (bytes-stand d t token.Number x (c ∷ u))
       ∙ ap (number_from names d.number.stage (t ++ c ∷ u)) (bytes-end d t token.Number x)
-      ∙ leads names (t ++ c ∷ u) (length t) (stands-last t u c)
+      ∙ leads names (t ++ c ∷ u) (length t) (byte-first c t u)
 
   number-reads : Leads d.number.stage c went.Over
       → IsReadAs d (with_byte c) t (length x.frames) x.begin (own_number x.bytes)
@@ -775,7 +656,7 @@ module _ (d : Document) (t : List ℕ) (fs : List OpenFrame) (chunk : List ℕ) 
       let after : slice_get all (b + (e - at)) ≡ Some (get_or chunk e 0) =
       ap (λ w. slice_get ((t ++ bytes) ++ w) (b + (e - at))) comes.1
       ∙ ap (slice_get ((t ++ bytes) ++ get_or chunk e 0 ∷ comes.0)) (sym place)
-      ∙ stands-last (t ++ bytes) comes.0 (get_or chunk e 0) in
+      ∙ byte-first (get_or chunk e 0) (t ++ bytes) comes.0 in
       let same = after ∙ sym (slice_get-get_or chunk e 0 h.ends.within) in
       let standing : Stands all b (b + (e - at)) bytes = subst (λ k. Stands all b k bytes) count stands in
       let begun = subst (λ w. Stands all b (b + length bytes) w) bytes-are stands in

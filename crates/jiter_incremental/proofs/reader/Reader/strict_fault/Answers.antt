@@ -1,5 +1,5 @@
 use Rattle.std.proofs.Common.{[], Some, ◌∙◌, sym}
-use Rattle.jiter_incremental.specs.Document.{strictly}
+use Rattle.jiter_incremental.specs.Document.{strict, strictly}
 use Rattle.jiter_incremental.specs.Reader.{document}
 use Rattle.jiter_value.specs.Value.{view}
 use Rattle.jiter_incremental.proofs.Answering.{strict-told}
@@ -9,7 +9,7 @@ use Rattle.jiter_incremental.proofs.reader.Reader.strict_fault.Goals as goal
 pub returns-then-is_some : goal.returns-then-is_some
 returns-then-is_some c = λ t h.
     let i = c.args.self.now in
-    fault-found (strictly i.settings) t i.first h.read.opened (Some (view c.args.root.now)) (h.read.known.strict [] tt)
+    fault-found (strictly i.settings) t i.first h.read.opened (Some (view c.args.root.now)) (h.read.known.reads strict [] tt)
     (sym c.is_some.ensures ∙ c.if-is_some.true)
 
 pub returns : goal.returns

@@ -1,6 +1,6 @@
 use Rattle.std.proofs.Common.{◌∙◌, ◌∷◌, [], ap, refl, sym, subst, ◌++◌}
 use Rattle.jiter_scan.specs.declared.errors.FaultKind.TheVariants as fault_of
-use Rattle.jiter_incremental.specs.Document.{HasTakenIn, anything, between_tokens, noted_in, with_byte}
+use Rattle.jiter_incremental.specs.Document.{HasTakenIn, anything, between_tokens, with_byte}
 use Rattle.jiter_incremental.specs.Reader.{document, noted, refused}
 use Rattle.jiter_incremental.proofs.Documents.{ended, follows-byte, trailing-ended, trailing-noted}
 use Rattle.jiter_incremental.proofs.reader.Reader.trail.Goals as goal
@@ -22,5 +22,4 @@ returns-clause-taken c = λ byte t v s at left none other.
     let is = c.refuse.ensures ∙ ap (refused i kind) c.position-2.ensures in
     subst (λ j. HasTakenIn anything (document j v) (t ++ byte ∷ [])) (sym is)
     (ended (with_byte byte) anything d t (byte ∷ []) (between_tokens s) kind d.position c.requires.unset at.known
-    (follows-byte byte) (trailing-ended d byte t s at left none other (sym c.is_active.ensures ∙ c.if-is_active.false))
-    (record { kind = kind; index = d.position }) (noted_in d.first kind d.position) refl refl)
+    (follows-byte byte) (trailing-ended d byte t s at left none other (sym c.is_active.ensures ∙ c.if-is_active.false)))
