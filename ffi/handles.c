@@ -4,9 +4,12 @@
  *   chunks SIZE MODE      the value after each chunk, then the document
  *   lines SIZE INDEX      the line and column of an index
  *   document MODE POINTER what the pointer leads to; with the word unique after it, repeated keys are an error
+ *   walk MODE             the document as a walk shows it, value by value, after it was freed; with a letter after it, the
+ *                         walk was filled before
+ *   double POINTER        the number that the pointer leads to, as a double
  *   texts                 the members of an object of strings: where each key and each string lies
  *   number                the number, whichever it is, as a double, as an unsigned integer, and its cause and column
- *   other CONTENTS        each call over a handle that holds something else: nothing, a parser, a document or lines
+ *   other CONTENTS        each call over a handle that holds something else: nothing, a parser, a document, a walk or lines
  *   refill                handles that are filled again, and what they then hold
  *   cut                   each text with a capacity of one byte
  *   constants             the version; each constant of the header by its name, with its number and its words
@@ -109,6 +112,63 @@ static bool chunks(size_t size, uint32_t mode) {
   return ok;
 }
 
+/* A node of a walk and all below it: keys, texts, numbers with their doubles. */
+static void show_node(JiterWalk *walk, const JiterNode *node) {
+  JiterNode child = {{9, true, 9, 9}, 9, 9, 9, 9, 9};
+  size_t whole = 0, count = 0;
+  double value = 0;
+  bool finite = false, container = node->value.kind == JITER_ARRAY || node->value.kind == JITER_OBJECT;
+  if (jiter_value_key(walk, node, out, sizeof out, &whole) && whole)
+    printf("%.*s:", (int)whole, out);
+  if (jiter_value_text(walk, node, out, sizeof out, &whole))
+    printf(node->value.kind == JITER_STRING ? "'%.*s'" : "%.*s", (int)whole, out);
+  else if (!container)
+    printf(node->value.kind == JITER_INT ? "" : node->value.kind == JITER_NULL ? "null" : node->value.truth ? "true" : "false");
+  if (jiter_value_double(walk, node, &value, &finite))
+    printf(finite ? "=%.17g" : "=%.17g!", value);
+  if (container)
+    printf(node->value.kind == JITER_ARRAY ? "[" : "{");
+  for (bool more = jiter_value_first_child(walk, node, &child); more; more = jiter_value_next_sibling(walk, &child, &child)) {
+    printf(count++ ? "," : "");
+    show_node(walk, &child);
+  }
+  if (container)
+    printf(node->value.kind == JITER_ARRAY ? "]" : "}");
+  if (container && count != node->value.length)
+    printf("(%zu of %zu)", count, node->value.length);
+}
+
+static bool walk_document(uint32_t mode, bool again) {
+  JiterDocument held = {0};
+  JiterWalk walk = {0};
+  JiterNode node = {{9, true, 9, 9}, 9, 9, 9, 9, 9};
+  bool given = jiter_document_parse(&held, bytes, length, false, mode, false, &fault) &&
+               jiter_walk_new(&walk, &held, &fault) && (!again || jiter_walk_new(&walk, &held, &fault));
+  bool ok = given || failed();
+  jiter_document_free(&held);
+  if (given && jiter_walk_node(&walk, 0, &node)) {
+    show_node(&walk, &node);
+    if (jiter_walk_node(&walk, node.nodes, &node) || node.index)
+      printf("(a node after the last)");
+    printf("\n");
+  }
+  jiter_walk_free(&walk);
+  return ok;
+}
+
+static bool nearest(const char *pointer) {
+  JiterDocument held = {0};
+  double value = 7;
+  bool finite = false, given = jiter_document_parse(&held, bytes, length, true, JITER_OFF, false, &fault), ok = given || failed();
+  if (given && jiter_document_double(&held, pointer, strlen(pointer), NULL, 0, &value, &finite, &fault))
+    printf("double %.17g %d\n", value, finite);
+  else if (given)
+    printf("fault %" PRIu32 " %" PRIu32 " %" PRIu32 " %zu, %.17g %d\n", fault.kind, fault.expected, fault.actual, fault.index,
+           value, finite);
+  jiter_document_free(&held);
+  return ok;
+}
+
 static bool lines(size_t size, size_t index) {
   JiterLines held = {0};
   JiterPosition at = {0, 0};
@@ -190,7 +250,7 @@ static void use_as_parser(JiterParser parser) {
   misused("finish", jiter_parser_finish(&parser, &fault), whole);
 }
 
-static void use_as_document(JiterDocument document) {
+static bool use_as_document(JiterDocument document) {
   size_t whole = 77, step = 0;
   JiterValue value = {9, true, 9, 9};
   printf("document:");
@@ -201,6 +261,30 @@ static void use_as_document(JiterDocument document) {
   misused("key", given, whole);
   given = jiter_document_print(&document, "\xff", 1, NULL, 0, out, sizeof out, &whole, &fault);
   misused("print", given, whole);
+  double number = 77;
+  bool finite = true;
+  given = jiter_document_double(&document, "", 0, &step, 1, &number, &finite, &fault);
+  misused("double", given, finite ? (size_t)number : 0);
+  JiterWalk begun = {0};
+  bool ok = jiter_handle_new(&begun.pointer);
+  if (ok)
+    misused("walk", jiter_walk_begin(&begun, &document, &fault), whole);
+  jiter_walk_free(&begun);
+  return ok;
+}
+
+static void use_as_walk(JiterWalk walk) {
+  JiterNode node = {{77, true, 0, 0}, 0, 0, 0, 0, 0};
+  size_t whole = 77;
+  double number = 77;
+  bool finite = true;
+  printf("walk:");
+  bool given = jiter_walk_node(&walk, 0, &node);
+  misused("node", given, node.value.kind);
+  given = jiter_walk_text(&walk, 0, 1, out, sizeof out, &whole);
+  misused("text", given, whole);
+  given = jiter_walk_double(&walk, 0, 1, &number, &finite);
+  misused("double", given, finite ? (size_t)number : 0);
 }
 
 static void use_as_lines(JiterLines lines) {
@@ -214,25 +298,40 @@ static void use_as_lines(JiterLines lines) {
 static bool other(const char *contents) {
   JiterParser parser = {0};
   JiterDocument document = {0};
+  JiterWalk walk = {0};
   JiterLines held = {0};
   JiterPosition place = {0, 0};
+  JiterNode node;
   void *pointer = NULL;
+  bool parsed = (*contents != 'd' && *contents != 'w') ||
+                jiter_document_parse(&document, bytes, length, false, JITER_OFF, true, &fault);
   bool ok = *contents == 'n'   ? jiter_handle_new(&pointer)
             : *contents == 'p' ? jiter_parser_new(&parser, false, JITER_ON) && push(&parser, bytes, length)
-            : *contents == 'd' ? jiter_document_parse(&document, bytes, length, false, JITER_OFF, true, &fault)
+            : *contents == 'd' ? parsed
+            : *contents == 'w' ? parsed && jiter_walk_new(&walk, &document, &fault)
                                : jiter_lines_new(&held) && jiter_lines_push(&held, bytes, length);
-  pointer = *contents == 'p' ? parser.pointer : *contents == 'd' ? document.pointer : *contents == 'l' ? held.pointer : pointer;
+  if (*contents == 'w')
+    jiter_document_free(&document);
+  pointer = *contents == 'p'   ? parser.pointer
+            : *contents == 'd' ? document.pointer
+            : *contents == 'w' ? walk.pointer
+            : *contents == 'l' ? held.pointer
+                               : pointer;
   out[0] = '?';
   if (ok && *contents != 'p')
     use_as_parser((JiterParser){pointer}), printf("\n");
   if (ok && *contents != 'd')
-    use_as_document((JiterDocument){pointer}), printf("\n");
+    ok = use_as_document((JiterDocument){pointer}) && printf("\n") > 0;
+  if (ok && *contents != 'w')
+    use_as_walk((JiterWalk){pointer}), printf("\n");
   if (ok && *contents != 'l')
     use_as_lines((JiterLines){pointer}), printf("\n");
   if (ok && *contents == 'p')
     printf("still %zu\n", jiter_parser_position(&parser));
   if (ok && *contents == 'd')
     ok = show(&document, "", NULL, 0);
+  if (ok && *contents == 'w' && jiter_walk_node(&walk, 0, &node))
+    show_node(&walk, &node), printf("\n");
   if (ok && *contents == 'l' && jiter_lines_position(&held, 99, &place))
     printf("still %zu %zu\n", place.line, place.column);
   if (pointer)
@@ -310,6 +409,12 @@ static bool cut(void) {
        printf("absent %" PRIu32 " %" PRIu32 " %zu\n", fault.expected, fault.actual, fault.index) > 0;
   ok = ok && jiter_parser_new(&parser, false, JITER_ON) && push(&parser, bytes, length) &&
        first_byte(jiter_parser_value(&parser, out, 1, &whole, &fault), &whole);
+  JiterWalk walk = {0};
+  JiterNode node;
+  ok = ok && jiter_walk_new(&walk, &held, &fault) && jiter_walk_node(&walk, 1, &node) &&
+       first_byte(jiter_value_key(&walk, &node, out, 1, &whole), &whole) &&
+       first_byte(jiter_value_text(&walk, &node, out, 1, &whole), &whole);
+  jiter_walk_free(&walk);
   jiter_document_free(&held);
   jiter_parser_free(&parser);
   return ok;
@@ -382,6 +487,10 @@ int main(int count, char **words) {
     ok = lines(strtoul(more, NULL, 10), strtoul(last, NULL, 10));
   else if (!strcmp(word, "document"))
     ok = document(mode_of(more), last, count > 4);
+  else if (!strcmp(word, "walk"))
+    ok = walk_document(mode_of(more), *last);
+  else if (!strcmp(word, "double"))
+    ok = nearest(count > 2 ? more : "");
   else if (!strcmp(word, "texts"))
     ok = texts();
   else if (!strcmp(word, "other"))

@@ -24,8 +24,8 @@
  * non-empty containers and at most 4300 digits in an integer part. A reader keeps no record of open containers: call its
  * steps in the order that their results give, check strings by the calls that check UTF-8, and end with jiter_finish.
  *
- * Memory. Only a handle (JiterParser, JiterDocument, JiterLines) owns memory. Initialize it as `{0}`, fill it as often as
- * you like, and free it once. All memory is from malloc.
+ * Memory. Only a handle (JiterParser, JiterDocument, JiterWalk, JiterLines) owns memory. Initialize it as `{0}`, fill it
+ * as often as you like, and free it once. All memory is from malloc.
  *
  * Threads. Nothing is shared between calls. A handle or a reader is used by one call at a time; different ones by any
  * number of threads. Don't call from a signal handler, nor in the forked child of a process with threads. */
@@ -143,6 +143,9 @@ typedef struct {
 } JiterDocument;
 typedef struct {
   void *pointer;
+} JiterWalk;
+typedef struct {
+  void *pointer;
 } JiterLines;
 
 /* What a document has at a place. */
@@ -153,6 +156,16 @@ typedef struct {
   size_t length;   /* items, members, or bytes of the string or number text */
 } JiterValue;
 
+/* A value of a walk. Its parts follow it: the first one is the next node, and each has its own parts after it. */
+typedef struct {
+  JiterValue value;
+  size_t index;      /* from 0: the document's value */
+  size_t nodes;      /* the value and all its parts, and theirs */
+  size_t left;       /* the items or members after it; the next one is `nodes` nodes on */
+  size_t text;       /* where its text begins, for jiter_walk_text */
+  size_t key_length; /* bytes of its key, which is before the text; 0 if it is no member */
+} JiterNode;
+
 #if defined __STDC_VERSION__ && __STDC_VERSION__ >= 201112L
 _Static_assert(sizeof(size_t) == 8 && sizeof(bool) == 1, "x86-64 is needed");
 _Static_assert(sizeof(JiterFault) == 24 && offsetof(JiterFault, index) == 16, "JiterFault");
@@ -161,6 +174,7 @@ _Static_assert(sizeof(JiterReader) == 32 && offsetof(JiterReader, allow_inf_nan)
 _Static_assert(sizeof(JiterNumber) == 32 && offsetof(JiterNumber, text) == 16, "JiterNumber");
 _Static_assert(sizeof(JiterPosition) == 16 && sizeof(JiterParser) == 8, "JiterPosition, JiterParser");
 _Static_assert(sizeof(JiterValue) == 24 && offsetof(JiterValue, integer) == 8, "JiterValue");
+_Static_assert(sizeof(JiterNode) == 64 && offsetof(JiterNode, index) == 24, "JiterNode");
 #endif
 
 uint32_t jiter_version(void);
@@ -389,6 +403,70 @@ bool jiter_document_key(JiterDocument *document, const char *pointer, size_t poi
 /* The compact JSON text of the value at a place. */
 bool jiter_document_print(JiterDocument *document, const char *pointer, size_t pointer_length, const size_t *steps,
                           size_t depth, char *out, size_t room, size_t *whole, JiterFault *fault);
+/* The double nearest to the number at a place, whichever number it is. 1e400 is infinite: `finite` is false. */
+bool jiter_document_double(JiterDocument *document, const char *pointer, size_t pointer_length, const size_t *steps,
+                           size_t depth, double *value, bool *finite, JiterFault *fault);
+
+/* ---- A walk through a document, value by value, each step in constant time. A walk is a table of the document's values
+ * and a copy of their texts. It borrows nothing: you may free the document first.
+ *
+ *     static void show(JiterWalk *walk, const JiterNode *node) {
+ *       JiterNode child;
+ *       for (bool more = jiter_value_first_child(walk, node, &child); more;
+ *            more = jiter_value_next_sibling(walk, &child, &child))
+ *         show(walk, &child);
+ *     } */
+
+/* The export that jiter_walk_new calls, for a handle that you have. */
+bool jiter_walk_begin(JiterWalk *walk, JiterDocument *document, JiterFault *fault);
+/* Gives `walk` the values of a document. If this fails, memory ran out or there is no document, and the handle holds what
+ * it held. */
+static inline bool jiter_walk_new(JiterWalk *walk, JiterDocument *document, JiterFault *fault) {
+  if (walk->pointer || jiter_handle_new(&walk->pointer))
+    return jiter_walk_begin(walk, document, fault);
+  fault->kind = JITER_OUT_OF_MEMORY;
+  fault->expected = fault->actual = 0;
+  fault->index = 0;
+  return false;
+}
+static inline void jiter_walk_free(JiterWalk *walk) {
+  if (walk->pointer)
+    jiter_handle_free(walk->pointer);
+  walk->pointer = NULL;
+}
+/* The node with this index, if there is one. Index 0 is the document's value. */
+bool jiter_walk_node(JiterWalk *walk, size_t index, JiterNode *node);
+/* These bytes of the texts of the walk. It fails only if the handle holds no walk. */
+bool jiter_walk_text(JiterWalk *walk, size_t begin, size_t count, char *out, size_t room, size_t *whole);
+
+/* The first item or member of a value, and the next one of its array or object. `child` and `sibling` may be `node`. */
+static inline bool jiter_value_first_child(JiterWalk *walk, const JiterNode *node, JiterNode *child) {
+  return node->nodes > 1 && jiter_walk_node(walk, node->index + 1, child);
+}
+static inline bool jiter_value_next_sibling(JiterWalk *walk, const JiterNode *node, JiterNode *sibling) {
+  return node->left > 0 && jiter_walk_node(walk, node->index + node->nodes, sibling);
+}
+/* The string of a value, decoded, or the source text of a JITER_BIG_INT or a JITER_FLOAT. Other values have none. */
+static inline bool jiter_value_text(JiterWalk *walk, const JiterNode *node, char *out, size_t room, size_t *whole) {
+  uint32_t kind = node->value.kind;
+  return (kind == JITER_STRING || kind == JITER_FLOAT || kind == JITER_BIG_INT) &&
+         jiter_walk_text(walk, node->text, node->value.length, out, room, whole);
+}
+/* The key of a member, decoded. It is empty if the value is no member. */
+static inline bool jiter_value_key(JiterWalk *walk, const JiterNode *node, char *out, size_t room, size_t *whole) {
+  return jiter_walk_text(walk, node->text - node->key_length, node->key_length, out, room, whole);
+}
+/* The double nearest to a number, whichever it is. */
+bool jiter_walk_double(JiterWalk *walk, size_t begin, size_t count, double *value, bool *finite);
+static inline bool jiter_value_double(JiterWalk *walk, const JiterNode *node, double *value, bool *finite) {
+  if (node->value.kind == JITER_FLOAT || node->value.kind == JITER_BIG_INT)
+    return jiter_walk_double(walk, node->text, node->value.length, value, finite);
+  if (node->value.kind != JITER_INT)
+    return false;
+  *value = (double)node->value.integer;
+  *finite = true;
+  return true;
+}
 
 /* ---- Lines of a document in chunks: push the same chunks as to the parser. A push that fails took no byte; it fails
  * only if memory runs out, for a chunk with a line feed, or if there would be more than SIZE_MAX bytes. */

@@ -5,34 +5,32 @@
 #include <stdio.h>
 #include <stdlib.h>
 
-#define DEPTH 201 /* containers nest no deeper */
-
 static char room[1 << 16];
 
-static void show(JiterDocument *document, size_t *steps, size_t depth, const char *name, size_t count) {
-  JiterValue value = {0, false, 0, 0};
-  JiterFault fault = {0};
+/* As much of a text as there is room for. */
+static void put(const char *before, bool given, const size_t *whole, const char *after) {
+  if (given)
+    printf("%s%.*s%s", before, (int)(*whole < sizeof room ? *whole : sizeof room), room, after);
+}
+
+static void show(JiterWalk *walk, const JiterNode *node, int depth) {
+  JiterNode child;
   size_t whole = 0;
-  if (!jiter_document_at(document, NULL, 0, steps, depth, &value))
-    return;
-  printf("%*s%.*s", (int)(2 * depth), "", (int)count, name);
-  if (value.kind != JITER_ARRAY && value.kind != JITER_OBJECT) {
-    jiter_document_print(document, NULL, 0, steps, depth, room, sizeof room, &whole, &fault);
-    printf("%.*s\n", (int)(whole < sizeof room ? whole : sizeof room), room);
-    return;
-  }
-  printf(value.kind == JITER_ARRAY ? "array of %zu\n" : "object of %zu\n", value.length);
-  for (size_t i = 0; i < value.length; i++) {
-    char key[64];
-    whole = 0;
-    if (value.kind == JITER_OBJECT)
-      jiter_document_key(document, NULL, 0, steps, depth, i, key, sizeof key - 2, &whole, &fault);
-    whole = whole < sizeof key - 2 ? whole : sizeof key - 2;
-    if (value.kind == JITER_OBJECT)
-      key[whole++] = ':', key[whole++] = ' ';
-    steps[depth] = i;
-    show(document, steps, depth + 1, key, whole);
-  }
+  uint32_t kind = node->value.kind;
+  printf("%*s", 2 * depth, "");
+  put("", node->key_length && jiter_value_key(walk, node, room, sizeof room, &whole), &whole, ": ");
+  if (kind == JITER_ARRAY || kind == JITER_OBJECT)
+    printf(kind == JITER_ARRAY ? "array of %zu\n" : "object of %zu\n", node->value.length);
+  else if (kind == JITER_STRING)
+    put("\"", jiter_value_text(walk, node, room, sizeof room, &whole), &whole, "\"\n");
+  else if (kind == JITER_INT)
+    printf("%" PRId64 "\n", node->value.integer);
+  else if (kind == JITER_NULL || kind == JITER_BOOL)
+    puts(kind == JITER_NULL ? "null" : node->value.truth ? "true" : "false");
+  else
+    put("", jiter_value_text(walk, node, room, sizeof room, &whole), &whole, "\n");
+  for (bool more = jiter_value_first_child(walk, node, &child); more; more = jiter_value_next_sibling(walk, &child, &child))
+    show(walk, &child, depth + 1);
 }
 
 static int fail(JiterLines *lines, const JiterFault *fault) {
@@ -49,14 +47,18 @@ int main(void) {
   JiterParser parser = {0};
   JiterLines lines = {0};
   JiterDocument document = {0};
+  JiterWalk walk = {0};
+  JiterNode node;
   JiterFault fault = {JITER_OUT_OF_MEMORY, 0, 0, 0};
-  size_t got, steps[DEPTH + 1];
+  size_t got;
   bool held = jiter_parser_new(&parser, false, JITER_OFF) && jiter_lines_new(&lines);
   while (held && (got = fread(room, 1, sizeof room, stdin)) > 0)
     held = jiter_parser_push(&parser, room, got) && jiter_lines_push(&lines, room, got);
-  int status = held && jiter_parser_to_document(&parser, &document, &fault) ? 0 : fail(&lines, &fault);
-  if (!status)
-    show(&document, steps, 0, "", 0);
+  bool ok = held && jiter_parser_to_document(&parser, &document, &fault) && jiter_walk_new(&walk, &document, &fault);
+  int status = ok ? 0 : fail(&lines, &fault);
+  if (ok && jiter_walk_node(&walk, 0, &node))
+    show(&walk, &node, 0);
+  jiter_walk_free(&walk);
   jiter_document_free(&document);
   jiter_parser_free(&parser);
   jiter_lines_free(&lines);

@@ -3,6 +3,7 @@ pub mod AsBox
 pub mod Describing
 pub mod DocumentReports
 pub mod Into
+pub mod Laying
 pub mod Members
 pub mod Numbers
 pub mod ParserReports

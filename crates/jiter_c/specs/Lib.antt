@@ -11,3 +11,4 @@ pub mod Printing
 pub mod Replies
 pub mod Reports
 pub mod Values
+pub mod Walk

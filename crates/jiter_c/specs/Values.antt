@@ -1,8 +1,11 @@
 -- What C is told of a document behind a handle, and of what lies in it.
 use Rattle.std.specs.Prelude.{◌≡◌, ◌⊎◌, ℕ, pos, zero, suc, Bool, true, false, not, if◌then◌else◌, List, [], ◌∷◌, length}
-use Rattle.std.specs.Prelude.{Option, Some, None, option_map, option_and_then, Result, Ok, Err, Vec}
+use Rattle.std.specs.Prelude.{Float, Option, Some, None, option_map, option_and_then, Result, Ok, Err, Vec}
+use Rattle.std.specs.Float.{binary64}
+use Rattle.std.specs.Float.Ieee.{of_int}
 use Rattle.std.specs.Str.{is_utf8}
 use Rattle.std.specs.declared.alloc.Global.{Global}
+use Rattle.fast_float.specs.Parse.{parse_float}
 use Rattle.jiter.specs.Cause.{json_error}
 use Rattle.jiter_print.specs.Print.{print_of}
 use Rattle.jiter_scan.specs.Kind.{Kind, out_of_memory}
@@ -123,6 +126,13 @@ text_in v = None
 abbrev pub key_of : ℕ → Tree → Option (List ℕ)
 key_of i (object ms) = option_map (λ m. m.0.bytes) (member_at i ms)
 key_of i v = None
+
+-- the double nearest to a number
+abbrev pub double_in : Tree → Option Float
+double_in (int z) = Some (of_int binary64 z)
+double_in (big s) = parse_float binary64 s.bytes
+double_in (float s) = parse_float binary64 s.bytes
+double_in v = None
 
 -- the text that is wanted of a value
 abbrev pub wanted_text : Wanted → Tree → Option (List ℕ)

@@ -5,6 +5,7 @@ ghost use Rattle.jiter_c.specs.Handles.{contents_coded, contents_owns};
 
 mod parts;
 
+use crate::walk::Walk;
 use jiter::JsonValue;
 use jiter_incremental::{IncrementalParser, LineIndex};
 use parts::Parts;
@@ -22,6 +23,8 @@ pub enum Contents {
     Document(JsonValue<'static>),
     /// The line feeds of chunks.
     Lines(LineIndex),
+    /// The table of a document's values.
+    Walk(Walk),
 }
 
 /// A handle: one pointer, which the caller keeps and never reads. The allocator has no bytes.

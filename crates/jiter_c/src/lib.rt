@@ -4,6 +4,7 @@
 #![tactic(auto)]
 
 mod descriptions;
+mod document_doubles;
 mod document_texts;
 mod documents;
 mod faults;
@@ -17,3 +18,4 @@ mod scalars;
 mod steps;
 mod texts;
 mod values;
+mod walk;

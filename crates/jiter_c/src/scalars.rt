@@ -253,7 +253,8 @@ pub extern "C" fn jiter_next_double(
     }
 }
 
-fn double_of(bytes: &[u8]) -> Option<f64>
+/// Returns the double nearest to a number's text.
+pub fn double_of(bytes: &[u8]) -> Option<f64>
     ensures { result ≡ parse_float binary64 bytes.now }
 {
     fast_float::parse::<f64, &[u8]>(bytes).ok()

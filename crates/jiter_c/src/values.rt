@@ -247,7 +247,8 @@ fn typed_value(kind: u32, length: usize) -> JiterValue
     }
 }
 
-fn describe(value: &JsonValue<'static>) -> JiterValue
+/// Returns what is reported of a value.
+pub fn describe(value: &JsonValue<'static>) -> JiterValue
     ensures { result ≡ value_report (view value.now) }
 {
     match value {

@@ -49,15 +49,32 @@ impl Error {
     }
 
     pub(crate) fn absent(Place(pointer, steps): Place<'_>) -> Error {
-        Error { kind: ABSENT, index: 0, cause: format!("the document has no such value at {pointer:?}, steps {steps:?}") }
+        let cause = match wrong(pointer) {
+            Some(why) => format!("{pointer:?} is not a JSON Pointer: {why}"),
+            None => format!("the document has no such value at {pointer:?}, steps {steps:?}"),
+        };
+        Error { kind: ABSENT, index: 0, cause }
     }
 
-    /// Returns whether the document has nothing of the wanted type at a place.
+    /// Returns whether the document has nothing of the wanted type at a place. The place may also be a text that is not a
+    /// JSON Pointer: the error then says why.
+    ///
+    /// ```
+    /// let document = jiter_c::Document::parse(br#"{"a": 1}"#)?;
+    /// let error = document.double("a", &[]).unwrap_err();
+    /// assert!(error.is_absent());
+    /// assert_eq!(error.to_string(), r#""a" is not a JSON Pointer: it must be empty or begin with `/`"#);
+    /// # Ok::<(), jiter_c::Error>(())
+    /// ```
     pub fn is_absent(&self) -> bool {
         self.kind == ABSENT
     }
 
     /// Returns whether memory ran out. Such an error says nothing about the bytes.
+    ///
+    /// ```
+    /// assert!(!jiter_c::Document::parse(b"[1,]").err().unwrap().is_memory());
+    /// ```
     pub fn is_memory(&self) -> bool {
         self.kind == OUT_OF_MEMORY
     }
@@ -68,6 +85,15 @@ impl Error {
         unsafe { raw::jiter_position(bytes.as_ptr(), bytes.len(), self.index, &mut position) };
         (position.line, position.column)
     }
+}
+
+/// Why a text is not a JSON Pointer (RFC 6901, 3), if it is none.
+fn wrong(pointer: &str) -> Option<&'static str> {
+    if !pointer.is_empty() && !pointer.starts_with('/') {
+        return Some("it must be empty or begin with `/`");
+    }
+    let escaped = |rest: &str| rest.starts_with(['0', '1']);
+    if pointer.split('~').skip(1).all(escaped) { None } else { Some("a `~` must be followed by `0` or `1`") }
 }
 
 impl fmt::Display for Error {

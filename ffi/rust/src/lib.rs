@@ -1,4 +1,4 @@
-//! JSON by libjiter: [`Reader`], [`Document`] and [`Parser`]. The library is proved; this wrapper is not.
+//! JSON by libjiter: [`Reader`], [`Document`], [`Walk`] and [`Parser`]. The library is proved; this wrapper is not.
 //!
 //! ```
 //! use jiter_c::{Document, Type};
@@ -14,10 +14,12 @@ use std::marker::PhantomData;
 
 mod error;
 mod raw;
+mod walk;
 
 pub use error::{Error, Result};
 use error::{DUPLICATE_KEY, told};
 use raw::Place;
+pub use walk::{Children, Node, Walk};
 
 /// Whether a truncated document is accepted.
 #[derive(Clone, Copy, Debug, PartialEq, Eq)]
@@ -304,7 +306,14 @@ pub struct Value {
     pub length: usize,
 }
 
-/// The value of a document. It borrows nothing, and may move to another thread.
+impl Value {
+    fn of(raw::Value { kind, truth, integer, length }: raw::Value) -> Value {
+        Value { kind: type_of(kind).expect("a type"), truth, integer, length }
+    }
+}
+
+/// The value of a document. It borrows nothing, and may move to another thread: it is `Send`. It is not `Sync`, since the
+/// library takes one call at a time of a handle.
 ///
 /// ```
 /// let document = jiter_c::Document::parse(br#"{"a": [1, "b"]}"#)?;
@@ -353,8 +362,7 @@ impl Document {
         let found = unsafe {
             raw::jiter_document_at(handle, path, pointer.len(), place, steps.len(), &mut value)
         };
-        let raw::Value { kind, truth, integer, length } = value;
-        found.then(|| Value { kind: type_of(kind).expect("a type"), truth, integer, length })
+        found.then(|| Value::of(value))
     }
 
     fn text_by(
@@ -392,11 +400,29 @@ impl Document {
 
     /// Returns the double at a place, whichever number it is. It fails where there is no number.
     pub fn double(&self, pointer: &str, steps: &[usize]) -> Result<f64> {
-        match self.at(pointer, steps) {
-            Some(Value { kind: Type::Int, integer, .. }) => Ok(integer as f64),
-            Some(Value { kind: Type::Float | Type::BigInt, .. }) => Ok(double_of(&self.text(pointer, steps)?)),
-            _ => Err(Error::absent(Place(pointer, steps))),
-        }
+        let (mut value, mut finite, mut fault) = (0.0, false, raw::Fault::default());
+        let (path, place, handle) = (pointer.as_ptr(), steps.as_ptr(), &mut self.0.0.borrow_mut());
+        let given = unsafe {
+            raw::jiter_document_double(
+                handle, path, pointer.len(), place, steps.len(), &mut value, &mut finite, &mut fault)
+        };
+        if given { Ok(value) } else { Err(Error::absent(Place(pointer, steps))) }
+    }
+
+    /// Returns a walk through the values of the document, each step in constant time. It owns what it shows.
+    ///
+    /// ```
+    /// let walk = jiter_c::Document::parse(br#"{"a": [1, 2.5], "b": "c"}"#)?.walk()?;
+    /// let members: Vec<_> = walk.root().children().map(|it| (it.key(), it.value().length)).collect();
+    /// assert_eq!(members, [(Some("a".into()), 2), (Some("b".into()), 1)]);
+    /// # Ok::<(), jiter_c::Error>(())
+    /// ```
+    pub fn walk(&self) -> Result<Walk> {
+        let (walk, mut fault) = (Handle::new()?, raw::Fault::default());
+        let given = unsafe {
+            raw::jiter_walk_begin(&mut walk.0.borrow_mut(), &mut self.0.0.borrow_mut(), &mut fault)
+        };
+        told(given, Walk(walk), fault)
     }
 }
 

@@ -40,12 +40,23 @@ pub struct Number {
 }
 
 #[repr(C)]
-#[derive(Default)]
+#[derive(Default, Clone, Copy)]
 pub struct Value {
     pub kind: u32,
     pub truth: bool,
     pub integer: i64,
     pub length: usize,
+}
+
+#[repr(C)]
+#[derive(Default, Clone, Copy)]
+pub struct Node {
+    pub value: Value,
+    pub index: usize,
+    pub nodes: usize,
+    pub left: usize,
+    pub text: usize,
+    pub key_length: usize,
 }
 
 #[repr(C)]
@@ -107,4 +118,13 @@ unsafe extern "C" {
     pub fn jiter_document_print(
         handle: &mut Handle, pointer: *const u8, length: usize, steps: *const usize, depth: usize, out: *mut u8,
         room: usize, whole: &mut usize, fault: &mut Fault) -> bool;
+    pub fn jiter_document_double(
+        handle: &mut Handle, pointer: *const u8, length: usize, steps: *const usize, depth: usize, value: &mut f64,
+        finite: &mut bool, fault: &mut Fault) -> bool;
+    pub fn jiter_walk_begin(walk: &mut Handle, document: &mut Handle, fault: &mut Fault) -> bool;
+    pub fn jiter_walk_node(walk: &mut Handle, index: usize, node: &mut Node) -> bool;
+    pub fn jiter_walk_text(
+        walk: &mut Handle, begin: usize, count: usize, out: *mut u8, room: usize, whole: &mut usize) -> bool;
+    pub fn jiter_walk_double(
+        walk: &mut Handle, begin: usize, count: usize, value: &mut f64, finite: &mut bool) -> bool;
 }
