@@ -1,6 +1,6 @@
 -- What a look at a string says of its reading.
-use Rattle.std.proofs.Common.{◌≡◌, ◌≢◌, ℕ, ◌+◌, ◌<◌, ◌≤◌, Bool, true, false, List, length, refl, sym, ap, ◌∙◌}
-use Rattle.std.proofs.Common.{arith, subst}
+use Rattle.std.proofs.Common.{◌≡◌, ◌≢◌, ℕ, ◌+◌, ◌<◌, Bool, true, false, List, length, refl, sym, ap, ◌∙◌}
+use Rattle.std.proofs.Common.{arith}
 use Rattle.std.specs.Prelude.{◌==◌, slice_get, slice_range, Option, Some, None}
 use Rattle.std.specs.Str.{IsUtf8}
 use Rattle.std.specs.Str.Lossy.{utf8_valid_len}
@@ -14,12 +14,12 @@ use Rattle.jiter_scan.specs.declared.short_scan.Look.{Look}
 use Rattle.jiter_scan.specs.declared.short_scan.Look.TheVariants as look
 use Rattle.jiter_scan.proofs.Choices.{failed-taken, if_gives, same_taken}
 use Rattle.jiter_scan.proofs.Standing.{get-none}
-use Rattle.jiter_steps.specs.StringReading.{between, checked, content_at, Form, kept, raw, raw_form, raw_kept, string_at}
+use Rattle.jiter_steps.specs.StringReading.{between, checked, Form, kept, raw, raw_form, raw_kept, string_at}
 use Rattle.jiter_steps.specs.StringReading.{text_form, text_in_form, unclosed, whole}
 use Rattle.jiter_steps.specs.Tree.{Text}
 use Rattle.jiter_steps.proofs.Calls.FastAnswers.{plain-quoted, plain-utf8}
 use Rattle.jiter_steps.proofs.Calls.PlainRuns.{plain_run-within}
-use Rattle.jiter_steps.proofs.Calls.RawStrings.{raw-closed, raw-over_run, raw-unclosed}
+use Rattle.jiter_steps.proofs.Calls.RawStrings.{raw-closed, raw-over_run}
 use Rattle.jiter_steps.proofs.Calls.StringAnswers.{string-control, string-none, string-quote}
 
 module _ (t : List ℕ) (at to : ℕ) (inside : at < length t) (stop : to ≡ scan_stop t (at + 1)) where
