@@ -21,8 +21,7 @@ use crate::settings::Settings;
 use crate::stacks::{Slot, Stacks, State, no_error, take_error, take_root};
 use crate::texts::StringStorage;
 use crate::turns::containers::{after_value, begin};
-use crate::turns::fast::{Plain, fast_put_key, fast_put_scalar};
-use crate::turns::general::{slow_key, slow_scalar};
+use crate::turns::scalars::{Plain, fast_put_key, fast_put_scalar, slow_key, slow_scalar};
 use crate::value::JsonValue;
 use jiter_steps::parse::{ContainerKind, NESTING_LIMIT, Parser};
 use jiter_steps::read_error::ReadError;
@@ -32,9 +31,7 @@ use std::borrow::CowStr;
 
 pub(crate) mod containers;
 pub(crate) mod duplicate_keys;
-pub(crate) mod fast;
-pub(crate) mod general;
-pub(crate) mod scalar;
+pub(crate) mod scalars;
 pub(crate) mod unique;
 
 // Whether the expected value fits into its slot without an allocation. Only an item may need one.

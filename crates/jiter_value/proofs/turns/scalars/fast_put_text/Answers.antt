@@ -4,7 +4,7 @@ use Rattle.jiter_steps.specs.Tree.{string}
 use Rattle.jiter_value.proofs.LentTexts.{range-lies}
 use Rattle.jiter_value.proofs.Placed.{put-at, text-read}
 use Rattle.jiter_value.proofs.Views.{view_str}
-use Rattle.jiter_value.proofs.turns.fast.fast_put_text.Goals as goal
+use Rattle.jiter_value.proofs.turns.scalars.fast_put_text.Goals as goal
 
 pub keep_lent-requires : goal.keep_lent-requires
 keep_lent-requires g c =

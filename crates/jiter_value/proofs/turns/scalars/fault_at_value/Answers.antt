@@ -11,7 +11,7 @@ use Rattle.jiter_value.proofs.KeptKeys.{leaves-taken, leaves-on}
 use Rattle.jiter_value.proofs.StackTurns.{fault-item, fault-value, last-member}
 use Rattle.jiter_value.proofs.Sizes.{item-size, key-size}
 use Rattle.jiter_value.proofs.TurnOutcomes.{leads-weaker}
-use Rattle.jiter_value.proofs.turns.general.fault_at_value.Goals as goal
+use Rattle.jiter_value.proofs.turns.scalars.fault_at_value.Goals as goal
 
 pub returns-in-Item-clause-leads : goal.returns-in-Item-clause-leads
 returns-in-Item-clause-leads g c =

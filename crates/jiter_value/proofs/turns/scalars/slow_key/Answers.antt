@@ -9,7 +9,7 @@ use Rattle.jiter_value.proofs.Repeats.{no-colon, no-key}
 use Rattle.jiter_value.proofs.StackTurns.{colon-fails, key-fails, scalar-failed, scalar-taken}
 use Rattle.jiter_value.proofs.Taking.{at-colon, left-known, taken-on}
 use Rattle.jiter_value.proofs.TurnOutcomes.{leads-weaker}
-use Rattle.jiter_value.proofs.turns.general.slow_key.Goals as goal
+use Rattle.jiter_value.proofs.turns.scalars.slow_key.Goals as goal
 
 pub returns-in-Some-clause-turned : goal.returns-in-Some-clause-turned
 returns-in-Some-clause-turned g c =

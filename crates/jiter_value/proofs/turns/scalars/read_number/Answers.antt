@@ -2,7 +2,7 @@ use Rattle.std.proofs.Common.{refl, ap}
 use Rattle.jiter_scan.specs.NumberDecoder.{number_view}
 use Rattle.jiter_value.proofs.LentTexts.{number-lent}
 use Rattle.jiter_value.proofs.StackTurns.{scalar-taken}
-use Rattle.jiter_value.proofs.turns.scalar.read_number.Goals as goal
+use Rattle.jiter_value.proofs.turns.scalars.read_number.Goals as goal
 
 pub number_value-requires : goal.number_value-requires
 number_value-requires g c =

@@ -2,7 +2,7 @@ use Rattle.std.proofs.Common.{◌∙◌, ap, sym}
 use Rattle.jiter_steps.specs.Literal.{literal_tree}
 use Rattle.jiter_value.specs.Size.{size}
 use Rattle.jiter_value.proofs.Placed.{put-at, literal-read}
-use Rattle.jiter_value.proofs.turns.fast.fast_put_literal.Goals as goal
+use Rattle.jiter_value.proofs.turns.scalars.fast_put_literal.Goals as goal
 
 pub returns-clause-put : goal.returns-clause-put
 returns-clause-put g c = λ _.

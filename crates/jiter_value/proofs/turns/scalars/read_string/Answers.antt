@@ -2,7 +2,7 @@ use Rattle.std.proofs.Common.{refl, ap}
 use Rattle.jiter_steps.specs.StringDecoder.{text_view}
 use Rattle.jiter_value.proofs.LentTexts.{string-lent}
 use Rattle.jiter_value.proofs.StackTurns.{scalar-taken}
-use Rattle.jiter_value.proofs.turns.scalar.read_string.Goals as goal
+use Rattle.jiter_value.proofs.turns.scalars.read_string.Goals as goal
 
 pub keep-requires : goal.keep-requires
 keep-requires g c =

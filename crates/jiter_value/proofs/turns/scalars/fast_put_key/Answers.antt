@@ -6,7 +6,7 @@ use Rattle.jiter_value.specs.Stacks.{keys_of}
 use Rattle.jiter_value.proofs.KeptKeys.{pushed-keys}
 use Rattle.jiter_value.proofs.Placed.{key-at}
 use Rattle.jiter_value.proofs.Taking.{colon-taken}
-use Rattle.jiter_value.proofs.turns.fast.fast_put_key.Goals as goal
+use Rattle.jiter_value.proofs.turns.scalars.fast_put_key.Goals as goal
 
 pub admits-requires : goal.admits-requires
 admits-requires g c κs =

@@ -3,7 +3,7 @@ use Rattle.jiter_steps.specs.Tree.{string}
 use Rattle.jiter_steps.proofs.Calls.Decoded.{on_tape-advances, read-whole}
 use Rattle.jiter_value.proofs.Placed.{put-at, text-read}
 use Rattle.jiter_value.proofs.Views.{view_str}
-use Rattle.jiter_value.proofs.turns.fast.put_decoded_text.Goals as goal
+use Rattle.jiter_value.proofs.turns.scalars.put_decoded_text.Goals as goal
 
 pub returns-in-Ok-keep-clause-put : goal.returns-in-Ok-keep-clause-put
 returns-in-Ok-keep-clause-put g c = λ _.

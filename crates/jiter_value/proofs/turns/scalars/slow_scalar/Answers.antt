@@ -5,7 +5,7 @@ use Rattle.jiter_value.specs.Value.{view}
 use Rattle.jiter_value.proofs.KeptKeys.{leaves-on}
 use Rattle.jiter_value.proofs.StackTurns.{value-read}
 use Rattle.jiter_value.proofs.TurnOutcomes.{leads-weaker}
-use Rattle.jiter_value.proofs.turns.general.slow_scalar.Goals as goal
+use Rattle.jiter_value.proofs.turns.scalars.slow_scalar.Goals as goal
 
 pub returns-in-Ok-put-clause-leads : goal.returns-in-Ok-put-clause-leads
 returns-in-Ok-put-clause-leads g c =
