@@ -1,7 +1,7 @@
 -- What arrays and objects have in common on the stacks: after a part, where they begin and where they end.
 use Rattle.std.proofs.Common.{◌≡◌, ◌≢◌, ℕ, ◌+◌, ◌<◌, ◌≤◌, List, [], ◌∷◌, ◌++◌, length, map, length-append, refl}
-use Rattle.std.proofs.Common.{sym, ap, ap₂, subst, ◌∙◌, arith}
-use Rattle.std.specs.Prelude.{slice_index, reverse}
+use Rattle.std.proofs.Common.{sym, ap, ap₂, subst, ◌∙◌, arith, suc, inl, inr}
+use Rattle.std.specs.Prelude.{slice_index, reverse, IfOk, OnOk}
 use Rattle.std.proofs.lemmas.List.{reverse-append, length-reverse, take_all, drop_all}
 use Rattle.smallvec.specs.SmallVec.{SmallVec}
 use Rattle.jiter_steps.specs.declared.parse.Start.TheVariants as start
@@ -17,27 +17,101 @@ use Rattle.jiter_steps.specs.declared.parse.ContainerKind.TheVariants as shape
 use Rattle.jiter_value.specs.Settings.{Keeping, forgives, rules_as}
 use Rattle.jiter_value.specs.Stacks.{from_value, Stands}
 use Rattle.jiter_value.specs.Stacks.{StandsInside, HavePartBase, frames, parts_above, frames_below, member_view}
-use Rattle.jiter_value.specs.Stacks.{slot_in, base_of, part_of}
-use Rattle.jiter_value.specs.Turns.{Reaches, outcome}
+use Rattle.jiter_value.specs.Stacks.{Member, slot_in, base_of, part_of, HasRoomIn, HoldsSame, LeavesKeys}
+use Rattle.jiter_value.specs.Size.{frames_size, held, inside_size, inside_size_in, parts_size, value_size}
+use Rattle.jiter_value.specs.Turns.{IsReady, Proceeds, Reaches, left, outcome}
 use Rattle.jiter_value.specs.Value.{view}
 use Rattle.jiter_value.specs.declared.settings.Settings.{Settings}
 use Rattle.jiter_value.specs.declared.stacks.Open.{Open}
 use Rattle.jiter_value.specs.declared.stacks.Slot.{Slot}
 use Rattle.jiter_value.specs.declared.stacks.Slot.TheVariants as slot
 use Rattle.jiter_value.specs.declared.stacks.Stacks.{Stacks}
+use Rattle.jiter_steps.specs.ReadError.{WhereRefused}
+use Rattle.jiter_value.specs.declared.stacks.State.{State}
+use Rattle.jiter_value.specs.declared.stacks.State.TheVariants as state
+use Rattle.jiter_value.proofs.KeptKeys.{kept-on}
+use Rattle.jiter_value.proofs.Sizes.{item-size}
+use Rattle.jiter_value.proofs.TurnOutcomes.{refused-any}
 use Rattle.jiter_value.proofs.StackTurns.{begins, next-part, part_in, container_of, key-base, limit-reached}
 
--- A part begins; an object's key may stand one deeper than an array's item.
-pub reaches-part : (made : Keeping) (p : Settings) (t : List ℕ) (s : Stacks) (h : ContainerKind) (j : ℕ) (x : Reading Tree)
-    → x ≡ part_in made p t h (reverse s.nest.items) s.items.items s.members.items j → StandsInside h s
-    → (h ≡ shape.Array → length s.nest.items ≤ 200) → length s.nest.items ≤ 201 → j < length t
-    → Reaches made p t s j (outcome s (part_of h)) x
-reaches-part made p t s shape.Array j x is b few low lt = (is, (b, few refl, lt))
-reaches-part made p t s shape.Object j x is b few low lt = (is, (b, low, lt))
+pub holds-same : (s : Stacks) → HoldsSame s s
+holds-same s = record { items = refl; members = refl; nest = refl; root = refl }
 
 pub inside-stands : (s : Stacks) (h : ContainerKind) → Stands s (slot_in h) → StandsInside h s
 inside-stands s shape.Array b = b
 inside-stands s shape.Object b = key-base (reverse s.nest.items) (length s.items.items) (length s.members.items) b
+
+-- A part is awaited, and its stack has room; an object's key may stand one deeper than an array's item.
+module _ (h : ContainerKind) (old new : Stacks) (same : HoldsSame old new) where
+  same-part : (made : Keeping) (p : Settings) (t : List ℕ) (j : ℕ) (x : Reading Tree)
+      → x ≡ part_in made p t h (reverse old.nest.items) old.items.items old.members.items j
+      → x ≡ part_in made p t h (reverse new.nest.items) new.items.items new.members.items j
+  same-part made p t j x is = rw (same.nest, same.items, same.members) is
+
+  same-stands : StandsInside h old → StandsInside h new
+  same-stands stands = rw (same.nest, same.items, same.members) stands
+
+  same-size : inside_size h new ≡ inside_size h old
+  same-size = rw (same.nest, same.items, same.members) refl
+
+part-reaches : (made : Keeping) (p : Settings) (t : List ℕ) (s : Stacks) (h : ContainerKind) (j : ℕ)
+    (x : Reading Tree)
+    → x ≡ part_in made p t h (reverse s.nest.items) s.items.items s.members.items j → StandsInside h s
+    → (h ≡ shape.Array → length s.nest.items ≤ 200) → length s.nest.items ≤ 201 → j < length t → HasRoomIn h s
+    → Reaches made p t s j (outcome s (part_of h)) x
+part-reaches made p t s shape.Array j x is b few low lt room = (is, (b, few refl, lt, λ _. room))
+part-reaches made p t s shape.Object j x is b few low lt room = (is, (b, low, lt, room))
+
+part-held : (s : Stacks) (h : ContainerKind) (n : ℕ) → StandsInside h s → inside_size h s ≤ n
+    → IfOk (outcome s (part_of h)) (λ a. held s a ≤ n)
+part-held s shape.Array n b few =
+    let same = item-size (reverse s.nest.items) s.items.items s.members.items b in omega (arith, few, same)
+part-held s shape.Object n b few = few
+
+-- A turn that goes to it proceeds,
+pub ready-proceeds : (made : Keeping) (p : Settings) (t : List ℕ) (i l n : ℕ) (x : Reading Tree) (h : ContainerKind)
+    (old new : Stacks) (j : ℕ) (r : ℕ × State) → IsReady h old new j r
+    → x ≡ part_in made p t h (reverse old.nest.items) old.items.items old.members.items j → StandsInside h old
+    → (h ≡ shape.Array → length old.nest.items ≤ 200) → length old.nest.items ≤ 201 → i ≤ j → j < length t
+    → left t old j < l → inside_size h old ≤ n → Proceeds made p t i l n x new r
+ready-proceeds made p t i l n x h old new j r (inl ok) is b few low forward lt less room =
+    let same = ok.2 in
+    let deep = ap (λ m. length m.items) same.nest in
+    let size = same-size h old new same in
+    rw ok.0
+    (record {
+      within = (omega (arith, forward), omega (arith, lt));
+      reaches = part-reaches made p t new h j x (same-part h old new same made p t j x is)
+          (same-stands h old new same b)
+          (λ array. let deep_few = few array in omega (arith, deep_few, deep)) (omega (arith, low, deep)) lt ok.1;
+      left = kept-on new (part_of h) (omega (arith, less, deep));
+      held = part-held new h n (same-stands h old new same b) (omega (arith, size, room));
+    })
+ready-proceeds made p t i l n x h old new j r (inr bad) is b few low forward lt less room =
+    rw bad.0
+    (record {
+      within = (omega (arith, forward), omega (arith, lt));
+      reaches = rw bad.2 tt;
+      left = tt;
+      held = tt;
+    })
+
+-- keeps the keys,
+pub ready-keys : (h : ContainerKind) (old new : Stacks) (j : ℕ) (r : ℕ × State) (ms : List Member)
+    → IsReady h old new j r → LeavesKeys ms old.members.items → OnOk (outcome new r.1) (LeavesKeys ms new.members.items)
+ready-keys h old new j r ms (inl ok) keys =
+    rw ok.0 (kept-on new (part_of h) (subst (LeavesKeys ms) (sym ok.2.members) keys))
+ready-keys h old new j r ms (inr bad) keys = rw bad.0 tt
+
+-- and may have asked for memory.
+part-asks : (s : Stacks) (h : ContainerKind) (P : Type 0) → WhereRefused (outcome s (part_of h)) P
+part-asks s shape.Array P = tt
+part-asks s shape.Object P = tt
+
+pub ready-memory : (h : ContainerKind) (old new : Stacks) (j : ℕ) (r : ℕ × State) (P : Type 0)
+    → IsReady h old new j r → P → WhereRefused (outcome new r.1) P
+ready-memory h old new j r P (inl ok) may = rw ok.0 (part-asks new h P)
+ready-memory h old new j r P (inr bad) may = rw bad.0 (refused-any State new.error P may)
 
 -- the stacks with other open containers
 abbrev pub with_nest : Stacks → SmallVec Open → Stacks
@@ -67,6 +141,17 @@ turned : (s : Stacks) (a : Slot) (h : ContainerKind) (n : SmallVec Open) → n.i
     → reverse n.items ≡ opened s a h ∷ reverse s.nest.items
 turned s a h n pushed = ap reverse pushed ∙ reverse-append s.nest.items (opened s a h ∷ [])
 
+none-size : (h : ContainerKind) (n : ℕ) → suc (parts_size h []) + n ≡ n + 1
+none-size shape.Array n = omega arith
+none-size shape.Object n = omega arith
+
+opened-size : (s : Stacks) (a : Slot) (h : ContainerKind) (n : SmallVec Open)
+    → n.items ≡ s.nest.items ++ opened s a h ∷ [] → inside_size h (with_nest s n) ≡ value_size s a + 1
+opened-size s a h n pushed =
+    ap (λ os. inside_size_in h os s.items.items s.members.items) (turned s a h n pushed)
+    ∙ ap₂ (λ xs fs. suc (parts_size h xs) + frames_size fs) (no-parts s h) (same-below s a h)
+    ∙ none-size h (value_size s a)
+
 module _ (made : Keeping) (p : Settings) (t : List ℕ) (s : Stacks) (a : Slot) (b : Stands s a)
     (few : length s.nest.items ≤ 200)
     (i : ℕ) where
@@ -85,18 +170,22 @@ module _ (made : Keeping) (p : Settings) (t : List ℕ) (s : Stacks) (a : Slot) 
 
   -- and stands open
   pub shape-opens : (h : ContainerKind) (j : ℕ) (n : SmallVec Open) → n.items ≡ s.nest.items ++ opened s a h ∷ []
-      → j < length t → start_of (slice_index t i) ≡ opening h
+      → i < j → j < length t → start_of (slice_index t i) ≡ opening h
       → step t (container_first h) (i + 1) ≡ more j → (h ≡ shape.Array → length s.nest.items ≢ 200)
-      → Reaches made p t (with_nest s n) j (outcome (with_nest s n) (part_of h)) (from_value made p t s a i)
-  shape-opens h j n pushed lt starts is some =
+      → (new : Stacks) (r : ℕ × State) → IsReady h (with_nest s n) new j r
+      → Proceeds made p t i (left t s i) (value_size s a + 1) (from_value made p t s a i) new r
+  shape-opens h j n pushed ahead lt starts is some new r ready =
       let es = s.items.items in
       let ms = s.members.items in
       let nest = turned s a h n pushed in
       let longer = ap length pushed ∙ length-append s.nest.items (opened s a h ∷ []) in
-      reaches-part made p t (with_nest s n) h j _
+      let counts = opened-size s a h n pushed in
+      ready-proceeds made p t i (left t s i) (value_size s a + 1) (from_value made p t s a i) h (with_nest s n) new j r
+      ready
       (opens h j lt starts is ∙ ap (λ qs. part_in made p t h qs es ms j) (sym nest))
       (subst (λ qs. HavePartBase h qs (length es) (length ms)) (sym nest) (base-above s a h b))
-      (λ array. let full = some array in omega (arith, few, full, longer)) (omega (arith, few, longer)) lt
+      (λ array. let full = some array in omega (arith, few, full, longer)) (omega (arith, few, longer))
+      (omega (arith, ahead)) lt (omega (arith, ahead, lt, longer)) (omega (arith, counts))
 
   -- an array stands too deep
   pub array-too-deep : (j : ℕ) → length s.nest.items ≡ 200 → j < length t

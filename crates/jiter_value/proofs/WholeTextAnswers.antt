@@ -144,7 +144,7 @@ begins-at-value made W p t s i b lt =
       reaches = (
         root-from made p t os s.items.items s.members.items (length s.items.items)
             (length s.members.items) i b,
-        (b, omega (arith, none), lt),
+        (b, omega (arith, none), lt, λ item. absurd (cc)),
       );
       begins = lt;
       within = (omega arith, omega (arith, lt));

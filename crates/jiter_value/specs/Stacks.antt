@@ -213,13 +213,18 @@ abbrev pub empty_tree : ContainerKind → Tree
 empty_tree shape.Array = array (items_of [])
 empty_tree shape.Object = object (members_of [])
 
--- the same parts, open containers and value, perhaps with more capacity for items
+-- the same parts, open containers and value, perhaps with more capacity
 pub record HoldsSame (old new : Stacks) : Type 0 where
   pub items : new.items.items ≡ old.items.items
-  pub members : new.members ≡ old.members
+  pub members : new.members.items ≡ old.members.items
   pub nest : new.nest ≡ old.nest
   pub root : new.root ≡ old.root
 
--- a value that is awaited can go where it belongs without a request for memory
+-- one more part of such a container can be pushed without a request for memory
+abbrev pub HasRoomIn : ContainerKind → Stacks → Type 0
+HasRoomIn shape.Array s = vec_len s.items < vec_capacity s.items
+HasRoomIn shape.Object s = vec_len s.members < vec_capacity s.members
+
+-- and so can a value that is awaited go where it belongs
 abbrev pub HasRoom : Stacks → Slot → Type 0
-HasRoom s a = a ≡ slot.Item → vec_len s.items < vec_capacity s.items
+HasRoom s a = a ≡ slot.Item → HasRoomIn shape.Array s

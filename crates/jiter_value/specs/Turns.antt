@@ -12,10 +12,12 @@ use Rattle.jiter_steps.specs.Step.{Step, closed, stuck, step, colon}
 use Rattle.jiter_steps.specs.StringReading.{string_at, whole}
 use Rattle.jiter_steps.specs.Tree.{Text, Tree}
 use Rattle.jiter_value.specs.Settings.{Keeping, forgives, rules_as}
+use Rattle.jiter_steps.specs.declared.parse.ContainerKind.{ContainerKind}
+use Rattle.jiter_steps.specs.declared.parse.ContainerKind.TheVariants as shape
 use Rattle.jiter_steps.specs.declared.read_error.ReadError.{ReadError}
 use Rattle.jiter_steps.specs.declared.read_error.ReadError.TheVariants as error
 use Rattle.jiter_value.specs.Size.{value_size, key_size, after_size, held, left_at}
-use Rattle.jiter_value.specs.Stacks.{from_value, from_key, after, meaning, HaveKeys, Stands, StandsAtKey}
+use Rattle.jiter_value.specs.Stacks.{from_value, from_key, after, meaning, part_of, HasRoom, HasRoomIn, HaveKeys, HoldsSame, Stands, StandsAtKey}
 use Rattle.jiter_value.specs.declared.settings.Settings.{Settings}
 use Rattle.jiter_value.specs.declared.stacks.Slot.{Slot}
 use Rattle.jiter_value.specs.declared.stacks.Slot.TheVariants as slot
@@ -25,16 +27,21 @@ use Rattle.jiter_value.specs.declared.stacks.State.TheVariants as state
 use Rattle.jiter_value.specs.Value.{MayGrowBy}
 use Rattle.jiter_value.specs.declared.turns.Reading.{Reading}
 
--- a value is awaited at j, within the limit
+-- a value is awaited at j, within the limit, and can go where it belongs without a request for memory
 abbrev pub IsAtValue : List ℕ → Stacks → Slot → ℕ → Type 0
-IsAtValue t s a j = Stands s a × (length s.nest.items ≤ nesting_limit) × (j < length t)
+IsAtValue t s a j = Stands s a × (length s.nest.items ≤ nesting_limit) × (j < length t) × HasRoom s a
+
+-- the same of a key, one deeper
+abbrev pub IsAtKey : List ℕ → Stacks → ℕ → Type 0
+IsAtKey t s j =
+    StandsAtKey s × (length s.nest.items ≤ nesting_limit + 1) × (j < length t) × HasRoomIn shape.Object s
 
 -- the stacks stand as the state at j asks
 abbrev pub IsWithin : List ℕ → Stacks → State → ℕ → Type 0
 IsWithin t s state.Root j = IsAtValue t s slot.Root j
 IsWithin t s state.Item j = IsAtValue t s slot.Item j
 IsWithin t s state.Member j = IsAtValue t s slot.Member j
-IsWithin t s state.Key j = StandsAtKey s × (length s.nest.items ≤ nesting_limit + 1) × (j < length t)
+IsWithin t s state.Key j = IsAtKey t s j
 IsWithin t s state.Done j = Stands s slot.Root × (j ≤ length t)
 IsWithin t s state.GivenUp j = ⊥
 
@@ -145,6 +152,13 @@ pub record HasTakenKey (made : Keeping) (p : Settings) (t : List ℕ) (i : ℕ) 
 pub record IsRefusedAt (t : List ℕ) (i : ℕ) (s : Stacks) (e : ℕ) : Type 0 where
   pub error : (m : AllocFailed) × (s.error ≡ error.Memory m)
   pub within : (i ≤ e) × (e ≤ length t)
+
+-- A part of such a container is awaited at j, and its stack has room; or the reading was given up, since memory was
+-- refused.
+abbrev pub IsReady : ContainerKind → Stacks → Stacks → ℕ → ℕ × State → Type 0
+IsReady h old new j r =
+    ((r ≡ (j, part_of h)) × HasRoomIn h new × HoldsSame old new) ⊎
+    ((r ≡ (j, state.GivenUp)) × (m : AllocFailed) × (new.error ≡ error.Memory m))
 
 -- A container's fault at j is forgiven and ends it, or is why the reading was given up.
 abbrev pub IsResolved : Settings → Bool → ReadError → ℕ → Step → Type 0

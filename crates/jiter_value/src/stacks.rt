@@ -1,6 +1,6 @@
 //! The stacks of items and of members that all open containers share.
 ghost use Rattle.std.specs.Prelude.{◌≡◌, ◌≢◌, ℕ, ℤ, List, ◌+◌, ◌≤◌, ◌<◌, ◌∷◌, ◌++◌, [], IfOk, IsTrue, OnOk, OnErr, length};
-ghost use Rattle.std.specs.Prelude.{take, drop, false, map, vec_len};
+ghost use Rattle.std.specs.Prelude.{take, drop, false, map, true, vec_len};
 ghost use Rattle.std.specs.declared.alloc.Global.{Global};
 ghost use Rattle.std.specs.declared.borrow.CowStr.{CowStr as CowStrView};
 ghost use Rattle.jiter_steps.specs.Read.{done};
@@ -11,7 +11,7 @@ ghost use Rattle.jiter_value.specs.Size.{size, value_size, inside_size, after_si
 ghost use Rattle.jiter_value.specs.Settings.{Keeping};
 ghost use Rattle.jiter_value.specs.Scratch.{HoldsNothing, IsCleared};
 ghost use Rattle.jiter_value.specs.Stacks.{Member, member_view, resume_with, after, container_ends, Stands};
-ghost use Rattle.jiter_value.specs.Stacks.{StandsInside, HasRoom, HoldsSame, LeavesKeys, without_root};
+ghost use Rattle.jiter_value.specs.Stacks.{StandsInside, HasRoom, HasRoomIn, HoldsSame, LeavesKeys, without_root};
 ghost use Rattle.jiter_value.specs.declared.settings.Settings.{Settings as SettingsView};
 ghost use Rattle.jiter_value.specs.declared.value.JsonValue.{JsonValue as JsonValueView};
 ghost use Rattle.jiter_value.specs.declared.value.JsonValue.TheVariants.{Int};
@@ -134,6 +134,28 @@ fn take_parts<T: Drop>(
         return Ok(mem::replace(parts, empty));
     }
     split_off(parts, container.base)
+}
+
+/// Returns whether the stack of this kind has the capacity for one more part.
+#[inline(always)]
+pub fn has_room(stacks: &Stacks<'_>, shape: ContainerKind) -> bool
+    ensures { result ≡ true → HasRoomIn shape stacks.now }
+{
+    match shape {
+        ContainerKind::Array => stacks.items.len() < stacks.items.capacity(),
+        ContainerKind::Object => stacks.members.len() < stacks.members.capacity(),
+    }
+}
+
+/// Reserves capacity for one more part in the stack of this kind.
+pub fn reserve_part(stacks: &mut Stacks<'_>, shape: ContainerKind) -> Result<(), AllocFailed>
+    ensures same { HoldsSame stacks.old stacks.new }
+    ensures room { OnOk result (HasRoomIn shape stacks.new) }
+{
+    match shape {
+        ContainerKind::Array => make_room(&mut stacks.items),
+        ContainerKind::Object => make_room(&mut stacks.members),
+    }
 }
 
 /// Reserves capacity for the expected value in its slot. Only an item may need an allocation.

@@ -10,9 +10,9 @@ ghost use Rattle.jiter_steps.specs.StringDecoder.{text_view};
 ghost use Rattle.jiter_value.specs.Scratch.{HoldsNothing, IsCleared};
 ghost use Rattle.jiter_value.specs.Settings.{Keeping, rules_as};
 ghost use Rattle.jiter_value.specs.Size.{value_size};
-ghost use Rattle.jiter_value.specs.Stacks.{slot_of, from_value, HasRoom, StandsAtKey, IsFree};
+ghost use Rattle.jiter_value.specs.Stacks.{slot_of, from_value, StandsAtKey, IsFree};
 ghost use Rattle.jiter_value.specs.Stacks.{HaveKeys, LeavesKeys, keys_of};
-ghost use Rattle.jiter_value.specs.Turns.{GoesOn, HasGone, HasTakenKey, HasTurned, IsAtValue, IsKeyRead, Proceeds};
+ghost use Rattle.jiter_value.specs.Turns.{GoesOn, HasGone, HasTakenKey, HasTurned, IsAtKey, IsAtValue, IsKeyRead, Proceeds};
 ghost use Rattle.jiter_value.specs.Turns.{MayGrowFor, left, outcome};
 ghost use Rattle.jiter_value.specs.Value.{view, MayGrowBy};
 ghost use Rattle.jiter_value.specs.declared.stacks.Stacks.{Stacks as StacksView};
@@ -34,19 +34,8 @@ pub(crate) mod duplicate_keys;
 pub(crate) mod scalars;
 pub(crate) mod unique;
 
-// Whether the expected value fits into its slot without an allocation. Only an item may need one.
-#[inline(always)]
-fn has_room(stacks: &Stacks<'_>, slot: Slot) -> bool
-    ensures { result ≡ true → HasRoom stacks.now slot }
-{
-    match slot {
-        Slot::Item => stacks.items.len() < stacks.items.capacity(),
-        _ => true,
-    }
-}
-
-// One turn at a value for this slot. A scalar takes the fast path if that applies and its stack has room, and otherwise
-// the slow path. `SLOT` is another number for each slot, so that each has its own copy of this code.
+// One turn at a value for this slot. A scalar takes the fast path if that applies, and otherwise the slow path.
+// `SLOT` is another number for each slot, so that each has its own copy of this code.
 #[inline(always)]
 fn turn_into<'s, T: StringStorage<'s>, const ONCE: bool, const SLOT: u8>(
     reading: &mut Reading<'s>,
@@ -70,10 +59,6 @@ fn turn_into<'s, T: StringStorage<'s>, const ONCE: bool, const SLOT: u8>(
         b'[' => return begin::<T>(reading, bytes, at, slot, ContainerKind::Array),
         b'{' => return begin::<T>(reading, bytes, at, slot, ContainerKind::Object),
         _ => {}
-    }
-    // The slow path makes room. A call here that returned into this turn would cost each scalar.
-    if !has_room(&reading.stacks, slot) {
-        return slow_scalar(reading, texts, bytes, at, slot);
     }
     match fast_put_scalar::<T, ONCE, SLOT>(reading, texts, bytes, at, slot) {
         (end, Plain::Put) => after_value::<T>(reading, bytes, end, slot),
@@ -145,9 +130,7 @@ fn key_turn<'s, T: StringStorage<'s>, K: Keys<'s>>(
     requires serves { K.serves keys.old T.made }
     requires going { K.stopped keys.old ≡ false }
     requires known { (ks : List (List ℕ)) × K.knows keys.old ks × HaveKeys ks reading.old.stacks.members.items }
-    requires stands { StandsAtKey reading.old.stacks }
-    requires levels { length reading.old.stacks.nest.items ≤ nesting_limit + 1 }
-    requires within { at < length bytes.now }
+    requires at_key { IsAtKey bytes.now reading.old.stacks at }
     ensures turned { HasTakenKey T.made reading.old.settings bytes.now at reading.old.stacks reading.new.stacks result
         (K.stopped keys.new) (K.knows keys.new) (K.refuses keys.new bytes.now reading.old.stacks at) }
     ensures serves { K.serves keys.new T.made }

@@ -1,5 +1,5 @@
 //! Containers on the stacks: how one begins, goes on after a part and ends, and which errors are forgiven there.
-ghost use Rattle.std.specs.Prelude.{◌≡◌, ◌≢◌, ℕ, ◌+◌, ◌≤◌, ◌<◌, List, IfOk, IfSome, None, OnOk, OnErr, length};
+ghost use Rattle.std.specs.Prelude.{◌≡◌, ◌≢◌, ℕ, ◌+◌, ◌≤◌, ◌<◌, List, IfOk, IfSome, None, OnOk, length};
 ghost use Rattle.std.specs.Prelude.{slice_index, true, false};
 ghost use Rattle.jiter_scan.specs.Kind.{fault_kind};
 ghost use Rattle.jiter_steps.specs.Literal.{start_of};
@@ -12,18 +12,21 @@ ghost use Rattle.jiter_steps.specs.declared.read_error.ReadError.TheVariants as 
 ghost use Rattle.jiter_value.specs.Settings.{Keeping, forgives};
 ghost use Rattle.jiter_value.specs.Size.{value_size, inside_size, after_size};
 ghost use Rattle.jiter_value.specs.Stacks.{resume_with, from_value, after, container_ends, container_fault, Stands};
-ghost use Rattle.jiter_value.specs.Stacks.{StandsInside, slot_in, base_of, part_of, empty_tree, LeavesKeys};
-ghost use Rattle.jiter_value.specs.Turns.{IsAtValue, Proceeds, IsResolved, MayGrowFor, left, outcome};
+ghost use Rattle.jiter_value.specs.Stacks.{StandsInside, slot_in, base_of, part_of, empty_tree, HasRoom, LeavesKeys};
+ghost use Rattle.jiter_value.specs.Turns.{IsAtValue, IsReady, Proceeds, IsResolved, MayGrowFor, left, outcome};
 ghost use Rattle.jiter_value.specs.Value.{MayGrowAt};
 ghost use Rattle.jiter_value.specs.declared.settings.Settings.{Settings as SettingsView};
 
 use crate::settings::{Settings, forgives};
-use crate::stacks::{Open, Slot, Stacks, State, close, no_memory, object_of, put, too_deep};
+use crate::stacks::{
+    Open, Slot, Stacks, State, close, has_room, no_memory, object_of, put_reserved, reserve_part,
+    too_deep,
+};
 use crate::texts::StringStorage;
 use crate::turns::Reading;
 use crate::value::JsonValue;
 use jiter_scan::errors::{FaultKind, fault_at};
-use jiter_scan::memory::{AllocFailed, push_small};
+use jiter_scan::memory::push_small;
 use jiter_steps::parse::{ContainerKind, NESTING_LIMIT};
 use jiter_steps::read_error::ReadError;
 use jiter_steps::step::{Step, first, next};
@@ -49,6 +52,29 @@ fn kind_of_container(slot: Slot) -> Option<ContainerKind>
         Slot::Item => Some(ContainerKind::Array),
         Slot::Member => Some(ContainerKind::Object),
     }
+}
+
+// Makes room for the part at `at`, whose stack is full, and goes to it.
+#[cold]
+#[inline(never)]
+fn to_crowded_part(stacks: &mut Stacks<'_>, at: usize, shape: ContainerKind) -> (usize, State)
+    ensures { IsReady shape stacks.old stacks.new at result }
+{
+    match reserve_part(stacks, shape) {
+        Ok(()) => (at, part_of(shape)),
+        Err(refused) => no_memory(stacks, refused, at),
+    }
+}
+
+// Goes to the part at `at`, so that its stack has room there.
+#[inline(always)]
+fn to_part(stacks: &mut Stacks<'_>, at: usize, shape: ContainerKind) -> (usize, State)
+    ensures { IsReady shape stacks.old stacks.new at result }
+{
+    if has_room(stacks, shape) {
+        return (at, part_of(shape));
+    }
+    to_crowded_part(stacks, at, shape)
 }
 
 // Whether the error at `at` is forgiven. If not, stores it as the reading's.
@@ -109,7 +135,7 @@ fn after_last<'s, T: StringStorage<'s>>(
             Some(shape) => {
                 let (end, step) = next(bytes, at, shape);
                 match step {
-                    Step::Part => return (end, part_of(shape)),
+                    Step::Part => return to_part(&mut reading.stacks, end, shape),
                     _ => {}
                 }
                 if !ends(&mut reading.stacks, reading.settings, end, step) {
@@ -152,7 +178,7 @@ pub fn after_value<'s, T: StringStorage<'s>>(
         Some(shape) => {
             let (end, step) = next(bytes, from, shape);
             match step {
-                Step::Part => (end, part_of(shape)),
+                Step::Part => to_part(&mut reading.stacks, end, shape),
                 Step::End => close_and_go_on::<T>(reading, bytes, end, shape),
                 Step::Fault(kind) => fault_inside::<T>(reading, bytes, end, end, kind, shape),
             }
@@ -214,24 +240,19 @@ pub fn fault_inside<'s, T: StringStorage<'s>>(
 }
 
 #[inline(always)]
-fn put_empty(
-    alloc: Global,
-    stacks: &mut Stacks<'_>,
-    slot: Slot,
-    shape: ContainerKind,
-) -> Result<(), AllocFailed>
-    requires { Stands stacks.old slot }
-    ensures value { OnOk result ((made : Keeping) → (p : SettingsView) → (t : List ℕ) → (e : ℕ)
-        → resume_with made p t stacks.old slot (done (empty_tree shape) e) ≡ after made p t stacks.new slot e) }
-    ensures stands { OnOk result (Stands stacks.new slot) }
+fn put_empty(alloc: Global, stacks: &mut Stacks<'_>, slot: Slot, shape: ContainerKind)
+    requires stands { Stands stacks.old slot }
+    requires room { HasRoom stacks.old slot }
+    ensures value { (made : Keeping) → (p : SettingsView) → (t : List ℕ) → (e : ℕ)
+        → resume_with made p t stacks.old slot (done (empty_tree shape) e) ≡ after made p t stacks.new slot e }
+    ensures stands { Stands stacks.new slot }
     ensures nest { stacks.new.nest ≡ stacks.old.nest }
-    ensures held { OnOk result (after_size stacks.new slot ≡ value_size stacks.old slot + 1) }
-    ensures refused { OnErr result (slot ≢ Slot.Root) }
-    ensures keys { OnOk result (LeavesKeys stacks.old.members.items stacks.new.members.items) }
+    ensures held { after_size stacks.new slot ≡ value_size stacks.old slot + 1 }
+    ensures keys { LeavesKeys stacks.old.members.items stacks.new.members.items }
 {
     match shape {
-        ContainerKind::Array => put(stacks, slot, JsonValue::Array(Vec::new(alloc))),
-        ContainerKind::Object => put(stacks, slot, object_of(Vec::new(alloc))),
+        ContainerKind::Array => put_reserved(stacks, slot, JsonValue::Array(Vec::new(alloc))),
+        ContainerKind::Object => put_reserved(stacks, slot, object_of(Vec::new(alloc))),
     }
 }
 
@@ -245,6 +266,7 @@ fn empty<'s, T: StringStorage<'s>>(
     shape: ContainerKind,
 ) -> (usize, State)
     requires stands { Stands reading.old.stacks slot }
+    requires room { HasRoom reading.old.stacks slot }
     requires levels { length reading.old.stacks.nest.items ≤ nesting_limit }
     requires within { end ≤ length bytes.now }
     ensures leads { Proceeds T.made reading.old.settings bytes.now end (left bytes.now reading.old.stacks end + 1)
@@ -258,10 +280,8 @@ fn empty<'s, T: StringStorage<'s>>(
         (LeavesKeys reading.old.stacks.members.items reading.new.stacks.members.items) }
     ensures settings { reading.new.settings ≡ reading.old.settings }
 {
-    match put_empty(reading.alloc, &mut reading.stacks, slot, shape) {
-        Ok(()) => after_value::<T>(reading, bytes, end, slot),
-        Err(refused) => no_memory(&mut reading.stacks, refused, end),
-    }
+    put_empty(reading.alloc, &mut reading.stacks, slot, shape);
+    after_value::<T>(reading, bytes, end, slot)
 }
 
 // Whether a further array would exceed the nesting limit. An object's limit is tested after its first key and colon.
@@ -316,7 +336,7 @@ fn open<'s, T: StringStorage<'s>>(
     let base = base_of(&reading.stacks, shape);
     let container = Open { outer: slot, base };
     match push_small(&mut reading.stacks.nest, container) {
-        Ok(()) => (next, part_of(shape)),
+        Ok(()) => to_part(&mut reading.stacks, next, shape),
         Err(refused) => no_memory(&mut reading.stacks, refused, next),
     }
 }

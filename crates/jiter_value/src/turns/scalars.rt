@@ -16,9 +16,9 @@ ghost use Rattle.jiter_steps.specs.declared.read_error.ReadError.TheVariants as 
 ghost use Rattle.jiter_value.specs.Owned.{tree_as};
 ghost use Rattle.jiter_value.specs.Settings.{lent, rules_as};
 ghost use Rattle.jiter_value.specs.Size.{size, value_size};
-ghost use Rattle.jiter_value.specs.Stacks.{Stands, StandsAtKey, HasRoom, HaveKeys, LeavesKeys, resume_with, from_value};
+ghost use Rattle.jiter_value.specs.Stacks.{Stands, StandsAtKey, HasRoom, HasRoomIn, HaveKeys, LeavesKeys, resume_with, from_value};
 ghost use Rattle.jiter_value.specs.StringStorage.{IsNumberAt};
-ghost use Rattle.jiter_value.specs.Turns.{IsAtValue, IsPutAt, IsKeyAt, IsRefusedAt, HasTakenKey, IsKeyRead, Proceeds};
+ghost use Rattle.jiter_value.specs.Turns.{IsAtKey, IsAtValue, IsPutAt, IsKeyAt, IsRefusedAt, HasTakenKey, IsKeyRead, Proceeds};
 ghost use Rattle.jiter_value.specs.Turns.{MayGrowFor, left, outcome};
 ghost use Rattle.jiter_value.specs.Value.{view, MayGrowBy};
 ghost use Rattle.jiter_value.specs.declared.value.JsonValue.TheVariants.{Int};
@@ -27,14 +27,14 @@ ghost use Rattle.std.specs.Prelude.{vec_len};
 ghost use Rattle.std.specs.Prelude.{◌≡◌, ◌≢◌, ◌<◌, ◌⊎◌, ℕ, IfOk, OnOk, OnErr, length, slice_index, ◌+◌, ◌^◌, ◌≤◌, List};
 
 use crate::settings::Settings;
-use crate::stacks::{Slot, Stacks, State, give_up, no_memory, put, put_reserved, too_deep};
+use crate::stacks::{Slot, Stacks, State, give_up, no_memory, put_reserved, too_deep};
 use crate::texts::{StringStorage, keep_lent};
 use crate::turns::containers::{after_value, fault_inside};
 use crate::turns::{Keys, Reading};
 use crate::value::JsonValue;
 use jiter_scan::errors::{Fault, FaultKind, fault_at};
 use jiter_scan::fast_number::{FastNumber, fast_number_at, signed};
-use jiter_scan::memory::{AllocFailed, copy_text, make_room};
+use jiter_scan::memory::{AllocFailed, copy_text};
 use jiter_scan::number_extent::minus_end;
 use jiter_scan::simd::near_stop;
 use jiter_scan::text::{ascii_text, utf8_text};
@@ -255,7 +255,6 @@ fn put_decoded_text<'s, T: StringStorage<'s>>(
 ) -> (usize, Plain)
     requires texts { T.of texts bytes.now }
     requires at_value { IsAtValue bytes.now stacks.old slot at }
-    requires room { HasRoom stacks.old slot }
     requires begins { start_of (slice_index bytes.now at) ≡ Start.String }
     requires backslash { WantsMemory bytes.now at }
     ensures put { result.1 ≡ Plain.Put → IsPutAt T.made bytes.now stacks.old at slot stacks.new result.0 }
@@ -296,7 +295,6 @@ fn fast_put_text<'s, T: StringStorage<'s>>(
 ) -> (usize, Plain)
     requires texts { T.of texts bytes.now }
     requires at_value { IsAtValue bytes.now stacks.old slot at }
-    requires room { HasRoom stacks.old slot }
     requires begins { start_of (slice_index bytes.now at) ≡ Start.String }
     ensures put { result.1 ≡ Plain.Put → IsPutAt T.made bytes.now stacks.old at slot stacks.new result.0 }
     ensures other { result.1 ≡ Plain.Other → stacks.new ≡ stacks.old }
@@ -334,7 +332,6 @@ fn fast_put_number<'s, T: StringStorage<'s>>(
 ) -> (usize, Plain)
     requires texts { T.of texts bytes.now }
     requires at_value { IsAtValue bytes.now stacks.old slot at }
-    requires room { HasRoom stacks.old slot }
     requires begins { start_of (slice_index bytes.now at) ≡ Start.Number }
     ensures put { result.1 ≡ Plain.Put → IsPutAt T.made bytes.now stacks.old at slot stacks.new result.0 }
     ensures other { result.1 ≡ Plain.Other → stacks.new ≡ stacks.old }
@@ -371,7 +368,6 @@ fn fast_put_literal<'s, T: StringStorage<'s>>(
     literal: Literal,
 ) -> (usize, Plain)
     requires at_value { IsAtValue bytes.now stacks.old slot at }
-    requires room { HasRoom stacks.old slot }
     requires begins { start_of (slice_index bytes.now at) ≡ Start.Literal literal }
     ensures put { result.1 ≡ Plain.Put → IsPutAt T.made bytes.now stacks.old at slot stacks.new result.0 }
     ensures other { result.1 ≡ Plain.Other → stacks.new ≡ stacks.old }
@@ -399,7 +395,6 @@ pub fn fast_put_scalar<'s, T: StringStorage<'s>, const ONCE: bool, const SLOT: u
 ) -> (usize, Plain)
     requires texts { T.of texts bytes.now }
     requires at_value { IsAtValue bytes.now reading.old.stacks slot at }
-    requires room { HasRoom reading.old.stacks slot }
     ensures put { result.1 ≡ Plain.Put → IsPutAt T.made bytes.now reading.old.stacks at slot reading.new.stacks result.0 }
     ensures other { result.1 ≡ Plain.Other → reading.new.stacks ≡ reading.old.stacks }
     ensures refused { result.1 ≡ Plain.AllocFailed → IsRefusedAt bytes.now at reading.new.stacks result.0 }
@@ -435,7 +430,7 @@ pub fn put_key<'s>(members: &mut Vec<(CowStr<'s>, JsonValue<'s>)>, key: CowStr<'
     members.push_reserved((key, JsonValue::Int(0)));
 }
 
-/// Pushes a plain key, if its colon and a value follow, its stack has room and `keys` allows it. Returns the index of the
+/// Pushes a plain key, if its colon and a value follow and `keys` allows it. Returns the index of the
 /// value.
 #[inline(always)]
 pub fn fast_put_key<'s, T: StringStorage<'s>, K: Keys<'s>>(
@@ -450,6 +445,7 @@ pub fn fast_put_key<'s, T: StringStorage<'s>, K: Keys<'s>>(
     requires going { K.stopped keys.old ≡ false }
     requires known { (ks : List (List ℕ)) × K.knows keys.old ks × HaveKeys ks reading.old.stacks.members.items }
     requires stands { StandsAtKey reading.old.stacks }
+    requires room { HasRoomIn ContainerKind.Object reading.old.stacks }
     requires few { length reading.old.stacks.nest.items ≤ nesting_limit }
     requires within { at < length bytes.now }
     ensures put { result.1 ≡ Plain.Put → IsKeyAt T.made bytes.now reading.old.stacks at reading.new.stacks result.0 }
@@ -464,9 +460,6 @@ pub fn fast_put_key<'s, T: StringStorage<'s>, K: Keys<'s>>(
     ensures serves { K.serves keys.new T.made }
     ensures settings { reading.new.settings ≡ reading.old.settings }
 {
-    if reading.stacks.members.len() == reading.stacks.members.capacity() {
-        return (at, Plain::Other);
-    }
     let Ok(to) = fast_string_end(bytes, at) else {
         return (at, Plain::Other);
     };
@@ -551,30 +544,15 @@ pub fn slow_scalar<'s, T: StringStorage<'s>>(
         &mut parser,
         reading.settings,
     ) {
-        Ok(value) => match put(&mut reading.stacks, slot, value) {
-            Ok(()) => after_value::<T>(reading, bytes, parser.index, slot),
-            Err(refused) => no_memory(&mut reading.stacks, refused, parser.index),
-        },
+        Ok(value) => {
+            put_reserved(&mut reading.stacks, slot, value);
+            after_value::<T>(reading, bytes, parser.index, slot)
+        }
         Err(ReadError::Fault(fault)) => {
             fault_at_value::<T>(reading, bytes, parser.index, fault.index, fault.kind, slot)
         }
         Err(ReadError::Memory(refused)) => no_memory(&mut reading.stacks, refused, parser.index),
     }
-}
-
-// Pushes a key with a placeholder for its value. Makes room if there is none.
-#[inline(always)]
-fn push_key<'s>(
-    members: &mut Vec<(CowStr<'s>, JsonValue<'s>)>,
-    key: CowStr<'s>,
-) -> Result<(), AllocFailed>
-    ensures { OnOk result (members.new.items ≡ members.old.items ++ (key.entry, Int (pos 0)) ∷ []) }
-{
-    if members.len() == members.capacity() {
-        make_room(members)?;
-    }
-    put_key(members, key);
-    Ok(())
 }
 
 // Goes on with the key at `at`, which ends before `end` and whose colon ends before `after`, if `keys` allows it.
@@ -592,6 +570,7 @@ fn kept_key<'s, T: StringStorage<'s>, K: Keys<'s>>(
     requires going { K.stopped keys.old ≡ false }
     requires known { (ks : List (List ℕ)) × K.knows keys.old ks × HaveKeys ks reading.old.stacks.members.items }
     requires stands { StandsAtKey reading.old.stacks }
+    requires room { HasRoomIn ContainerKind.Object reading.old.stacks }
     requires levels { length reading.old.stacks.nest.items ≤ nesting_limit + 1 }
     requires read { IsKeyRead T.made bytes.now at end after (text_view key) }
     requires within { (end ≤ after) × (after ≤ length bytes.now) }
@@ -610,10 +589,8 @@ fn kept_key<'s, T: StringStorage<'s>, K: Keys<'s>>(
     if reading.stacks.nest.len() > NESTING_LIMIT {
         return too_deep(&mut reading.stacks, next);
     }
-    match push_key(&mut reading.stacks.members, key) {
-        Ok(()) => (next, State::Member),
-        Err(refused) => no_memory(&mut reading.stacks, refused, next),
-    }
+    put_key(&mut reading.stacks.members, key);
+    (next, State::Member)
 }
 
 /// Reads any key at `at`, with its colon. If `keys` doesn't allow it, nothing changes.
@@ -629,9 +606,7 @@ pub fn slow_key<'s, T: StringStorage<'s>, K: Keys<'s>>(
     requires serves { K.serves keys.old T.made }
     requires going { K.stopped keys.old ≡ false }
     requires known { (ks : List (List ℕ)) × K.knows keys.old ks × HaveKeys ks reading.old.stacks.members.items }
-    requires stands { StandsAtKey reading.old.stacks }
-    requires levels { length reading.old.stacks.nest.items ≤ nesting_limit + 1 }
-    requires within { at < length bytes.now }
+    requires at_key { IsAtKey bytes.now reading.old.stacks at }
     ensures turned { HasTakenKey T.made reading.old.settings bytes.now at reading.old.stacks reading.new.stacks result
         (K.stopped keys.new) (K.knows keys.new) (K.refuses keys.new bytes.now reading.old.stacks at) }
     ensures serves { K.serves keys.new T.made }

@@ -1,15 +1,15 @@
-use Rattle.std.proofs.Common.{◌∙◌, ap, false, refl, subst, sym, arith, reverse, rules as library_rules}
+use Rattle.std.proofs.Common.{◌∙◌, ap, false, refl, subst, sym, arith, reverse}
 use Rattle.jiter_steps.specs.Frames.{resolve_step}
 use Rattle.jiter_value.specs.Settings.{forgives}
 use Rattle.jiter_value.specs.Turns.{IsResolved}
-use Rattle.jiter_value.proofs.KeptKeys.{leaves-then, kept-on}
-use Rattle.jiter_value.proofs.Shapes.{reaches-part, inside-stands, not-root}
+use Rattle.jiter_value.proofs.KeptKeys.{leaves-then}
+use Rattle.jiter_value.proofs.Shapes.{inside-stands, not-root, ready-keys, ready-memory, ready-proceeds}
 use Rattle.jiter_value.proofs.Sizes.{after-part-size}
 use Rattle.jiter_value.proofs.StackTurns.{after-more, after-closed, after-fails}
 use Rattle.jiter_value.proofs.turns.containers.after_last.Goals as goal
 
-pub returns-in-Part-clause-leads : goal.returns-in-Part-clause-leads
-returns-in-Part-clause-leads g c =
+pub returns-in-Part : goal.returns-in-Part
+returns-in-Part g c =
     let p = c.args.reading.now.settings in
     let t = c.args.bytes.now in
     let l = c.closing in
@@ -20,16 +20,20 @@ returns-in-Part-clause-leads g c =
     let found = rw c.in-Part.is at c.next-end.ensures.is in
     let lt = c.next-end.ensures.part c.in-Part.is in
     let forward = c.next-end.ensures.within.0 in
+    let size = after-part-size h (reverse s.nest.items) s.items.items s.members.items s.root so_far.3 in
+    let new = c.to_part.new.stacks in
+    let r = c.to_part.result in
     record {
-      within = (omega (arith, so_far.0, forward), omega (arith, lt));
-      reaches = rw c.part_of.ensures
-          (reaches-part g.T.StringStorage.made p t s h j _
+      leads = ready-proceeds g.T.StringStorage.made p t c.args.from _ _ _ h s new j r c.to_part.ensures
           (so_far.2
           ∙ after-more g.T.StringStorage.made p t h s.items.items s.members.items s.root l.at (reverse s.nest.items) j
           so_far.3 found lt)
-          (inside-stands s h so_far.3) (λ array. so_far.4) (omega (arith, so_far.4)) lt);
-      left = search library_rules;
-      held = search library_rules;
+          (inside-stands s h so_far.3) (λ array. so_far.4) (omega (arith, so_far.4)) (omega (arith, so_far.0, forward))
+          lt (omega (arith, so_far.5, forward)) (omega (arith, so_far.6, size));
+      memory = ready-memory h s new j r _ c.to_part.ensures (λ root. not-root h (so_far.7 root));
+      root = λ root. absurd (not-root h (so_far.7 root));
+      keys = ready-keys h s new j r c.args.reading.now.stacks.members.items c.to_part.ensures so_far.8;
+      settings = so_far.9;
     }
 
 pub returns-then-not-ends-clause-leads : goal.returns-then-not-ends-clause-leads
@@ -79,6 +83,3 @@ closing-preserved g c =
           (rw same at c.in-Ok.ensures.keys),
       so_far.9,
     )
-
-pub returns-in-Part-clause-keys : goal.returns-in-Part-clause-keys
-returns-in-Part-clause-keys g c = kept-on c.closing.reading.stacks c.part_of.result c.closing.invariant.8

@@ -1,33 +1,41 @@
-use Rattle.std.proofs.Common.{ap, arith, reverse, rules as library_rules}
+use Rattle.std.proofs.Common.{◌∙◌, ap, arith, refl, reverse, sym}
 use Rattle.jiter_scan.specs.Kind.{fault_kind}
 use Rattle.jiter_steps.specs.Frames.{resolve_step}
 use Rattle.jiter_value.specs.Settings.{forgives}
-use Rattle.jiter_value.proofs.Shapes.{reaches-part, inside-stands}
+use Rattle.jiter_value.proofs.KeptKeys.{leaves-all}
+use Rattle.jiter_value.proofs.Shapes.{inside-stands, not-root, ready-keys, ready-memory, ready-proceeds}
 use Rattle.jiter_value.proofs.Sizes.{after-part-size}
 use Rattle.jiter_value.proofs.StackTurns.{after-closed, after-more, after-stuck}
 use Rattle.jiter_value.proofs.TurnOutcomes.{leads-weaker}
 use Rattle.jiter_value.proofs.turns.containers.after_value.Goals as goal
 
-pub returns-in-Part-clause-leads : goal.returns-in-Part-clause-leads
-returns-in-Part-clause-leads g c =
+pub returns-in-Part : goal.returns-in-Part
+returns-in-Part g c =
     let a = c.args in
     let p = a.reading.now.settings in
     let t = a.bytes.now in
     let s = a.reading.now.stacks in
     let h = c.in-Some.shape in
+    let some = c.in-Some.ensures.some in
     let j = c.next-end.result.0 in
-    let stands = rw c.in-Some.ensures.some at c.requires.stands in
+    let stands = rw some at c.requires.stands in
     let found = rw c.in-Part.is at c.next-end.ensures.is in
     let lt = c.next-end.ensures.part c.in-Part.is in
+    let forward = c.next-end.ensures.within.0 in
+    let size = after-part-size h (reverse s.nest.items) s.items.items s.members.items s.root stands in
+    let new = c.to_part.new.stacks in
+    let r = c.to_part.result in
     record {
-      within = (c.next-end.ensures.within.0, omega (arith, lt));
-      reaches = rw (c.part_of.ensures, c.in-Some.ensures.some)
-          (reaches-part g.T.StringStorage.made p t s h j _
+      leads = rw some
+          (ready-proceeds g.T.StringStorage.made p t a.from _ _ _ h s new j r c.to_part.ensures
           (after-more g.T.StringStorage.made p t h s.items.items s.members.items s.root a.from (reverse s.nest.items) j
           stands found lt)
-          (inside-stands s h stands) (λ array. c.requires.levels) (omega (arith, c.requires.levels)) lt);
-      left = search library_rules;
-      held = search library_rules;
+          (inside-stands s h stands) (λ array. c.requires.levels) (omega (arith, c.requires.levels))
+          (omega (arith, forward)) lt (omega (arith, forward)) (omega (arith, size)));
+      memory = ready-memory h s new j r _ c.to_part.ensures (λ root. not-root h (sym some ∙ root));
+      root = λ root. absurd (not-root h (sym some ∙ root));
+      keys = ready-keys h s new j r s.members.items c.to_part.ensures (leaves-all s.members.items);
+      settings = refl;
     }
 
 pub returns-in-End-clause-leads : goal.returns-in-End-clause-leads

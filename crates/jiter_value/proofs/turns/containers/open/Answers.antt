@@ -1,7 +1,6 @@
 use Rattle.std.proofs.Common.{refl, arith}
-use Rattle.std.proofs.lemmas.Grind.{common_steps}
-use Rattle.jiter_value.proofs.KeptKeys.{kept-on, leaves-all}
-use Rattle.jiter_value.proofs.Shapes.{shape-opens, array-too-deep}
+use Rattle.jiter_value.proofs.KeptKeys.{leaves-all}
+use Rattle.jiter_value.proofs.Shapes.{shape-opens, array-too-deep, ready-keys, with_nest}
 use Rattle.jiter_value.proofs.turns.containers.open.Goals as goal
 
 pub returns-then-is_full : goal.returns-then-is_full
@@ -26,18 +25,15 @@ returns-then-is_full g c =
 pub returns-in-Ok : goal.returns-in-Ok
 returns-in-Ok g c =
     let a = c.args in
+    let s = a.reading.now.stacks in
+    let mid = with_nest s c.push_small.new.items in
+    let new = c.to_part.new.stacks in
+    let r = c.to_part.result in
     record {
-      leads = record {
-        within = (omega (arith, c.requires.within.0), omega (arith, c.requires.within.1));
-        reaches = rw c.part_of.ensures
-            (shape-opens g.T.StringStorage.made a.reading.now.settings a.bytes.now a.reading.now.stacks a.slot c.requires.stands c.requires.levels
-            a.at a.shape
-            a.next
-            c.push_small.new.items (rw c.base_of-base.ensures at c.in-Ok.ensures.ok) c.requires.within.1
-            c.requires.bracket c.requires.part (c.if-is_full.ensures.few refl));
-        left = grind (arith, common_steps);
-        held = grind (arith, common_steps);
-      };
-      keys = kept-on a.reading.now.stacks c.part_of.result (leaves-all a.reading.now.stacks.members.items);
+      leads = shape-opens g.T.StringStorage.made a.reading.now.settings a.bytes.now s a.slot c.requires.stands
+          c.requires.levels a.at a.shape a.next c.push_small.new.items
+          (rw c.base_of-base.ensures at c.in-Ok.ensures.ok) c.requires.within.0 c.requires.within.1
+          c.requires.bracket c.requires.part (c.if-is_full.ensures.few refl) new r c.to_part.ensures;
+      keys = ready-keys a.shape mid new a.next r s.members.items c.to_part.ensures (leaves-all s.members.items);
       settings = refl;
     }

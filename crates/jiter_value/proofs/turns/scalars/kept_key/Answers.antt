@@ -72,8 +72,8 @@ returns-then-len-gt-NESTING_LIMIT-clause-turned g c =
     })
     tt)
 
-pub returns-in-Ok-clause-turned : goal.returns-in-Ok-clause-turned
-returns-in-Ok-clause-turned g c =
+pub returns-clause-turned : goal.returns-clause-turned
+returns-clause-turned g c =
     let made = g.T.StringStorage.made in
     let a = c.args in
     let p = a.reading.now.settings in
@@ -86,18 +86,18 @@ returns-in-Ok-clause-turned g c =
     let first = c.value_first-next.ensures in
     let value = rw c.in_default.is at first.value in
     let inside = first.inside c.in_default.is in
-    let put = key-at made t s c.push_key.new.members a.at a.end m read.key a.key _ c.requires.stands
+    let put = key-at made t s c.put_key.new.members a.at a.end m read.key a.key _ c.requires.stands
     (asked.free made c.requires.serves refl) (omega (arith, read.within.0, read.within.1))
     (ap (scalar_at a.at) read.read) read.kept (after-colon t a.end a.after (taken tt m) read.colon value)
-    c.in-Ok.ensures (omega (arith, read.within.0, c.requires.within.0, first.within.0)) inside in
+    c.put_key.ensures (omega (arith, read.within.0, c.requires.within.0, first.within.0)) inside in
     taken-on made p t a.at s _ _ _ _ _ asked.stopped
     (record {
       within = (omega (arith, put.ahead), omega (arith, put.within));
       reaches = (
         put.value p,
-        (put.stands, omega (arith, c.len.ensures.value, c.if-len-gt-NESTING_LIMIT.false), put.within),
+        (put.stands, omega (arith, c.len.ensures.value, c.if-len-gt-NESTING_LIMIT.false), put.within, λ item. absurd (cc)),
       );
       left = omega (arith, put.ahead, put.within);
       held = omega (arith, put.held);
     })
-    (keys_of ms ++ (text_view a.key).bytes ∷ [], asked.known refl, pushed-keys ms _ a.key _ c.in-Ok.ensures)
+    (keys_of ms ++ (text_view a.key).bytes ∷ [], asked.known refl, pushed-keys ms _ a.key _ c.put_key.ensures)

@@ -33,9 +33,9 @@ returns-in-Some-clause-turned g c =
     let known = c.requires.known in
     taken-on made p t a.at s _ _ _ _ _ c.requires.going
     (leads-weaker e.leads (omega (arith, forward, onward)) (omega (arith, forward, onward)) (omega arith)
-    (colon-fails made p t os es ms a.at key end j j k c.requires.stands
-    (no-colon made t os (length es) ms a.at c.requires.stands key end k j read value)
-    c.requires.within c.in-Ok.ensures.value (at-colon t end j k value, refl)))
+    (colon-fails made p t os es ms a.at key end j j k c.requires.at_key.0
+    (no-colon made t os (length es) ms a.at c.requires.at_key.0 key end k j read value)
+    c.requires.at_key.2 c.in-Ok.ensures.value (at-colon t end j k value, refl)))
     (left-known known.0 ms c.fault_inside.new.reading.stacks c.fault_inside.result.1 (g.K.Keys.knows a.keys.now) known.1
     known.2 e.keys)
 
@@ -44,7 +44,7 @@ keep-requires g c κs = (
   (refl, tt),
   (
     c.requires.texts,
-    string-lent c.args.bytes.now false c.args.at (text_view c.in-Ok.key) c.string.new.self.index c.requires.within
+    string-lent c.args.bytes.now false c.args.at (text_view c.in-Ok.key) c.string.new.self.index c.requires.at_key.2
         (scalar-taken c.args.at _ (text_view c.in-Ok.key) c.string.new.self.index c.in-Ok.ensures.value),
   ),
 )
@@ -68,8 +68,8 @@ returns-in-Err-Fault-clause-turned g c =
     let known = c.requires.known in
     taken-on made p t a.at s _ _ _ _ _ c.requires.going
     (leads-weaker (rw c.in-Err-Fault.field-0-is at e.leads) (omega arith) (omega arith) (omega arith)
-    (key-fails made p t os es ms a.at k f.index stop c.requires.stands
-    (no-key made t os (length es) ms a.at c.requires.stands k f.index failed.0) c.requires.within read
+    (key-fails made p t os es ms a.at k f.index stop c.requires.at_key.0
+    (no-key made t os (length es) ms a.at c.requires.at_key.0 k f.index failed.0) c.requires.at_key.2 read
     ∙ ap (container_fault_in made p t shape.Object os es ms k f.index) failed.1))
     (left-known known.0 ms c.fault_inside-in-Err-Fault.new.reading.stacks c.fault_inside-in-Err-Fault.result.1
     (g.K.Keys.knows a.keys.now) known.1 known.2 e.keys)

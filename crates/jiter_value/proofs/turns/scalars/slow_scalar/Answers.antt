@@ -7,14 +7,14 @@ use Rattle.jiter_value.proofs.StackTurns.{value-read}
 use Rattle.jiter_value.proofs.TurnOutcomes.{leads-weaker}
 use Rattle.jiter_value.proofs.turns.scalars.slow_scalar.Goals as goal
 
-pub returns-in-Ok-put-clause-leads : goal.returns-in-Ok-put-clause-leads
-returns-in-Ok-put-clause-leads g c =
+pub returns-in-Ok-clause-leads : goal.returns-in-Ok-clause-leads
+returns-in-Ok-clause-leads g c =
     let a = c.args in
     let e = c.scalar.new.parser.index in
-    let put = c.in-Ok-put.ensures in
+    let put = c.put_reserved.ensures in
     let one = c.in-Ok.ensures.one in
     let ahead = c.in-Ok.ensures.ahead in
-    let nest = c.put.ensures.nest in
+    let nest = c.put_reserved.ensures.nest in
     leads-weaker c.after_value.ensures.leads (omega (arith, ahead)) (omega (arith, ahead, ap length (ap (λ n. n.items) nest)))
     (omega (arith, put.held, one))
     (value-read g.T.StringStorage.made a.reading.now.settings a.bytes.now a.reading.now.stacks a.slot c.requires.at_value.0 c.requires.at_value.1
@@ -33,7 +33,7 @@ returns-in-Err-Fault-clause-leads g c =
     a.at
     (fault (fault_kind f.kind) f.index c.scalar.new.parser.index) read)
 
-pub returns-in-Ok-put-clause-keys : goal.returns-in-Ok-put-clause-keys
-returns-in-Ok-put-clause-keys g c =
-    leaves-on c.after_value.new.reading.stacks c.after_value.result.1 c.args.reading.now.stacks.members.items c.put.new.stacks.members.items _
-    c.in-Ok-put.ensures.keys c.after_value.ensures.keys
+pub returns-in-Ok-clause-keys : goal.returns-in-Ok-clause-keys
+returns-in-Ok-clause-keys g c =
+    leaves-on c.after_value.new.reading.stacks c.after_value.result.1 c.args.reading.now.stacks.members.items c.put_reserved.new.stacks.members.items _
+    c.put_reserved.ensures.keys c.after_value.ensures.keys
