@@ -4,12 +4,13 @@ use Rattle.std.proofs.Common.{Vec, refl, sym, ap, ◌∙◌, arith}
 use Rattle.std.specs.Prelude.{reverse, slice_index}
 use Rattle.jiter_scan.specs.Number.{Number}
 use Rattle.jiter_scan.specs.NumberReading.{number_at}
-use Rattle.jiter_scan.specs.Scanned.{taken}
+use Rattle.jiter_scan.specs.Kind.{Kind, expected_value}
+use Rattle.jiter_scan.specs.Scanned.{failed, taken}
 use Rattle.jiter_scan.specs.PartialMode.{allows_trailing_strings}
-use Rattle.jiter_steps.specs.Answer.{seen_as}
+use Rattle.jiter_steps.specs.Answer.{seen_as, value_form}
 use Rattle.jiter_steps.specs.Literal.{start_of, literal_at, literal_tree}
 use Rattle.jiter_steps.specs.Node.{number_tree}
-use Rattle.jiter_steps.specs.Read.{done, scalar_at, value_with, inside_at, value_at}
+use Rattle.jiter_steps.specs.Read.{done, fault, scalar_at, value_with, inside_at, value_at}
 use Rattle.jiter_steps.specs.StringReading.{string_at, whole, text_form}
 use Rattle.jiter_steps.specs.Tree.{Text, Tree, string}
 use Rattle.jiter_steps.specs.declared.parse.Literal.{Literal}
@@ -38,23 +39,43 @@ module _ (made : Keeping) (p : Settings) (t : List ℕ) (i e levels : ℕ) where
       i s
   begins s h = ap (value_with (rules_as made p) (inside_at (rules_as made p) t levels) t i) h
 
+  pub text-taken : (s : Text) → start_of (slice_index t i) ≡ start.String
+      → string_at (value_form p.mode) t i ≡ taken s e
+      → value_at (rules_as made p) t levels i ≡ done (string (made.text s)) e
+  text-taken s h is =
+      begins start.String h ∙ ap (λ x. scalar_at i (seen_as (λ s e. string (made.text s)) x)) is
+
+  pub text-failed : (k : Kind) → start_of (slice_index t i) ≡ start.String
+      → string_at (value_form p.mode) t i ≡ failed k e → value_at (rules_as made p) t levels i ≡ fault k e i
+  text-failed k h is = begins start.String h ∙ ap (λ x. scalar_at i (seen_as (λ s e. string (made.text s)) x)) is
+
   pub text-read : (s : Text) → start_of (slice_index t i) ≡ start.String
-      → ((keep : Bool) → string_at (text_form keep) t i ≡ taken s e) → value_at (rules_as made p) t levels i ≡ done
-      (string (made.text s)) e
-  text-read s h is =
-      begins start.String h
-      ∙ ap (λ x. scalar_at i (seen_as (λ s e. string (made.text s)) x)) (is (allows_trailing_strings p.mode))
+      → ((keep : Bool) → string_at (text_form keep) t i ≡ taken s e)
+      → value_at (rules_as made p) t levels i ≡ done (string (made.text s)) e
+  text-read s h is = text-taken s h (is (allows_trailing_strings p.mode))
 
   pub number-read : (n : Number) → start_of (slice_index t i) ≡ start.Number
-      → number_at p.allow_inf_nan t i ≡ taken n e → value_at (rules_as made p) t levels i ≡ done
-      (tree_as made.text (number_tree n)) e
-  number-read n h is = begins start.Number h
-      ∙ ap (λ x. scalar_at i (seen_as (λ n e. tree_as made.text (number_tree n)) x))
-      is
+      → number_at p.allow_inf_nan t i ≡ taken n e
+      → value_at (rules_as made p) t levels i ≡ done (tree_as made.text (number_tree n)) e
+  number-read n h is =
+      begins start.Number h ∙ ap (λ x. scalar_at i (seen_as (λ n e. tree_as made.text (number_tree n)) x)) is
+
+  pub number-failed : (k : Kind) → start_of (slice_index t i) ≡ start.Number
+      → number_at p.allow_inf_nan t i ≡ failed k e → value_at (rules_as made p) t levels i ≡ fault k e i
+  number-failed k h is =
+      begins start.Number h ∙ ap (λ x. scalar_at i (seen_as (λ n e. tree_as made.text (number_tree n)) x)) is
 
   pub literal-read : (l : Literal) → start_of (slice_index t i) ≡ start.Literal l → literal_at t l i ≡ taken tt e
       → value_at (rules_as made p) t levels i ≡ done (literal_tree l) e
   literal-read l h is = begins (start.Literal l) h ∙ ap (λ x. scalar_at i (seen_as (λ u e. literal_tree l) x)) is
+
+  pub literal-failed : (l : Literal) (k : Kind) → start_of (slice_index t i) ≡ start.Literal l
+      → literal_at t l i ≡ failed k e → value_at (rules_as made p) t levels i ≡ fault k e i
+  literal-failed l k h is = begins (start.Literal l) h ∙ ap (λ x. scalar_at i (seen_as (λ u e. literal_tree l) x)) is
+
+  pub nothing-read : start_of (slice_index t i) ≡ start.Nothing
+      → value_at (rules_as made p) t levels i ≡ fault expected_value i i
+  nothing-read h = begins start.Nothing h
 
 -- a scalar that was read so, and put so
 module _ {made : Keeping} {t : List ℕ} {old new : Stacks} {a : Slot} {i e : ℕ} (v : JsonValue) (x : Tree) where

@@ -20,7 +20,7 @@ use Rattle.jiter_value.specs.Stacks.{StandsInside, HavePartBase, frames, parts_a
 use Rattle.jiter_value.specs.Stacks.{Member, slot_in, base_of, part_of, HasRoomIn, HoldsSame, LeavesKeys}
 use Rattle.jiter_value.specs.Size.{frames_size, held, inside_size, inside_size_in, parts_size, value_size}
 use Rattle.jiter_value.specs.Turns.{IsReady, Proceeds, Reaches, left, outcome}
-use Rattle.jiter_value.specs.Value.{view}
+use Rattle.jiter_value.specs.Value.{LeadsOn, MayGrowAs, MayGrowAt, view}
 use Rattle.jiter_value.specs.declared.settings.Settings.{Settings}
 use Rattle.jiter_value.specs.declared.stacks.Open.{Open}
 use Rattle.jiter_value.specs.declared.stacks.Slot.{Slot}
@@ -199,3 +199,9 @@ module _ (made : Keeping) (p : Settings) (t : List ℕ) (s : Stacks) (a : Slot) 
 pub not-root : (h : ContainerKind) → slot_in h ≡ slot.Root → ⊥
 not-root shape.Array h = cc
 not-root shape.Object h = cc
+
+-- A container with a part may want memory.
+pub begins-grows : (t : List ℕ) (i : ℕ) (h : ContainerKind) (j : ℕ) → start_of (slice_index t i) ≡ opening h
+    → step t (container_first h) (i + 1) ≡ more j → MayGrowAt t i
+begins-grows t i shape.Array j starts is = subst (MayGrowAs t i) (sym starts) (subst LeadsOn (sym is) tt)
+begins-grows t i shape.Object j starts is = subst (MayGrowAs t i) (sym starts) (subst LeadsOn (sym is) tt)

@@ -277,6 +277,12 @@ module _ (made : Keeping) (p : Settings) (t : List ℕ) where
   fault-value [] es before m k x stop b = absurd b
   fault-value (o ∷ os) es before m k x stop b = rw (value-frames o os es before m b.0) refl
 
+  pub fault-root : (os : List Open) (es : List JsonValue) (ms : List Member) (n m : ℕ) (k : Kind) (x stop : ℕ)
+      → HaveBases slot.Root os n m
+      → resume (rules_as made p) t (frames slot.Root os es ms) (fault k x stop) ≡ fault k x stop
+  fault-root [] es ms n m k x stop b = refl
+  fault-root (o ∷ os) es ms n m k x stop b = absurd b
+
   -- A value begins.
   module _ (s : Stacks) (a : Slot) (bases : Stands s a) (few : length s.nest.items ≤ 200) (i : ℕ) where
     abbrev fs : List (Frame Text Tree)

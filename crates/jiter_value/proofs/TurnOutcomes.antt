@@ -1,16 +1,27 @@
 -- What a turn leads on to, and where it may want memory.
-use Rattle.std.proofs.Common.{◌≡◌, inl, inr, ℕ, ◌≤◌, List, arith}
+use Rattle.std.proofs.Common.{◌≡◌, ◌≢◌, ◌∙◌, ◌+◌, ◌<◌, inl, inr, ℕ, ◌≤◌, List, ap, arith, length, subst, sym}
 use Rattle.std.proofs.lemmas.Result.{IfOk-weaker, on_ok_weaker}
-use Rattle.std.specs.Prelude.{Result, Ok, Err, IfOk}
+use Rattle.std.specs.Prelude.{Result, Ok, Err, IfOk, OnOk, slice_index}
 use Rattle.jiter_scan.specs.declared.errors.Fault.{Fault}
 use Rattle.jiter_steps.specs.declared.read_error.ReadError.{ReadError}
 use Rattle.jiter_steps.specs.declared.read_error.ReadError.TheVariants as error
 use Rattle.jiter_steps.specs.ReadError.{WhereRefused}
 use Rattle.jiter_steps.specs.Read.{Reading}
 use Rattle.jiter_steps.specs.Tree.{Tree}
+use Rattle.jiter_scan.specs.declared.memory.AllocFailed.{AllocFailed}
+use Rattle.jiter_steps.specs.Literal.{start_of}
+use Rattle.jiter_steps.specs.StringDecoder.{WantsMemory}
+use Rattle.jiter_steps.specs.declared.parse.Start.{Start}
+use Rattle.jiter_steps.specs.declared.parse.Start.TheVariants as start
 use Rattle.jiter_value.specs.Settings.{Keeping}
-use Rattle.jiter_value.specs.Turns.{Proceeds, MayGrowFor, outcome}
-use Rattle.jiter_value.specs.Value.{BeginsContainer, MayGrowAt, MayGrowBy}
+use Rattle.jiter_value.specs.Size.{after_size, value_size}
+use Rattle.jiter_value.specs.Stacks.{after, from_value, LeavesKeys}
+use Rattle.jiter_value.specs.Turns.{Proceeds, MayGrowFor, Turned, left, outcome}
+use Rattle.jiter_value.specs.Value.{BeginsContainer, MayGrowAs, MayGrowAt, MayGrowBy}
+use Rattle.jiter_value.specs.declared.stacks.Slot.{Slot}
+use Rattle.jiter_value.specs.declared.stacks.Slot.TheVariants as slot
+use Rattle.jiter_value.specs.declared.turns.Reading.{Reading as Turning}
+use Rattle.jiter_value.proofs.KeptKeys.{leaves-on}
 use Rattle.jiter_value.specs.declared.settings.Settings.{Settings}
 use Rattle.jiter_value.specs.declared.stacks.Stacks.{Stacks}
 use Rattle.jiter_value.specs.declared.stacks.State.{State}
@@ -60,3 +71,53 @@ pub grows-container : (t : List ℕ) (i : ℕ) (W : Type 0)
 grows-container t i W is (inl h) = h
 grows-container t i W (inl a) (inr h) = absurd (h.1 a)
 grows-container t i W (inr o) (inr h) = absurd (h.2 o)
+
+-- A text that is kept may want memory, and one with a backslash does.
+pub grows-kept : (t : List ℕ) (i : ℕ) (W : Type 0) (s : Start) → start_of (slice_index t i) ≡ s → s ≢ start.Array
+    → s ≢ start.Object → W → MayGrowBy W t i
+grows-kept t i W s is no_array no_object wants =
+    inr (wants, λ array. no_array (sym is ∙ array), λ object. no_object (sym is ∙ object))
+
+pub grows-decoded : (t : List ℕ) (i : ℕ) (W : Type 0) → start_of (slice_index t i) ≡ start.String → WantsMemory t i
+    → MayGrowBy W t i
+grows-decoded t i W is backslash = inl (subst (MayGrowAs t i) (sym is) backslash)
+
+-- A turn whose request for memory was refused.
+pub refused-turned : (made : Keeping) (W : Type 0) (t : List ℕ) (i : ℕ) (a : Slot) (old new : Turning) (e : ℕ)
+    (r : ℕ × State) (m : AllocFailed)
+    → r ≡ (e, state.GivenUp) → new.stacks.error ≡ error.Memory m → i ≤ e → e ≤ length t
+    → MayGrowBy W t i → new.settings ≡ old.settings → Turned made W t i a old new r
+refused-turned made W t i a old new e r m given refused forward within grows same =
+    rw given
+    (record {
+      leads = record { within = (forward, within); reaches = rw refused tt; left = tt; held = tt };
+      memory = λ root. rw refused grows;
+      keys = tt;
+      settings = same;
+    })
+
+-- A value was put, and the turn goes on after it.
+pub put-turned : (made : Keeping) (W : Type 0) (t : List ℕ) (i : ℕ) (a : Slot) (old : Turning) (mid : Stacks)
+    (new : Turning) (e : ℕ) (r : ℕ × State)
+    → from_value made old.settings t old.stacks a i ≡ after made old.settings t mid a e
+    → mid.nest ≡ old.stacks.nest → after_size mid a ≡ value_size old.stacks a + 1 → i < e → e ≤ length t
+    → LeavesKeys old.stacks.members.items mid.members.items
+    → Proceeds made old.settings t e (left t mid e + 1) (after_size mid a) (after made old.settings t mid a e) new.stacks r
+    → WhereRefused (outcome new.stacks r.1) (a ≢ slot.Root)
+    → (a ≡ slot.Root → IfOk (outcome new.stacks r.1) (λ s. s ≡ state.Done))
+    → OnOk (outcome new.stacks r.1) (LeavesKeys mid.members.items new.stacks.members.items)
+    → new.settings ≡ old.settings → Turned made W t i a old new r
+put-turned made W t i a old mid new e r value nest held ahead within kept leads memory root keys same =
+    let deep = ap (λ n. length n.items) nest in
+    record {
+      leads = leads-weaker leads (omega (arith, ahead)) (omega (arith, ahead, within, deep)) (omega (arith, held)) value;
+      memory = λ is. root-grows (outcome new.stacks r.1) _ (root is)
+          (refused-weaker (outcome new.stacks r.1) _ _ (λ other. absurd (other is)) memory);
+      keys = leaves-on new.stacks r.1 old.stacks.members.items mid.members.items new.stacks.members.items kept keys;
+      settings = same;
+    }
+
+pub refused-inside : (r : Result State ReadError) (a : Slot) → a ≢ slot.Root → WhereRefused r (a ≢ slot.Root)
+refused-inside (Ok b) a h = tt
+refused-inside (Err (error.Fault f)) a h = tt
+refused-inside (Err (error.Memory m)) a h = h

@@ -51,7 +51,7 @@ grows-if s state.Key P on h = h
 grows-if s state.Done P on h = absurd on
 grows-if s state.GivenUp P on h = absurd on
 
-grows-any : (r : Result State ReadError) (P : Type 0) → P → MayGrowFor r P
+pub grows-any : (r : Result State ReadError) (P : Type 0) → P → MayGrowFor r P
 grows-any (Ok state.Root) P h = h
 grows-any (Ok state.Item) P h = h
 grows-any (Ok state.Member) P h = h

@@ -1,5 +1,5 @@
 -- What a turn leads to, where each text that is read is made so, and how much is left after it.
-use Rattle.std.specs.Prelude.{◌≡◌, ◌⊎◌, ℕ, ◌+◌, ◌≤◌, ◌<◌, Result, Ok, Err, OnOk, IfOk, Bool, true, false, List}
+use Rattle.std.specs.Prelude.{◌≡◌, ◌≢◌, ◌⊎◌, ℕ, ◌+◌, ◌≤◌, ◌<◌, Result, Ok, Err, OnOk, IfOk, Bool, true, false, List}
 use Rattle.std.specs.Prelude.{length}
 use Rattle.jiter_scan.specs.Kind.{fault_kind}
 use Rattle.jiter_scan.specs.Scanned.{taken}
@@ -8,6 +8,7 @@ use Rattle.jiter_scan.specs.declared.memory.AllocFailed.{AllocFailed}
 use Rattle.jiter_steps.specs.Frames.{resolve_step}
 use Rattle.jiter_steps.specs.Node.{nesting_limit}
 use Rattle.jiter_steps.specs.Read.{Reading as Answer, fault, value_at}
+use Rattle.jiter_steps.specs.ReadError.{WhereRefused}
 use Rattle.jiter_steps.specs.Step.{Step, closed, stuck, step, colon}
 use Rattle.jiter_steps.specs.StringReading.{string_at, whole}
 use Rattle.jiter_steps.specs.Tree.{Text, Tree}
@@ -17,7 +18,7 @@ use Rattle.jiter_steps.specs.declared.parse.ContainerKind.TheVariants as shape
 use Rattle.jiter_steps.specs.declared.read_error.ReadError.{ReadError}
 use Rattle.jiter_steps.specs.declared.read_error.ReadError.TheVariants as error
 use Rattle.jiter_value.specs.Size.{value_size, key_size, after_size, held, left_at}
-use Rattle.jiter_value.specs.Stacks.{from_value, from_key, after, meaning, part_of, HasRoom, HasRoomIn, HaveKeys, HoldsSame, Stands, StandsAtKey}
+use Rattle.jiter_value.specs.Stacks.{from_value, from_key, after, meaning, part_of, HasRoom, HasRoomIn, HaveKeys, HoldsSame, LeavesKeys, Stands, StandsAtKey}
 use Rattle.jiter_value.specs.declared.settings.Settings.{Settings}
 use Rattle.jiter_value.specs.declared.stacks.Slot.{Slot}
 use Rattle.jiter_value.specs.declared.stacks.Slot.TheVariants as slot
@@ -86,6 +87,24 @@ pub record Proceeds (made : Keeping) (p : Settings) (t : List ℕ) (i l h : ℕ)
   pub left : OnOk (outcome s r.1) (left t s r.0 < l)
   -- At most h scalars, containers and keys are held.
   pub held : IfOk (outcome s r.1) (λ a. held s a ≤ h)
+
+-- A turn at the value that is awaited at i, for this slot, proceeds so. It may want memory as the value does.
+pub record Turned (made : Keeping) (Wants : Type 0) (t : List ℕ) (i : ℕ) (a : Slot) (old new : Reading) (r : ℕ × State)
+    : Type 0 where
+  pub leads : Proceeds made old.settings t i (left t old.stacks i) (value_size old.stacks a + 1)
+      (from_value made old.settings t old.stacks a i) new.stacks r
+  pub memory : a ≡ slot.Root → MayGrowFor (outcome new.stacks r.1) (MayGrowBy Wants t i)
+  pub keys : OnOk (outcome new.stacks r.1) (LeavesKeys old.stacks.members.items new.stacks.members.items)
+  pub settings : new.settings ≡ old.settings
+
+-- A turn goes on from i to the reading x, where the slot a has its value. It wants no memory after the document's value.
+pub record Follows (made : Keeping) (t : List ℕ) (i l h : ℕ) (x : Answer Tree) (a : Slot) (old new : Reading)
+    (r : ℕ × State) : Type 0 where
+  pub leads : Proceeds made old.settings t i l h x new.stacks r
+  pub memory : WhereRefused (outcome new.stacks r.1) (a ≢ slot.Root)
+  pub root : a ≡ slot.Root → IfOk (outcome new.stacks r.1) (λ s. s ≡ state.Done)
+  pub keys : OnOk (outcome new.stacks r.1) (LeavesKeys old.stacks.members.items new.stacks.members.items)
+  pub settings : new.settings ≡ old.settings
 
 -- Turns have led from the value at i to these stacks, to the place j and to this state: what is held, and what is left of
 -- the text, are the value, or the reading was given up. It may want memory, unless nothing of it was read.

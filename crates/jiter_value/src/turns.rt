@@ -12,7 +12,7 @@ ghost use Rattle.jiter_value.specs.Settings.{Keeping, rules_as};
 ghost use Rattle.jiter_value.specs.Size.{value_size};
 ghost use Rattle.jiter_value.specs.Stacks.{slot_of, from_value, StandsAtKey, IsFree};
 ghost use Rattle.jiter_value.specs.Stacks.{HaveKeys, LeavesKeys, keys_of};
-ghost use Rattle.jiter_value.specs.Turns.{GoesOn, HasGone, HasTakenKey, HasTurned, IsAtKey, IsAtValue, IsKeyRead, Proceeds};
+ghost use Rattle.jiter_value.specs.Turns.{GoesOn, HasGone, HasTurned, IsAtValue, Turned, IsKeyRead, Proceeds};
 ghost use Rattle.jiter_value.specs.Turns.{MayGrowFor, left, outcome};
 ghost use Rattle.jiter_value.specs.Value.{view, MayGrowBy};
 ghost use Rattle.jiter_value.specs.declared.stacks.Stacks.{Stacks as StacksView};
@@ -20,10 +20,9 @@ ghost use Rattle.jiter_value.specs.declared.stacks.Stacks.{Stacks as StacksView}
 use crate::settings::Settings;
 use crate::stacks::{Slot, Stacks, State, no_error, take_error, take_root};
 use crate::texts::StringStorage;
-use crate::turns::containers::{after_value, begin};
-use crate::turns::scalars::{Plain, fast_put_key, fast_put_scalar, slow_key, slow_scalar};
+use crate::turns::scalars::{key_turn, turn_into};
 use crate::value::JsonValue;
-use jiter_steps::parse::{ContainerKind, NESTING_LIMIT, Parser};
+use jiter_steps::parse::Parser;
 use jiter_steps::read_error::ReadError;
 use smallvec::SmallVec;
 use std::alloc::Global;
@@ -33,39 +32,6 @@ pub(crate) mod containers;
 pub(crate) mod duplicate_keys;
 pub(crate) mod scalars;
 pub(crate) mod unique;
-
-// One turn at a value for this slot. A scalar takes the fast path if that applies, and otherwise the slow path.
-// `SLOT` is another number for each slot, so that each has its own copy of this code.
-#[inline(always)]
-fn turn_into<'s, T: StringStorage<'s>, const ONCE: bool, const SLOT: u8>(
-    reading: &mut Reading<'s>,
-    texts: T,
-    bytes: &[u8],
-    at: usize,
-    slot: Slot,
-) -> (usize, State)
-    requires texts { T.of texts bytes.now }
-    requires at_value { IsAtValue bytes.now reading.old.stacks slot at }
-    ensures leads { Proceeds T.made reading.old.settings bytes.now at (left bytes.now reading.old.stacks at)
-        (value_size reading.old.stacks slot + 1) (from_value T.made reading.old.settings bytes.now reading.old.stacks slot at)
-        reading.new.stacks result }
-    ensures memory { slot ≡ Slot.Root
-        → MayGrowFor (outcome reading.new.stacks result.1) (MayGrowBy T.wants bytes.now at) }
-    ensures keys { OnOk (outcome reading.new.stacks result.1)
-        (LeavesKeys reading.old.stacks.members.items reading.new.stacks.members.items) }
-    ensures settings { reading.new.settings ≡ reading.old.settings }
-{
-    match bytes[at] {
-        b'[' => return begin::<T>(reading, bytes, at, slot, ContainerKind::Array),
-        b'{' => return begin::<T>(reading, bytes, at, slot, ContainerKind::Object),
-        _ => {}
-    }
-    match fast_put_scalar::<T, ONCE, SLOT>(reading, texts, bytes, at, slot) {
-        (end, Plain::Put) => after_value::<T>(reading, bytes, end, slot),
-        (end, Plain::AllocFailed) => (end, State::GivenUp),
-        (_, Plain::Other) => { slow_scalar(reading, texts, bytes, at, slot) }
-    }
-}
 
 // One turn at a value.
 #[inline(always)]
@@ -78,72 +44,13 @@ fn value_turn<'s, T: StringStorage<'s>, const ONCE: bool>(
 ) -> (usize, State)
     requires texts { T.of texts bytes.now }
     requires at_value { IsAtValue bytes.now reading.old.stacks slot at }
-    ensures leads { Proceeds T.made reading.old.settings bytes.now at (left bytes.now reading.old.stacks at)
-        (value_size reading.old.stacks slot + 1) (from_value T.made reading.old.settings bytes.now reading.old.stacks slot at)
-        reading.new.stacks result }
-    ensures memory { slot ≡ Slot.Root
-        → MayGrowFor (outcome reading.new.stacks result.1) (MayGrowBy T.wants bytes.now at) }
-    ensures keys { OnOk (outcome reading.new.stacks result.1)
-        (LeavesKeys reading.old.stacks.members.items reading.new.stacks.members.items) }
-    ensures settings { reading.new.settings ≡ reading.old.settings }
+    ensures { Turned T.made T.wants bytes.now at slot reading.old reading.new result }
 {
     match slot {
         Slot::Item => turn_into::<T, ONCE, 0>(reading, texts, bytes, at, Slot::Item),
         Slot::Member => turn_into::<T, ONCE, 1>(reading, texts, bytes, at, Slot::Member),
         Slot::Root => turn_into::<T, ONCE, 2>(reading, texts, bytes, at, Slot::Root),
     }
-}
-
-// Whether a member's value may begin here, where the list of open containers is on the heap.
-#[cold]
-#[inline(never)]
-fn long_nest_is_within_limit(stacks: &Stacks<'_>) -> bool
-    ensures { result ≡ true → length stacks.now.nest.items ≤ nesting_limit }
-{
-    stacks.nest.len() <= NESTING_LIMIT
-}
-
-// Whether a member's value may begin here. A list in place has eight open containers at most.
-#[inline(always)]
-fn is_within_limit(stacks: &Stacks<'_>) -> bool
-    ensures { result ≡ true → length stacks.now.nest.items ≤ nesting_limit }
-{
-    // The length is at most the capacity, which is eight in place.
-    let _count = stacks.nest.len();
-    if stacks.nest.spilled() {
-        return long_nest_is_within_limit(stacks);
-    }
-    true
-}
-
-// One turn at a key: the fast path if the key is plain, otherwise the slow path. If `keys` doesn't allow the key, it
-// stays where it is.
-#[inline(always)]
-fn key_turn<'s, T: StringStorage<'s>, K: Keys<'s>>(
-    reading: &mut Reading<'s>,
-    texts: T,
-    keys: &mut K,
-    bytes: &[u8],
-    at: usize,
-) -> (usize, State)
-    requires texts { T.of texts bytes.now }
-    requires serves { K.serves keys.old T.made }
-    requires going { K.stopped keys.old ≡ false }
-    requires known { (ks : List (List ℕ)) × K.knows keys.old ks × HaveKeys ks reading.old.stacks.members.items }
-    requires at_key { IsAtKey bytes.now reading.old.stacks at }
-    ensures turned { HasTakenKey T.made reading.old.settings bytes.now at reading.old.stacks reading.new.stacks result
-        (K.stopped keys.new) (K.knows keys.new) (K.refuses keys.new bytes.now reading.old.stacks at) }
-    ensures serves { K.serves keys.new T.made }
-    ensures settings { reading.new.settings ≡ reading.old.settings }
-{
-    if is_within_limit(&reading.stacks) {
-        match fast_put_key(reading, texts, keys, bytes, at) {
-            (next, Plain::Put) => return (next, State::Member),
-            (next, Plain::AllocFailed) => return (next, State::GivenUp),
-            (_, Plain::Other) => {}
-        }
-    }
-    slow_key(reading, texts, keys, bytes, at)
 }
 
 #[inline(always)]

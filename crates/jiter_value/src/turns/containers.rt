@@ -13,7 +13,7 @@ ghost use Rattle.jiter_value.specs.Settings.{Keeping, forgives};
 ghost use Rattle.jiter_value.specs.Size.{value_size, inside_size, after_size};
 ghost use Rattle.jiter_value.specs.Stacks.{resume_with, from_value, after, container_ends, container_fault, Stands};
 ghost use Rattle.jiter_value.specs.Stacks.{StandsInside, slot_in, base_of, part_of, empty_tree, HasRoom, LeavesKeys};
-ghost use Rattle.jiter_value.specs.Turns.{IsAtValue, IsReady, Proceeds, IsResolved, MayGrowFor, left, outcome};
+ghost use Rattle.jiter_value.specs.Turns.{Follows, IsAtValue, IsReady, Proceeds, IsResolved, Turned, left, outcome};
 ghost use Rattle.jiter_value.specs.Value.{MayGrowAt};
 ghost use Rattle.jiter_value.specs.declared.settings.Settings.{Settings as SettingsView};
 
@@ -117,15 +117,9 @@ fn after_last<'s, T: StringStorage<'s>>(
     requires stands { Stands reading.old.stacks slot }
     requires levels { length reading.old.stacks.nest.items ≤ nesting_limit }
     requires within { from ≤ length bytes.now }
-    ensures leads { Proceeds T.made reading.old.settings bytes.now from (left bytes.now reading.old.stacks from + 1)
+    ensures { Follows T.made bytes.now from (left bytes.now reading.old.stacks from + 1)
         (after_size reading.old.stacks slot) (after T.made reading.old.settings bytes.now reading.old.stacks slot from)
-        reading.new.stacks result }
-    ensures memory { WhereRefused (outcome reading.new.stacks result.1) (slot ≢ Slot.Root) }
-    ensures root { slot ≡ Slot.Root
-        → IfOk (outcome reading.new.stacks result.1) (λ a. a ≡ State.Done) }
-    ensures keys { OnOk (outcome reading.new.stacks result.1)
-        (LeavesKeys reading.old.stacks.members.items reading.new.stacks.members.items) }
-    ensures settings { reading.new.settings ≡ reading.old.settings }
+        slot reading.old reading.new result }
 {
     let mut at = from;
     let mut inside = slot;
@@ -163,15 +157,9 @@ pub fn after_value<'s, T: StringStorage<'s>>(
     requires stands { Stands reading.old.stacks slot }
     requires levels { length reading.old.stacks.nest.items ≤ nesting_limit }
     requires within { from ≤ length bytes.now }
-    ensures leads { Proceeds T.made reading.old.settings bytes.now from (left bytes.now reading.old.stacks from + 1)
+    ensures { Follows T.made bytes.now from (left bytes.now reading.old.stacks from + 1)
         (after_size reading.old.stacks slot) (after T.made reading.old.settings bytes.now reading.old.stacks slot from)
-        reading.new.stacks result }
-    ensures memory { WhereRefused (outcome reading.new.stacks result.1) (slot ≢ Slot.Root) }
-    ensures root { slot ≡ Slot.Root
-        → IfOk (outcome reading.new.stacks result.1) (λ a. a ≡ State.Done) }
-    ensures keys { OnOk (outcome reading.new.stacks result.1)
-        (LeavesKeys reading.old.stacks.members.items reading.new.stacks.members.items) }
-    ensures settings { reading.new.settings ≡ reading.old.settings }
+        slot reading.old reading.new result }
 {
     match kind_of_container(slot) {
         None => (from, State::Done),
@@ -269,16 +257,10 @@ fn empty<'s, T: StringStorage<'s>>(
     requires room { HasRoom reading.old.stacks slot }
     requires levels { length reading.old.stacks.nest.items ≤ nesting_limit }
     requires within { end ≤ length bytes.now }
-    ensures leads { Proceeds T.made reading.old.settings bytes.now end (left bytes.now reading.old.stacks end + 1)
+    ensures { Follows T.made bytes.now end (left bytes.now reading.old.stacks end + 1)
         (value_size reading.old.stacks slot + 1) (resume_with T.made reading.old.settings bytes.now reading.old.stacks slot
         (done (empty_tree shape) end))
-        reading.new.stacks result }
-    ensures memory { WhereRefused (outcome reading.new.stacks result.1) (slot ≢ Slot.Root) }
-    ensures root { slot ≡ Slot.Root
-        → IfOk (outcome reading.new.stacks result.1) (λ a. a ≡ State.Done) }
-    ensures keys { OnOk (outcome reading.new.stacks result.1)
-        (LeavesKeys reading.old.stacks.members.items reading.new.stacks.members.items) }
-    ensures settings { reading.new.settings ≡ reading.old.settings }
+        slot reading.old reading.new result }
 {
     put_empty(reading.alloc, &mut reading.stacks, slot, shape);
     after_value::<T>(reading, bytes, end, slot)
@@ -323,12 +305,7 @@ fn open<'s, T: StringStorage<'s>>(
     requires within { (at < next) × (next < length bytes.now) }
     requires bracket { start_of (slice_index bytes.now at) ≡ opening shape }
     requires part { step bytes.now (container_first shape) (at + 1) ≡ more next }
-    ensures leads { Proceeds T.made reading.old.settings bytes.now at (left bytes.now reading.old.stacks at)
-        (value_size reading.old.stacks slot + 1) (from_value T.made reading.old.settings bytes.now reading.old.stacks slot at)
-        reading.new.stacks result }
-    ensures keys { OnOk (outcome reading.new.stacks result.1)
-        (LeavesKeys reading.old.stacks.members.items reading.new.stacks.members.items) }
-    ensures settings { reading.new.settings ≡ reading.old.settings }
+    ensures { Turned T.made T.wants bytes.now at slot reading.old reading.new result }
 {
     if is_full(&reading.stacks, shape) {
         return too_deep(&mut reading.stacks, next);
@@ -352,14 +329,7 @@ pub fn begin<'s, T: StringStorage<'s>>(
 ) -> (usize, State)
     requires at_value { IsAtValue bytes.now reading.old.stacks slot at }
     requires bracket { start_of (slice_index bytes.now at) ≡ opening shape }
-    ensures leads { Proceeds T.made reading.old.settings bytes.now at (left bytes.now reading.old.stacks at)
-        (value_size reading.old.stacks slot + 1) (from_value T.made reading.old.settings bytes.now reading.old.stacks slot at)
-        reading.new.stacks result }
-    ensures memory { slot ≡ Slot.Root
-        → MayGrowFor (outcome reading.new.stacks result.1) (MayGrowAt bytes.now at) }
-    ensures keys { OnOk (outcome reading.new.stacks result.1)
-        (LeavesKeys reading.old.stacks.members.items reading.new.stacks.members.items) }
-    ensures settings { reading.new.settings ≡ reading.old.settings }
+    ensures { Turned T.made T.wants bytes.now at slot reading.old reading.new result }
 {
     let (end, step) = first(bytes, at + 1, shape);
     match step {

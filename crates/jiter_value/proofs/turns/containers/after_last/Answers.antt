@@ -1,4 +1,4 @@
-use Rattle.std.proofs.Common.{◌∙◌, ap, false, refl, subst, sym, arith, reverse}
+use Rattle.std.proofs.Common.{Err, ◌∙◌, ap, false, refl, subst, sym, arith, reverse}
 use Rattle.jiter_steps.specs.Frames.{resolve_step}
 use Rattle.jiter_value.specs.Settings.{forgives}
 use Rattle.jiter_value.specs.Turns.{IsResolved}
@@ -6,6 +6,7 @@ use Rattle.jiter_value.proofs.KeptKeys.{leaves-then}
 use Rattle.jiter_value.proofs.Shapes.{inside-stands, not-root, ready-keys, ready-memory, ready-proceeds}
 use Rattle.jiter_value.proofs.Sizes.{after-part-size}
 use Rattle.jiter_value.proofs.StackTurns.{after-more, after-closed, after-fails}
+use Rattle.jiter_value.proofs.TurnOutcomes.{refused-inside}
 use Rattle.jiter_value.proofs.turns.containers.after_last.Goals as goal
 
 pub returns-in-Part : goal.returns-in-Part
@@ -36,21 +37,28 @@ returns-in-Part g c =
       settings = so_far.9;
     }
 
-pub returns-then-not-ends-clause-leads : goal.returns-then-not-ends-clause-leads
-returns-then-not-ends-clause-leads g c =
+pub returns-then-not-ends : goal.returns-then-not-ends
+returns-then-not-ends g c =
     let l = c.closing in
     let s = l.reading.stacks in
     let j = c.next-end.result.0 in
     let so_far = rw c.in-Some.ensures.some at l.invariant in
+    let h = c.in-Some.shape in
     record {
-      within = (omega (arith, so_far.0, c.next-end.ensures.within.0), c.next-end.ensures.within.1);
-      reaches = rw so_far.2
-          (after-fails g.T.StringStorage.made c.args.reading.now.settings c.args.bytes.now c.in-Some.shape s.items.items s.members.items
-          s.root l.at
-          (reverse s.nest.items) j c.ends.new.stacks.error so_far.3 (subst (IsResolved c.args.reading.now.settings false c.ends.new.stacks.error j) (sym c.next-end.ensures.is)
-          (rw so_far.9 at c.if-not-ends.ensures.resolved)));
-      left = tt;
-      held = tt;
+      leads = record {
+        within = (omega (arith, so_far.0, c.next-end.ensures.within.0), c.next-end.ensures.within.1);
+        reaches = rw so_far.2
+            (after-fails g.T.StringStorage.made c.args.reading.now.settings c.args.bytes.now c.in-Some.shape s.items.items s.members.items
+            s.root l.at
+            (reverse s.nest.items) j c.ends.new.stacks.error so_far.3 (subst (IsResolved c.args.reading.now.settings false c.ends.new.stacks.error j) (sym c.next-end.ensures.is)
+            (rw so_far.9 at c.if-not-ends.ensures.resolved)));
+        left = tt;
+        held = tt;
+      };
+      memory = refused-inside (Err c.ends.new.stacks.error) c.args.slot (λ root. not-root h (so_far.7 root));
+      root = λ root. absurd (not-root h (so_far.7 root));
+      keys = tt;
+      settings = so_far.9;
     }
 
 pub closing-preserved : goal.closing-preserved

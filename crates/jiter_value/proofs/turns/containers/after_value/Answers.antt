@@ -6,7 +6,7 @@ use Rattle.jiter_value.proofs.KeptKeys.{leaves-all}
 use Rattle.jiter_value.proofs.Shapes.{inside-stands, not-root, ready-keys, ready-memory, ready-proceeds}
 use Rattle.jiter_value.proofs.Sizes.{after-part-size}
 use Rattle.jiter_value.proofs.StackTurns.{after-closed, after-more, after-stuck}
-use Rattle.jiter_value.proofs.TurnOutcomes.{leads-weaker}
+use Rattle.jiter_value.proofs.TurnOutcomes.{leads-weaker, refused-inside}
 use Rattle.jiter_value.proofs.turns.containers.after_value.Goals as goal
 
 pub returns-in-Part : goal.returns-in-Part
@@ -38,8 +38,8 @@ returns-in-Part g c =
       settings = refl;
     }
 
-pub returns-in-End-clause-leads : goal.returns-in-End-clause-leads
-returns-in-End-clause-leads g c =
+pub returns-in-End : goal.returns-in-End
+returns-in-End g c =
     let a = c.args in
     let p = a.reading.now.settings in
     let t = a.bytes.now in
@@ -50,13 +50,20 @@ returns-in-End-clause-leads g c =
     let found = rw c.in-End.is at c.next-end.ensures.is in
     let forward = c.next-end.ensures.within.0 in
     let size = after-part-size h (reverse s.nest.items) s.items.items s.members.items s.root stands in
-    leads-weaker c.close_and_go_on.ensures.leads forward (omega (arith, forward))
-    (rw c.in-Some.ensures.some (omega (arith, size)))
-    (rw c.in-Some.ensures.some (after-closed g.T.StringStorage.made p t h s.items.items s.members.items s.root a.from
-    (reverse s.nest.items) j stands (ap (resolve_step (forgives p.mode)) found)))
+    let some = c.in-Some.ensures.some in
+    record {
+      leads = leads-weaker c.close_and_go_on.ensures.leads forward (omega (arith, forward))
+          (rw c.in-Some.ensures.some (omega (arith, size)))
+          (rw c.in-Some.ensures.some (after-closed g.T.StringStorage.made p t h s.items.items s.members.items s.root a.from
+          (reverse s.nest.items) j stands (ap (resolve_step (forgives p.mode)) found)));
+      memory = refused-inside _ c.args.slot (λ root. not-root h (sym some ∙ root));
+      root = λ root. absurd (not-root h (sym some ∙ root));
+      keys = c.close_and_go_on.ensures.keys;
+      settings = c.close_and_go_on.ensures.settings;
+    }
 
-pub returns-in-Fault-clause-leads : goal.returns-in-Fault-clause-leads
-returns-in-Fault-clause-leads g c =
+pub returns-in-Fault : goal.returns-in-Fault
+returns-in-Fault g c =
     let a = c.args in
     let p = a.reading.now.settings in
     let t = a.bytes.now in
@@ -68,7 +75,14 @@ returns-in-Fault-clause-leads g c =
     let found = rw c.in-Fault.is at c.next-end.ensures.is in
     let forward = c.next-end.ensures.within.0 in
     let size = after-part-size h (reverse s.nest.items) s.items.items s.members.items s.root stands in
-    leads-weaker c.fault_inside.ensures.leads forward (omega (arith, forward))
-    (rw c.in-Some.ensures.some (omega (arith, size)))
-    (rw c.in-Some.ensures.some (after-stuck g.T.StringStorage.made p t h s.items.items s.members.items s.root a.from
-    (reverse s.nest.items) k j stands found))
+    let some = c.in-Some.ensures.some in
+    record {
+      leads = leads-weaker c.fault_inside.ensures.leads forward (omega (arith, forward))
+          (rw c.in-Some.ensures.some (omega (arith, size)))
+          (rw c.in-Some.ensures.some (after-stuck g.T.StringStorage.made p t h s.items.items s.members.items s.root a.from
+          (reverse s.nest.items) k j stands found));
+      memory = refused-inside _ c.args.slot (λ root. not-root h (sym some ∙ root));
+      root = λ root. absurd (not-root h (sym some ∙ root));
+      keys = c.fault_inside.ensures.keys;
+      settings = c.fault_inside.ensures.settings;
+    }

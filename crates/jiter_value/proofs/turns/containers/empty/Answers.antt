@@ -1,7 +1,20 @@
+use Rattle.std.proofs.Common.{ap, arith, length}
 use Rattle.jiter_value.proofs.KeptKeys.{leaves-on}
+use Rattle.jiter_value.proofs.TurnOutcomes.{leads-weaker}
 use Rattle.jiter_value.proofs.turns.containers.empty.Goals as goal
 
-pub returns-clause-keys : goal.returns-clause-keys
-returns-clause-keys g c =
-    leaves-on c.after_value.new.reading.stacks c.after_value.result.1 c.args.reading.now.stacks.members.items
-    c.put_empty.new.stacks.members.items _ c.put_empty.ensures.keys c.after_value.ensures.keys
+pub returns : goal.returns
+returns g c =
+    let a = c.args in
+    let put = c.put_empty.ensures in
+    let then = c.after_value.ensures in
+    let deep = ap (λ n. length n.items) put.nest in
+    record {
+      leads = leads-weaker then.leads (omega arith) (omega (arith, deep)) (omega (arith, put.held))
+          (put.value g.T.StringStorage.made a.reading.now.settings a.bytes.now a.end);
+      memory = then.memory;
+      root = then.root;
+      keys = leaves-on c.after_value.new.reading.stacks c.after_value.result.1 a.reading.now.stacks.members.items
+          c.put_empty.new.stacks.members.items _ put.keys then.keys;
+      settings = then.settings;
+    }

@@ -1,6 +1,8 @@
-use Rattle.std.proofs.Common.{refl, arith}
+use Rattle.std.proofs.Common.{refl, arith, inl}
 use Rattle.jiter_value.proofs.KeptKeys.{leaves-all}
-use Rattle.jiter_value.proofs.Shapes.{shape-opens, array-too-deep, ready-keys, with_nest}
+use Rattle.jiter_value.proofs.Shapes.{begins-grows, shape-opens, array-too-deep, ready-keys, with_nest}
+use Rattle.jiter_value.proofs.TurnOutcomes.{fault-grows, refused-turned}
+use Rattle.jiter_value.proofs.Turning.{grows-any}
 use Rattle.jiter_value.proofs.turns.containers.open.Goals as goal
 
 pub returns-then-is_full : goal.returns-then-is_full
@@ -18,6 +20,7 @@ returns-then-is_full g c =
         left = tt;
         held = tt;
       };
+      memory = λ root. fault-grows c.too_deep.new.stacks.error _ _ c.too_deep.ensures.error;
       keys = tt;
       settings = refl;
     })
@@ -34,6 +37,15 @@ returns-in-Ok g c =
           c.requires.levels a.at a.shape a.next c.push_small.new.items
           (rw c.base_of-base.ensures at c.in-Ok.ensures.ok) c.requires.within.0 c.requires.within.1
           c.requires.bracket c.requires.part (c.if-is_full.ensures.few refl) new r c.to_part.ensures;
+      memory = λ root. grows-any _ _ (inl (begins-grows a.bytes.now a.at a.shape a.next c.requires.bracket c.requires.part));
       keys = ready-keys a.shape mid new a.next r s.members.items c.to_part.ensures (leaves-all s.members.items);
       settings = refl;
     }
+
+pub returns-in-Err : goal.returns-in-Err
+returns-in-Err g c =
+    let a = c.args in
+    refused-turned g.T.StringStorage.made g.T.StringStorage.wants a.bytes.now a.at a.slot a.reading.now _ a.next _
+    c.in-Err.refused c.no_memory.ensures.place c.no_memory.ensures.error (omega (arith, c.requires.within.0))
+    (omega (arith, c.requires.within.1))
+    (inl (begins-grows a.bytes.now a.at a.shape a.next c.requires.bracket c.requires.part)) refl

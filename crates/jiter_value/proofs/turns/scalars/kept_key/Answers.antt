@@ -37,8 +37,8 @@ returns-in-Some-clause-turned g c =
     (more-known s.members.items _ c.fault_inside.new.reading.stacks c.fault_inside.result.1
     (g.K.Keys.knows c.admits.new.self) (asked.known refl) e.keys)
 
-pub returns-then-len-gt-NESTING_LIMIT-clause-turned : goal.returns-then-len-gt-NESTING_LIMIT-clause-turned
-returns-then-len-gt-NESTING_LIMIT-clause-turned g c =
+pub returns-then-is_too_deep-clause-turned : goal.returns-then-is_too_deep-clause-turned
+returns-then-is_too_deep-clause-turned g c =
     let made = g.T.StringStorage.made in
     let a = c.args in
     let p = a.reading.now.settings in
@@ -54,7 +54,7 @@ returns-then-len-gt-NESTING_LIMIT-clause-turned g c =
     let value = rw c.in_default.is at first.value in
     let inside = first.inside c.in_default.is in
     let full : length os ≡ 201 = omega
-    (arith, length-reverse s.nest.items, c.len.ensures.value, c.if-len-gt-NESTING_LIMIT.true, c.requires.levels) in
+    (arith, length-reverse s.nest.items, c.if-is_too_deep.ensures.full refl, c.requires.levels) in
     rw c.too_deep.ensures.place
     (taken-on made p t a.at s c.too_deep.new.stacks (m, state.GivenUp) _ _ _ asked.stopped
     (record {
@@ -95,7 +95,7 @@ returns-clause-turned g c =
       within = (omega (arith, put.ahead), omega (arith, put.within));
       reaches = (
         put.value p,
-        (put.stands, omega (arith, c.len.ensures.value, c.if-len-gt-NESTING_LIMIT.false), put.within, λ item. absurd (cc)),
+        (put.stands, omega (arith, c.if-is_too_deep.ensures.few refl), put.within, λ item. absurd (cc)),
       );
       left = omega (arith, put.ahead, put.within);
       held = omega (arith, put.held);

@@ -8,7 +8,7 @@ use Rattle.jiter_value.proofs.LentTexts.{range-lies}
 use Rattle.jiter_scan.proofs.FastNumberValues.{short-signed, short-signed_float}
 use Rattle.jiter_value.proofs.Placed.{put-at, number-read}
 use Rattle.jiter_value.proofs.Views.{view_float, view_int}
-use Rattle.jiter_value.proofs.turns.scalars.fast_put_number.Goals as goal
+use Rattle.jiter_value.proofs.turns.scalars.put_number.Goals as goal
 
 pub ascii_text-requires : goal.ascii_text-requires
 ascii_text-requires g c =

@@ -1,0 +1,47 @@
+use Rattle.std.proofs.Common.{◌+◌, ◌∙◌, arith, false, refl, ap, sym}
+use Rattle.std.proofs.lemmas.Option.{slice_get_within}
+use Rattle.jiter_scan.specs.Scanned.{taken}
+use Rattle.jiter_steps.proofs.Calls.FastAnswers.{plain-utf8}
+use Rattle.jiter_steps.proofs.Calls.Looks.{look-plain}
+use Rattle.jiter_value.proofs.LentTexts.{range-lies}
+use Rattle.jiter_value.proofs.turns.scalars.key_turn.Goals as goal
+
+pub utf8_text-requires : goal.utf8_text-requires
+utf8_text-requires g c =
+    let found = rw c.in-Plain.is at c.look_at-to.ensures.means in
+    plain-utf8 _ found.1
+
+pub read_key-requires : goal.read_key-requires
+read_key-requires g c κs =
+    let u = c.requires in
+    let t = c.args.bytes.now in
+    let i = c.args.at in
+    let to = c.look_at-to.result.0 in
+    let found = rw c.in-Plain.is at c.look_at-to.ensures.means in
+    let before = c.look_at-to.ensures.within.0 in
+    let inside = slice_get_within t to 34 found.0 in (
+      (refl, tt),
+      (
+        u.texts,
+        (
+          u.serves,
+          (
+            u.going,
+            (
+              u.known,
+              (
+                u.at_key,
+                (
+                  look-plain t i to u.at_key.2 c.look_at-to.ensures.stop found false
+                      ∙ ap (λ w. taken (record { owned = false; bytes = w }) (to + 1)) (sym c.utf8_text.ensures),
+                  (
+                    λ mark. range-lies t (i + 1) to _ (omega (arith, before)) (omega (arith, inside)) c.utf8_text.ensures,
+                    (omega (arith, before), omega (arith, inside)),
+                  ),
+                ),
+              ),
+            ),
+          ),
+        ),
+      ),
+    )

@@ -1,0 +1,36 @@
+use Rattle.std.proofs.Common.{ap, arith, length, refl, reverse}
+use Rattle.jiter_scan.specs.Kind.{fault_kind}
+use Rattle.jiter_steps.specs.Read.{scalar_at}
+use Rattle.jiter_steps.specs.StringDecoder.{text_view}
+use Rattle.jiter_value.proofs.Repeats.{no-colon}
+use Rattle.jiter_value.proofs.StackTurns.{colon-fails}
+use Rattle.jiter_value.proofs.Taking.{at-colon, left-known, taken-on}
+use Rattle.jiter_value.proofs.TurnOutcomes.{leads-weaker}
+use Rattle.jiter_value.proofs.turns.scalars.read_key.Goals as goal
+
+pub returns-in-Some-clause-turned : goal.returns-in-Some-clause-turned
+returns-in-Some-clause-turned g c =
+    let made = g.T.StringStorage.made in
+    let a = c.args in
+    let p = a.reading.now.settings in
+    let t = a.bytes.now in
+    let s = a.reading.now.stacks in
+    let os = reverse s.nest.items in
+    let es = s.items.items in
+    let ms = s.members.items in
+    let key = text_view a.key in
+    let k = fault_kind c.in-Some.kind in
+    let j = c.colon-after.result.0 in
+    let value = rw c.in-Some.is at c.colon-after.ensures.value in
+    let forward = c.requires.within.0 in
+    let onward = c.colon-after.ensures.within.0 in
+    let e = c.fault_inside.ensures in
+    let known = c.requires.known in
+    let here = c.requires.at_key in
+    taken-on made p t a.at s _ _ _ _ _ c.requires.going
+    (leads-weaker e.leads (omega (arith, forward, onward)) (omega (arith, forward, onward)) (omega arith)
+    (colon-fails made p t os es ms a.at key a.end j j k here.0
+    (no-colon made t os (length es) ms a.at here.0 key a.end k j c.requires.read value)
+    here.2 (ap (scalar_at a.at) c.requires.read) (at-colon t a.end j k value, refl)))
+    (left-known known.0 ms c.fault_inside.new.reading.stacks c.fault_inside.result.1 (g.K.Keys.knows a.keys.now) known.1
+    known.2 e.keys)
