@@ -24,7 +24,7 @@ use Rattle.jiter_steps.specs.Tree.{Text}
 use Rattle.jiter_steps.proofs.Grammar.Blanks.{past_blanks-after}
 use Rattle.jiter_steps.proofs.Grammar.StringLaws.{string_at-within}
 use Rattle.jiter.specs.Jiter.{BeginsAt, IsErrorAt, MovesOn, reply_seen, text_bytes}
-use Rattle.jiter.specs.Reader.{ReaderState, Refusal, gave, refused, scalar_reply, colon_reply, key_reply, with_position}
+use Rattle.jiter.specs.Reader.{ReaderState, Refusal, Reply, gave, refused, scalar_reply, colon_reply, key_reply, with_position}
 use Rattle.jiter.specs.Reader.{value_place, next, if_byte, member_reply, number_bytes_read, str_read}
 use Rattle.jiter.specs.Reads.{Reads, never, string_memory}
 use Rattle.jiter.specs.declared.errors.JiterError.{JiterError}
@@ -257,3 +257,19 @@ undecoded view seen v s i x e is place quote needs wrong = subst P (sym is) (by 
           ),
         );
       }
+
+-- The number at the reader's position ends at e.
+pub number-given : {X A : Type 0} (view : X → A) (a : X) (reply : ReaderState → Reply A) (v s : ReaderState) (i j e : ℕ)
+    → v ≡ s → v.position ≡ i → i ≤ j → j < e → e ≤ length v.text → reply v ≡ gave (view a) e
+    → Reads never view (reply s) (Ok a) s (with_position v e)
+number-given view a reply v s i j e is here start some within value = subst P is by-v where
+  P : ReaderState → Type 0
+  P s = Reads never view (reply s) (Ok a) s (with_position v e)
+
+  by-v : P v
+  by-v = record {
+    moves = record { same = refl; forward = omega (arith, here, start, some); within = within };
+    value = value;
+    index = tt;
+    memory = tt;
+  }
