@@ -20,6 +20,8 @@ use Rattle.jiter_steps.specs.Tree.{Text}
 use Rattle.jiter_steps.proofs.Calls.FastAnswers.{plain-quoted, plain-utf8}
 use Rattle.jiter_steps.proofs.Calls.PlainRuns.{plain_run-within}
 use Rattle.jiter_steps.proofs.Calls.RawStrings.{raw-closed, raw-over_run, raw-unclosed}
+use Rattle.jiter_steps.proofs.Reading.StringForms.{content-kept}
+use Rattle.jiter_steps.specs.StringDecoder.{WantsMemory}
 use Rattle.jiter_steps.proofs.Calls.StringAnswers.{string-control, string-none, string-quote}
 
 module _ (t : List ℕ) (at to : ℕ) (inside : at < length t) (stop : to ≡ scan_stop t (at + 1)) where
@@ -49,6 +51,28 @@ module _ (t : List ℕ) (at to : ℕ) (inside : at < length t) (stop : to ≡ sc
       if_gives (utf8_valid_len content == length content) _ _ (taken (record { owned = false; bytes = text }) e) is
       (λ all same. ap (λ (x : Text). x.bytes) (sym (same_taken _ _ e e same).0))
       (λ some no. absurd (failed-taken _ _ _ e no))
+
+  -- so a string that passes the test is those bytes, kept or not
+  pub look-text : Found look.Utf8 → (text : List ℕ)
+      → ((e : ℕ) → checked false (at + 1) false content e ≡ taken (record { owned = false; bytes = text }) e)
+      → (text ≡ content)
+      × ((keep : Bool) → string_at (text_form keep) t at ≡ taken (between t (at + 1) to) (to + 1))
+  look-text found text is = (same, read) where
+    same : text ≡ content
+    same = look-whole text (to + 1) (is (to + 1))
+
+    closed : string_at whole t at ≡ taken (between t (at + 1) to) (to + 1)
+    closed =
+        look-checked found false ∙ is (to + 1)
+        ∙ ap (λ w. taken (record { owned = false; bytes = w }) (to + 1)) same
+
+    read : (keep : Bool) → string_at (text_form keep) t at ≡ taken (between t (at + 1) to) (to + 1)
+    read true = (content-kept t (at + 1) (between t (at + 1) to) (to + 1) closed).0
+    read false = closed
+
+  -- one with a backslash
+  pub look-escaped : (a : Bool) → Found (look.Escaped a) → WantsMemory t at
+  look-escaped a found = subst (λ j. slice_get t j ≡ Some 92) stop found.0
 
   -- a control byte
   control-here : (form : Form) (o : Option ℕ) → slice_get t to ≡ o → IsFaultOf o fault.ControlCharacterWhileParsingString
