@@ -343,6 +343,7 @@ impl Reader {
     }
 
     // A wrong byte counts as taken: the error is final.
+    #[inline(never)]
     fn move_string(
         &mut self,
         slot: &mut JsonValue<'static>,
@@ -373,6 +374,7 @@ impl Reader {
         }
     }
 
+    #[inline(always)]
     fn take_string(
         &mut self,
         slot: &mut JsonValue<'static>,
