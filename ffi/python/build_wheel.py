@@ -2,7 +2,7 @@
 
 It needs a C compiler, Python's headers and libjiter.a, and of Python the standard library alone, so that an installation
 needs no network. The library is the one in the folder that the environment variable JITER_LIB_DIR names, else the one that
-`make -C ffi` built. CC and CFLAGS have their usual meaning.
+`make -C ffi` built, else the one in the folder lib beside this one. CC and CFLAGS have their usual meaning.
 """
 
 import base64
@@ -19,7 +19,7 @@ import zipfile
 
 HERE = os.path.dirname(os.path.abspath(__file__))
 FILES = ("__init__.py", "__init__.pyi", "_error.py", "py.typed")
-LIBRARIES = os.environ.get("JITER_LIB_DIR") or f"{HERE}/../build"
+LIBRARIES = [os.environ["JITER_LIB_DIR"]] if os.environ.get("JITER_LIB_DIR") else [f"{HERE}/../build", f"{HERE}/../lib"]
 FLAGS = ["-std=c11", "-DNDEBUG", "-O3", "-fPIC", "-shared", "-fvisibility=hidden", "-Wl,--exclude-libs,ALL", "-Wl,-z,relro,-z,now"]
 
 
@@ -43,7 +43,7 @@ def first_of(name, folders):
 
 def compile_module(path):
     """Compiles src/ to this file, with the library in it."""
-    library = first_of("libjiter.a", [LIBRARIES])
+    library = first_of("libjiter.a", LIBRARIES)
     header = first_of("jiter_c.h", [f"{HERE}/..", f"{library}/../include"])
     compiler = shlex.split(os.environ.get("CC") or sysconfig.get_config_var("CC") or "cc")
     words = [*compiler, *FLAGS, f"-I{header}", f"-I{sysconfig.get_paths()['include']}", *shlex.split(os.environ.get("CFLAGS", ""))]

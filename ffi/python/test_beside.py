@@ -2,7 +2,8 @@
 
     python3 test_beside.py LIBRARY [--count N] [--seed N]
 
-LIBRARY is libjiter.so.0, which is called through ctypes. The documents are those of checks/documents.py. Shown are:
+LIBRARY is libjiter.so.0, which is called through ctypes. The documents are those of checks/documents.py: its rows, and N
+random ones. Shown are:
 
 - `loads` accepts what `json.loads` accepts, except for what `meant` lists, and returns an equal value of equal types
 - in each mode, with and without `unique` and `non_finite`, the value is what the library prints, and the error is its own
@@ -208,8 +209,7 @@ def main():
     asked = asked.parse_args()
     library, dice, log, wrong, done = Library(asked.library), random.Random(asked.seed), [], 0, 0
     rows = documents.rows(os.path.dirname(os.path.dirname(HERE)))
-    dice.shuffle(rows)
-    for document in itertools.islice(itertools.chain(rows[: asked.count], documents.documents(dice)), asked.count + len(rows[: asked.count])):
+    for document in itertools.chain(rows, itertools.islice(documents.documents(dice), asked.count)):
         settings = {"unique": dice.random() < 0.3, "non_finite": dice.random() < 0.6}
         log.append(document)
         found = [beside_json(document, settings), beside_library(library, document, settings)]

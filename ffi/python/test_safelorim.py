@@ -27,8 +27,8 @@ import safelorim
 
 HERE = os.path.dirname(os.path.abspath(__file__))
 PAGE = f"{HERE}/../../docs/PYTHON.md"
-# How often nine calls are made where leaks are counted: a million calls.
-ROUNDS = 112_000
+# How often ten calls are made where leaks are counted: a million calls.
+ROUNDS = 100_000
 
 CORPUS = [
     "null", "true", " false ", "0", "-0", "12", "-7", "9223372036854775807", "9223372036854775808", "1" * 400,
@@ -483,13 +483,14 @@ class Interpreters(unittest.TestCase):
 
 
 def all_calls(text, other):
-    """Makes each call, of a document and of one that is rejected."""
+    """Makes each call, of a document that repeats a key and of one that is rejected."""
     safelorim.loads(text)
+    safelorim.loads(text.encode(), float=decimal.Decimal)
     safelorim.loads(text[:-7], partial="trailing-strings", unique=True)
     safelorim.loads_lines(text + "\n" + other)
-    for words in ({}, {"unique": True}, {"partial": "on"}):
+    for words in ((text, {"unique": True}), (other, {}), (other, {"unique": True}), (other, {"partial": "on"})):
         try:
-            safelorim.loads(other, **words)
+            safelorim.loads(words[0], **words[1])
         except safelorim.JsonError:
             pass
     parser = safelorim.Parser(float=decimal.Decimal)

@@ -99,9 +99,11 @@ static inline bool read_key(Builder *builder, bool first, PyObject **key) {
     return false;
   if (!more)
     return true;
-  *key = is_wide(builder, source.bytes, source.length)
-             ? wide_string(builder, source.bytes, source.length)
-             : short_key(builder->options->module, source.bytes, source.length);
+  if (is_wide(builder, source.bytes, source.length)) {
+    *key = wide_string(builder, source.bytes, source.length);
+    return *key != NULL;
+  }
+  *key = short_key(builder->options->module, source.bytes, source.length);
   if (!*key && !PyErr_Occurred()) {
     reader->index = start;
     *key = read_long_key(builder, first, &more);

@@ -101,8 +101,12 @@ bool grow_room(Builder *builder, size_t size);
 
 /* The value, or NULL; then an exception is set, or the UTF-8 must be read to know more. */
 PyObject *wide_value(const Options *options, PyObject *text);
+/* What stands for a character that isn't ASCII. */
+#define DEL 0x7F
 /* Whether these bytes between quotes stand for others. */
-bool is_wide(const Builder *builder, const char *raw, size_t length);
+static inline bool is_wide(const Builder *builder, const char *raw, size_t length) {
+  return builder->wide && memchr(raw, DEL, length) != NULL;
+}
 /* The string that they stand for. */
 PyObject *wide_string(Builder *builder, const char *raw, size_t length);
 

@@ -3,8 +3,6 @@
  * character, DEL for those; strings with a DEL are then taken from the str. If the copy is rejected, UTF-8 is made. */
 #include "safelorim.h"
 
-#define DEL 0x7F
-
 /* Writes the copy. Returns whether there is no unpaired surrogate. Inline, so that there is a loop for each kind. */
 static inline bool narrow(int kind, const void *text, Py_ssize_t count, unsigned char *out) {
   Py_UCS4 surrogates = 0;
@@ -48,10 +46,6 @@ PyObject *wide_string(Builder *builder, const char *raw, size_t length) {
   Py_XDECREF(source);
   Py_XDECREF(utf8);
   return text;
-}
-
-bool is_wide(const Builder *builder, const char *raw, size_t length) {
-  return builder->wide && memchr(raw, DEL, length) != NULL;
 }
 
 PyObject *wide_value(const Options *options, PyObject *text) {
