@@ -19,7 +19,7 @@ use crate::texts::write_prefix;
 use crate::values::{JiterValue, describe, memory_fault};
 use core::mem::{replace, replace_with};
 use jiter::{JsonArray, JsonObject, JsonValue};
-use jiter_scan::memory::{AllocFailed, extend, push};
+use jiter_scan::memory::{AllocFailed, extend, push, with_capacity};
 use std::alloc::{AllocError, Global};
 
 /// A value of a document, and where its parts, its text and its key are. The parts follow it in the table.
@@ -133,10 +133,30 @@ fn lay_members(
     Ok(())
 }
 
+// The capacity of the table: a table that grows costs as much again.
+#[cycle(count)]
+fn count_nodes(value: &JsonValue<'static>) -> usize {
+    let mut count = 1_usize;
+    match value {
+        JsonValue::Array(items) => {
+            for i in 0..items.len() {
+                count = count.saturating_add(count_nodes(&items[i]));
+            }
+        }
+        JsonValue::Object(members) => {
+            for i in 0..members.len() {
+                count = count.saturating_add(count_nodes(&members[i].1));
+            }
+        }
+        _ => {}
+    }
+    count
+}
+
 fn lay(alloc: Global, value: &JsonValue<'static>) -> Result<Walk, AllocFailed>
     ensures { IfOk result (IsWalkOf (view value.now)) }
 {
-    let mut nodes = Vec::new(alloc);
+    let mut nodes = with_capacity(alloc, count_nodes(value))?;
     let mut texts = Vec::new(alloc);
     lay_value(value, 0, 0, &mut nodes, &mut texts)?;
     Ok(Walk { nodes, texts })

@@ -12,6 +12,12 @@ fn document() -> Result<bool, Error> {
     Ok(found && document.key("", &[], 0)? == "k\"")
 }
 
+fn walk() -> Result<bool, Error> {
+    let walk = Document::parse(TEXT.as_bytes())?.walk()?;
+    let texts: Vec<_> = walk.root().children().filter_map(|it| it.text()).collect();
+    Ok(texts == ["0123456789012345678901234567890123456789"] && walk.root().children().count() == 2)
+}
+
 fn chunks() -> Result<bool, Error> {
     let mut parser = Parser::new(false, Mode::On)?;
     for chunk in TEXT.as_bytes().chunks(7) {
@@ -42,7 +48,7 @@ fn reader() -> Result<bool, Error> {
 
 fn main() -> ExitCode {
     let mut status = 0;
-    for call in [document, chunks, repeated, reader] {
+    for call in [document, walk, chunks, repeated, reader] {
         status = match call() {
             Ok(true) => status,
             Err(error) if error.is_memory() && error.to_string() == "out of memory" => 3,

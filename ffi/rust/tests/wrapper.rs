@@ -1,4 +1,4 @@
-use jiter_c::{Document, Error, Mode, Number, Parser, Reader, Result, Type, Value};
+use jiter_c::{Document, Error, Mode, Node, Number, Parser, Reader, Result, Type, Value, Walk};
 use std::borrow::Cow;
 
 /// A text of 100 bytes, which is longer than any first capacity of the wrapper that a text has.
@@ -141,6 +141,53 @@ fn looks_into_a_document() -> Result<()> {
     assert_eq!(document.at("/x", &[]), None);
     assert_eq!(document.print("/a", &[])?, r#"{"b":[true,"c",1e3,null]}"#);
     Ok(())
+}
+
+#[test]
+fn walks_through_a_document() -> Result<()> {
+    fn shown(node: Node<'_>) -> String {
+        let parts: Vec<_> = node.children().map(shown).collect();
+        let key = node.key().map_or(String::new(), |it| format!("{it}:"));
+        let value = match node.kind() {
+            Type::Array => format!("[{}]", parts.join(",")),
+            Type::Object => format!("{{{}}}", parts.join(",")),
+            Type::Int => node.value().integer.to_string(),
+            Type::Null | Type::Bool => format!("{:?}{}", node.kind(), node.value().truth),
+            _ => format!("{}{:?}", node.text().unwrap(), node.double()),
+        };
+        assert_eq!(parts.len(), if matches!(node.kind(), Type::Array | Type::Object) { node.value().length } else { 0 });
+        key + &value
+    }
+    let text = br#"{"a": [null, true, -7], "": {"\u0062": "c\td"}, "e": [2.50, 9223372036854775808, [], {}]}"#;
+    let walk = Document::parse(text)?.walk()?;
+    let wanted = "{a:[Nullfalse,Booltrue,-7],:{b:c\tdNone},e:[2.50Some(2.5),9223372036854775808Some(9.223372036854775807e18),[],{}]}";
+    assert_eq!(shown(walk.root()), wanted.replace("9.223372036854775807e18", "9.223372036854776e18"));
+    let last = walk.root().children().last().unwrap();
+    assert_eq!((last.key(), last.next_sibling().is_none()), (Some("e".into()), true));
+    assert_eq!((last.first_child().unwrap().first_child().is_none(), walk.root().key()), (true, None));
+    let moved = std::thread::spawn(move || shown(walk.root())).join().unwrap();
+    assert_eq!(moved.len(), wanted.len() - 3);
+    Ok(())
+}
+
+#[test]
+fn a_wrong_pointer_has_words() -> Result<()> {
+    let document = Document::parse(br#"{"a": 1, "~": 2}"#)?;
+    let told = |pointer: &str| document.print(pointer, &[]).unwrap_err().to_string();
+    assert_eq!(told("a"), r#""a" is not a JSON Pointer: it must be empty or begin with `/`"#);
+    assert_eq!(told("/~2"), r#""/~2" is not a JSON Pointer: a `~` must be followed by `0` or `1`"#);
+    assert_eq!(told("/~"), r#""/~" is not a JSON Pointer: a `~` must be followed by `0` or `1`"#);
+    assert_eq!(told("/b"), r#"the document has no such value at "/b", steps []"#);
+    assert_eq!(document.print("/~0", &[])?, "2");
+    Ok(())
+}
+
+#[test]
+fn handles_are_send() {
+    fn is_send<T: Send>() {}
+    is_send::<Document>();
+    is_send::<Walk>();
+    is_send::<Parser>();
 }
 
 #[test]
