@@ -1,16 +1,15 @@
 //! Scalars and keys. What is short and right is read in place. Any other outcome is a call that takes over the turn.
 ghost use Rattle.std.specs.Prelude.{◌≡◌, ◌≢◌, ◌+◌, ◌^◌, ◌≤◌, ◌<◌, ◌++◌, ◌∷◌, ℕ, List, [], IfOk, OnErr, if◌then◌else◌};
-ghost use Rattle.std.specs.Prelude.{false, length, pos, slice_get, slice_index, Some, true, vec_capacity, vec_len};
-ghost use Rattle.jiter_scan.specs.Ascii as ascii;
+ghost use Rattle.std.specs.Prelude.{false, length, pos, slice_index, true, vec_capacity, vec_len};
 ghost use Rattle.jiter_scan.specs.Kind.{fault_kind};
 ghost use Rattle.jiter_scan.specs.Number.{minus_of};
 ghost use Rattle.jiter_scan.specs.NumberDecoder.{number_view};
-ghost use Rattle.jiter_scan.specs.Scan.{scan_stop};
+ghost use Rattle.jiter_scan.specs.Scan.{IsLook, scan_stop};
 ghost use Rattle.jiter_scan.specs.Scanned.{taken};
 ghost use Rattle.jiter_steps.specs.Literal.{literal_tree, start_of};
 ghost use Rattle.jiter_steps.specs.Node.{number_tree, nesting_limit};
 ghost use Rattle.jiter_steps.specs.Read.{done, fault, value_at};
-ghost use Rattle.jiter_steps.specs.StringDecoder.{WantsMemory, text_view};
+ghost use Rattle.jiter_steps.specs.StringDecoder.{text_view};
 ghost use Rattle.jiter_steps.specs.StringReading.{string_at, whole};
 ghost use Rattle.jiter_steps.specs.Tree.{int};
 ghost use Rattle.jiter_steps.specs.declared.parse.Start.{Start};
@@ -32,16 +31,16 @@ use crate::value::JsonValue;
 use jiter_scan::errors::{FaultKind, fault_at};
 use jiter_scan::fast_number::{FastNumber, fast_number_at, signed};
 use jiter_scan::memory::{AllocFailed, copy_text};
-use jiter_scan::number_decoder::number_at;
+use jiter_scan::number_decoder::slow_number_at;
 use jiter_scan::number_extent::minus_end;
 use jiter_scan::short_scan::{Look, look_at};
 use jiter_scan::text::{ascii_text, utf8_text};
 use jiter_scan::{NumberAny, NumberInt};
-use jiter_steps::fast::{fast_literal_end, text_between};
+use jiter_steps::fast::fast_literal_end;
 use jiter_steps::parse::{ContainerKind, Literal, NESTING_LIMIT, Start, literal_end, start_of};
 use jiter_steps::read_error::ReadError;
 use jiter_steps::step::{colon, value_first};
-use jiter_steps::string_decoder::{decode_here, string_at};
+use jiter_steps::string_decoder::{checked_text, decode_inline, string_at};
 use std::borrow::CowStr;
 
 #[inline(always)]
@@ -132,7 +131,7 @@ fn slow_text_turn<'s, T: StringStorage<'s>>(
     }
 }
 
-// The string at `at`, whose closing quote is at `to` and whose bytes are not all below 80 hex.
+// The string at `at`, whose closing quote is at `to`, if its bytes are UTF-8. They are not all below 80 hex.
 #[cold]
 #[inline(never)]
 fn utf8_turn<'s, T: StringStorage<'s>>(
@@ -148,19 +147,23 @@ fn utf8_turn<'s, T: StringStorage<'s>>(
     requires begins { start_of (slice_index bytes.now at) ≡ Start.String }
     requires within { (at < to) × (to < length bytes.now) }
     requires stop { to ≡ scan_stop bytes.now (at + 1) }
-    requires quote { slice_get bytes.now to ≡ Some ascii.quote }
+    requires quote { IsLook bytes.now (at + 1) to Look.Utf8 }
     ensures { Turned T.made T.wants bytes.now at slot reading.old reading.new result }
 {
-    let Some(plain) = text_between(bytes, at, to) else {
-        return slow_text_turn(reading, texts, bytes, at, slot);
-    };
-    match keep_lent(texts, bytes, at + 1, plain) {
-        Ok(text) => put_and_go_on::<T>(reading, bytes, at, to + 1, slot, JsonValue::Str(text)),
-        Err(refused) => no_memory(&mut reading.stacks, refused, to + 1),
+    let keep = reading.settings.mode.allow_trailing_str();
+    match checked_text(bytes, at + 1, to, keep) {
+        Ok(plain) => match keep_lent(texts, bytes, at + 1, plain) {
+            Ok(text) => put_and_go_on::<T>(reading, bytes, at, to + 1, slot, JsonValue::Str(text)),
+            Err(refused) => no_memory(&mut reading.stacks, refused, to + 1),
+        },
+        Err(index) => {
+            let kind = FaultKind::InvalidUnicodeCodePoint;
+            fault_in_value::<T>(reading, bytes, at, index, kind, slot)
+        }
     }
 }
 
-// The string at `at`, which has a backslash.
+// The string at `at`, whose first backslash is at `stop`. `ascii` says whether all bytes before it are below 80 hex.
 #[cold]
 #[inline(never)]
 fn escaped_turn<'s, T: StringStorage<'s>>(
@@ -168,16 +171,19 @@ fn escaped_turn<'s, T: StringStorage<'s>>(
     texts: T,
     bytes: &[u8],
     at: usize,
+    stop: usize,
+    ascii: bool,
     slot: Slot,
 ) -> (usize, State)
     requires texts { T.of texts bytes.now }
     requires at_value { IsAtValue bytes.now reading.old.stacks slot at }
     requires begins { start_of (slice_index bytes.now at) ≡ Start.String }
-    requires backslash { WantsMemory bytes.now at }
+    requires stop { stop ≡ scan_stop bytes.now (at + 1) }
+    requires escaped { IsLook bytes.now (at + 1) stop (Look.Escaped ascii) }
     ensures { Turned T.made T.wants bytes.now at slot reading.old reading.new result }
 {
     let keep = reading.settings.mode.allow_trailing_str();
-    match decode_here(&mut reading.tape, bytes, at, keep) {
+    match decode_inline(&mut reading.tape, bytes, at, stop, ascii, keep) {
         Ok((count, end)) => {
             // An owned copy, made by one allocation of its exact length.
             let decoded = utf8_text(&reading.tape.as_slice()[..count]);
@@ -196,6 +202,31 @@ fn escaped_turn<'s, T: StringStorage<'s>>(
         }
         Err(ReadError::Memory(refused)) => no_memory(&mut reading.stacks, refused, at),
     }
+}
+
+// The string at `at` has an error at `index`, or the input ends there.
+#[cold]
+#[inline(never)]
+fn faulty_text_turn<'s, T: StringStorage<'s>>(
+    reading: &mut Reading<'s>,
+    texts: T,
+    bytes: &[u8],
+    at: usize,
+    index: usize,
+    kind: FaultKind,
+    slot: Slot,
+) -> (usize, State)
+    requires texts { T.of texts bytes.now }
+    requires at_value { IsAtValue bytes.now reading.old.stacks slot at }
+    requires begins { start_of (slice_index bytes.now at) ≡ Start.String }
+    requires stop { index ≡ scan_stop bytes.now (at + 1) }
+    requires found { IsLook bytes.now (at + 1) index (Look.Fault kind) }
+    ensures { Turned T.made T.wants bytes.now at slot reading.old reading.new result }
+{
+    if reading.settings.mode.allow_trailing_str() {
+        return slow_text_turn(reading, texts, bytes, at, slot);
+    }
+    fault_in_value::<T>(reading, bytes, at, index, kind, slot)
 }
 
 #[inline(always)]
@@ -218,8 +249,8 @@ fn text_turn<'s, T: StringStorage<'s>>(
             Err(refused) => no_memory(&mut reading.stacks, refused, to + 1),
         },
         Look::Utf8 => utf8_turn(reading, texts, bytes, at, to, slot),
-        Look::Escaped(_) => escaped_turn(reading, texts, bytes, at, slot),
-        Look::Fault(_) => slow_text_turn(reading, texts, bytes, at, slot),
+        Look::Escaped(ascii) => escaped_turn(reading, texts, bytes, at, to, ascii, slot),
+        Look::Fault(kind) => faulty_text_turn(reading, texts, bytes, at, to, kind, slot),
     }
 }
 
@@ -265,7 +296,7 @@ fn slow_number_turn<'s, T: StringStorage<'s>>(
     requires begins { start_of (slice_index bytes.now at) ≡ Start.Number }
     ensures { Turned T.made T.wants bytes.now at slot reading.old reading.new result }
 {
-    match number_at(bytes, at, reading.settings.allow_inf_nan) {
+    match slow_number_at(bytes, at, reading.settings.allow_inf_nan) {
         Ok((number, end)) => match number_value(texts, bytes, at, number) {
             Ok(value) => put_and_go_on::<T>(reading, bytes, at, end, slot, value),
             Err(refused) => no_memory(&mut reading.stacks, refused, end),
@@ -333,8 +364,9 @@ fn put_number<'s, T: StringStorage<'s>>(
     }
 }
 
+// `ONCE` and `SLOT` are those of [`turn_into`], so this has one caller, and is inlined although it is large.
 #[inline(always)]
-fn number_turn<'s, T: StringStorage<'s>>(
+fn number_turn<'s, T: StringStorage<'s>, const ONCE: bool, const SLOT: u8>(
     reading: &mut Reading<'s>,
     texts: T,
     bytes: &[u8],
@@ -443,7 +475,7 @@ pub fn turn_into<'s, T: StringStorage<'s>, const ONCE: bool, const SLOT: u8>(
         b'[' => begin::<T>(reading, bytes, at, slot, ContainerKind::Array),
         b'{' => begin::<T>(reading, bytes, at, slot, ContainerKind::Object),
         b'"' => text_turn(reading, texts, bytes, at, slot),
-        b'0'..=b'9' | b'-' => number_turn(reading, texts, bytes, at, slot),
+        b'0'..=b'9' | b'-' => number_turn::<T, ONCE, SLOT>(reading, texts, bytes, at, slot),
         b'n' => literal_turn::<T>(reading, bytes, at, slot, Literal::Null),
         b't' => literal_turn::<T>(reading, bytes, at, slot, Literal::True),
         b'f' => literal_turn::<T>(reading, bytes, at, slot, Literal::False),

@@ -1,4 +1,5 @@
-use Rattle.std.proofs.Common.{◌∙◌, ap, arith, refl, subst, sym, take, true}
+use Rattle.std.proofs.Common.{◌≡◌, ◌∙◌, ap, arith, refl, subst, sym, take, true}
+use Rattle.std.specs.Prelude.{slice_get, Some}
 use Rattle.jiter_scan.specs.Kind.{fault_kind}
 use Rattle.jiter_scan.proofs.Scanning.{ScalarWithin}
 use Rattle.jiter_steps.proofs.Grammar.StringLaws.{string_at-within}
@@ -54,23 +55,26 @@ fault_in_value-requires g c κs =
 pub returns-in-Err-keep : goal.returns-in-Err-keep
 returns-in-Err-keep g c =
     let a = c.args in
+    let backslash = subst (λ j. slice_get a.bytes.now j ≡ Some 92) c.requires.stop c.requires.escaped.0 in
     refused-turned g.T.StringStorage.made g.T.StringStorage.wants a.bytes.now a.at a.slot a.reading.now _ a.at _
     c.in-Err-keep.refused c.no_memory.ensures.place c.no_memory.ensures.error (omega arith)
     (omega (arith, c.requires.at_value.2))
-    (grows-decoded a.bytes.now a.at g.T.StringStorage.wants c.requires.begins c.requires.backslash) refl
+    (grows-decoded a.bytes.now a.at g.T.StringStorage.wants c.requires.begins backslash) refl
 
 pub returns-in-Err : goal.returns-in-Err
 returns-in-Err g c =
     let a = c.args in
+    let backslash = subst (λ j. slice_get a.bytes.now j ≡ Some 92) c.requires.stop c.requires.escaped.0 in
     refused-turned g.T.StringStorage.made g.T.StringStorage.wants a.bytes.now a.at a.slot a.reading.now _ a.at _
     c.in-Err.refused c.no_memory-in-Err.ensures.place c.no_memory-in-Err.ensures.error
     (omega arith) (omega (arith, c.requires.at_value.2))
-    (grows-decoded a.bytes.now a.at g.T.StringStorage.wants c.requires.begins c.requires.backslash) refl
+    (grows-decoded a.bytes.now a.at g.T.StringStorage.wants c.requires.begins backslash) refl
 
 pub returns-in-Err-Memory : goal.returns-in-Err-Memory
 returns-in-Err-Memory g c =
     let a = c.args in
+    let backslash = subst (λ j. slice_get a.bytes.now j ≡ Some 92) c.requires.stop c.requires.escaped.0 in
     refused-turned g.T.StringStorage.made g.T.StringStorage.wants a.bytes.now a.at a.slot a.reading.now _ a.at _
     c.in-Err-Memory.refused c.no_memory-in-Err-Memory.ensures.place c.no_memory-in-Err-Memory.ensures.error
     (omega arith) (omega (arith, c.requires.at_value.2))
-    (grows-decoded a.bytes.now a.at g.T.StringStorage.wants c.requires.begins c.requires.backslash) refl
+    (grows-decoded a.bytes.now a.at g.T.StringStorage.wants c.requires.begins backslash) refl

@@ -32,7 +32,7 @@ put_and_go_on-requires g c κs =
           λ levels. number-read g.T.StringStorage.made a.reading.now.settings a.bytes.now a.at n.end levels
               (number_view n.number) c.requires.begins n.ensures.value
               ∙ ap (λ x. done x n.end) (sym v.value),
-          (v.one, n.ensures.advances),
+          (v.one, n.ensures.place),
         ),
       ),
     )
@@ -43,7 +43,7 @@ returns-in-Err-number_value g c =
     let n = c.in-Ok in
     refused-turned g.T.StringStorage.made g.T.StringStorage.wants a.bytes.now a.at a.slot a.reading.now _ n.end _
     c.in-Err-number_value.refused c.no_memory.ensures.place c.no_memory.ensures.error
-    (omega (arith, n.ensures.advances.0)) n.ensures.advances.1
+    (omega (arith, n.ensures.place.0)) n.ensures.place.1
     (grows-kept a.bytes.now a.at g.T.StringStorage.wants start.Number c.requires.begins (λ h. cc) (λ h. cc)
     c.in-Err-number_value.ensures.memory)
     refl

@@ -1,5 +1,4 @@
-use Rattle.std.proofs.Common.{◌≡◌, ◌+◌, ◌∙◌, ap, arith, false, refl, subst, sym}
-use Rattle.std.specs.Prelude.{slice_get, Some}
+use Rattle.std.proofs.Common.{◌+◌, ◌∙◌, ap, arith, false, refl, sym}
 use Rattle.std.proofs.lemmas.Option.{slice_get_within}
 use Rattle.jiter_steps.proofs.Calls.FastAnswers.{plain-utf8}
 use Rattle.jiter_steps.proofs.Calls.Looks.{look-plain}
@@ -99,6 +98,16 @@ escaped_turn-requires g c κs =
       (refl, tt),
       (
         c.requires.texts,
-        (c.requires.at_value, (c.requires.begins, subst (λ j. slice_get c.args.bytes.now j ≡ Some 92) c.look_at-to.ensures.stop found.0)),
+        (c.requires.at_value, (c.requires.begins, (c.look_at-to.ensures.stop, found))),
+      ),
+    )
+
+pub faulty_text_turn-requires : goal.faulty_text_turn-requires
+faulty_text_turn-requires g c κs =
+    let found = rw c.in-Fault.is at c.look_at-to.ensures.means in (
+      (refl, tt),
+      (
+        c.requires.texts,
+        (c.requires.at_value, (c.requires.begins, (c.look_at-to.ensures.stop, found))),
       ),
     )

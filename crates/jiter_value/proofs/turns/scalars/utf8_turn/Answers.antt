@@ -1,11 +1,12 @@
-use Rattle.std.proofs.Common.{◌+◌, ◌∙◌, ap, arith, false, refl, sym}
+use Rattle.std.proofs.Common.{◌+◌, ◌∙◌, ap, arith, refl, sym}
+use Rattle.jiter_scan.specs.Kind.{invalid_code_point}
+use Rattle.jiter_steps.proofs.Calls.Looks.{look-checked}
 use Rattle.jiter_steps.specs.Read.{done}
-use Rattle.jiter_steps.specs.StringReading.{between}
 use Rattle.jiter_steps.specs.Tree.{string}
 use Rattle.jiter_steps.specs.declared.parse.Start.TheVariants as start
 use Rattle.jiter_value.specs.Size.{size}
-use Rattle.jiter_value.proofs.LentTexts.{range-lies}
-use Rattle.jiter_value.proofs.Placed.{text-read}
+use Rattle.jiter_value.proofs.LentTexts.{string-lent}
+use Rattle.jiter_value.proofs.Placed.{text-failed, text-taken}
 use Rattle.jiter_value.proofs.TurnOutcomes.{grows-kept, refused-turned}
 use Rattle.jiter_value.proofs.Views.{view_str}
 use Rattle.jiter_value.proofs.turns.scalars.utf8_turn.Goals as goal
@@ -13,13 +14,12 @@ use Rattle.jiter_value.proofs.turns.scalars.utf8_turn.Goals as goal
 pub keep_lent-requires : goal.keep_lent-requires
 keep_lent-requires g c κs =
     let a = c.args in
-    let to = a.to in
-    let within = c.requires.within in (
+    let t = a.bytes.now in
+    let keep = c.allow_trailing_str-keep.result in
+    let inside = c.requires.at_value.2 in
+    let read = look-checked t a.at a.to inside c.requires.stop c.requires.quote keep ∙ c.in-Ok.ensures.value (a.to + 1) in (
       (refl, tt),
-      (
-        c.requires.texts,
-        range-lies a.bytes.now (a.at + 1) to _ (omega (arith, within.0)) (omega (arith, within.1)) c.in-Some.ensures.text,
-      ),
+      (c.requires.texts, string-lent t keep a.at _ (a.to + 1) inside read refl),
     )
 
 pub put_and_go_on-requires : goal.put_and_go_on-requires
@@ -27,31 +27,48 @@ put_and_go_on-requires g c κs =
     let made = g.T.StringStorage.made in
     let a = c.args in
     let t = a.bytes.now in
-    let to = a.to in
-    let within = c.requires.within in
-    let kept = c.in-Ok.text in
-    let seen = view_str kept
-    ∙ ap string (c.in-Ok.ensures.value ∙ ap (λ w. made.text (record { owned = false; bytes = w })) c.in-Some.ensures.text) in (
+    let keep = c.allow_trailing_str-keep.result in
+    let read = look-checked t a.at a.to c.requires.at_value.2 c.requires.stop c.requires.quote keep
+    ∙ c.in-Ok.ensures.value (a.to + 1) in
+    let kept = c.in-Ok-keep_lent.text in
+    let seen = view_str kept ∙ ap string c.in-Ok-keep_lent.ensures.value in (
       (refl, tt),
       (
         c.requires.at_value,
         (
-          λ levels. text-read made a.reading.now.settings t a.at (to + 1) levels (between t (a.at + 1) to)
-              c.requires.begins c.in-Some.ensures.value
-              ∙ ap (λ x. done x (to + 1)) (sym seen),
-          (ap size (view_str kept), (omega (arith, within.0), omega (arith, within.1))),
+          λ levels. text-taken made a.reading.now.settings t a.at (a.to + 1) levels _ c.requires.begins
+              (rw c.allow_trailing_str-keep.ensures at read)
+              ∙ ap (λ x. done x (a.to + 1)) (sym seen),
+          (
+            ap size (view_str kept),
+            (omega (arith, c.requires.within.0), omega (arith, c.requires.within.1)),
+          ),
         ),
       ),
     )
 
-pub returns-in-Err : goal.returns-in-Err
-returns-in-Err g c =
+pub returns-in-Err-keep_lent : goal.returns-in-Err-keep_lent
+returns-in-Err-keep_lent g c =
     let a = c.args in
-    let to = a.to in
-    let within = c.requires.within in
-    refused-turned g.T.StringStorage.made g.T.StringStorage.wants a.bytes.now a.at a.slot a.reading.now _ (to + 1) _
-    c.in-Err.refused c.no_memory.ensures.place c.no_memory.ensures.error
-    (omega (arith, within.0)) (omega (arith, within.1))
+    refused-turned g.T.StringStorage.made g.T.StringStorage.wants a.bytes.now a.at a.slot a.reading.now _ (a.to + 1) _
+    c.in-Err-keep_lent.refused c.no_memory.ensures.place c.no_memory.ensures.error
+    (omega (arith, c.requires.within.0)) (omega (arith, c.requires.within.1))
     (grows-kept a.bytes.now a.at g.T.StringStorage.wants start.String c.requires.begins (λ h. cc) (λ h. cc)
-    c.in-Err.ensures.memory)
+    c.in-Err-keep_lent.ensures.memory)
     refl
+
+pub fault_in_value-requires : goal.fault_in_value-requires
+fault_in_value-requires g c κs =
+    let a = c.args in
+    let t = a.bytes.now in
+    let keep = c.allow_trailing_str-keep.result in
+    let wrong = c.in-Err in
+    let read = look-checked t a.at a.to c.requires.at_value.2 c.requires.stop c.requires.quote keep
+    ∙ wrong.ensures.value (a.to + 1) in (
+      (refl, tt),
+      (
+        c.requires.at_value,
+        λ levels. text-failed g.T.StringStorage.made a.reading.now.settings t a.at wrong.index levels
+            invalid_code_point c.requires.begins (rw c.allow_trailing_str-keep.ensures at read),
+      ),
+    )
