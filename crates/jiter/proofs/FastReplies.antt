@@ -19,12 +19,12 @@ use Rattle.jiter_steps.specs.declared.read_error.ReadError.TheVariants as error
 use Rattle.jiter_steps.specs.ReadError.{UnlessRefused}
 use Rattle.jiter_steps.specs.Step.{colon, more, step}
 use Rattle.jiter_steps.specs.StringDecoder.{WantsMemory}
-use Rattle.jiter_steps.specs.StringReading.{Form, string_at, text_form}
+use Rattle.jiter_steps.specs.StringReading.{Form, string_at, text_form, whole}
 use Rattle.jiter_steps.specs.Tree.{Text}
 use Rattle.jiter_steps.proofs.Grammar.Blanks.{past_blanks-after}
 use Rattle.jiter_steps.proofs.Grammar.StringLaws.{string_at-within}
-use Rattle.jiter.specs.Jiter.{BeginsAt, IsErrorAt, MovesOn, reply_seen, text_bytes}
-use Rattle.jiter.specs.Reader.{ReaderState, Refusal, gave, refused, scalar_reply, colon_reply, key_reply, with_position}
+use Rattle.jiter.specs.Jiter.{BeginsAt, IsErrorAt, MovesOn, key_bytes, reply_seen, text_bytes}
+use Rattle.jiter.specs.Reader.{ReaderState, Refusal, Reply, gave, refused, scalar_reply, colon_reply, key_reply, with_position}
 use Rattle.jiter.specs.Reader.{value_place, next, if_byte, member_reply, number_bytes_read, str_read}
 use Rattle.jiter.specs.Reads.{Reads, never, string_memory}
 use Rattle.jiter.specs.declared.errors.JiterError.{JiterError}
@@ -94,30 +94,12 @@ key-read {Y = Y} {view = view} {s1 = s1} {s2 = s2} u s0 x f i key y from is ahea
           (subst (λ j. Reads never (λ (k : Y). Some key) (colon_reply key (step s1.text colon j)) x s1 s2) place h)
 
 -- a plain key, and its colon
-pub plain-key : {Y : Type 0} {view : Y → Option Text} {s2 : ReaderState} (u s0 : ReaderState) (x : Result Y JiterError)
-    (f : Form) (i e : ℕ) (key : Text) (y : Y) → u ≡ s0 → string_at f u.text i ≡ taken key e → view y ≡ Some key → IfOk x (λ k. k ≡ y)
-    → Reads never (λ (k : Y). Some key) (colon_reply key (step s0.text colon e)) x s0 s2
-    → Reads never view (member_reply f s0.text (more i)) x s0 s2
-plain-key {Y = Y} {view = view} {s2 = s2} u s0 x f i e key y is read seen ok = subst P is by-u where
-  P : ReaderState → Type 0
-  P s = Reads never (λ (k : Y). Some key) (colon_reply key (step s.text colon e)) x s s2
-      → Reads never view (member_reply f s.text (more i)) x s s2
-
-  by-u : P u
-  by-u h = by x ok h where
-    reply : member_reply f u.text (more i) ≡ colon_reply key (step u.text colon e)
-    reply = ap (key_reply u.text i) read
-
-    by : (x : Result Y JiterError) → IfOk x (λ k. k ≡ y)
-        → Reads never (λ (k : Y). Some key) (colon_reply key (step u.text colon e)) x u s2
-        → Reads never view (member_reply f u.text (more i)) x u s2
-    by (Ok k) is h = record {
-      moves = h.moves;
-      value = reply ∙ h.value ∙ ap (λ o. gave o s2.position) (sym (ap view is ∙ seen));
-      index = tt;
-      memory = tt;
-    }
-    by (Err d) is h = record { moves = h.moves; value = reply ∙ h.value; index = h.index; memory = h.memory }
+pub plain-key : (u s0 : ReaderState) (i e end : ℕ) (key : Text) → u ≡ s0 → string_at whole u.text i ≡ taken key e
+    → step u.text colon e ≡ taken tt end
+    → reply_seen key_bytes (member_reply whole s0.text (more i)) ≡ gave (Some key.bytes) end
+plain-key u s0 i e end key is read past =
+    ap (λ (s : ReaderState). reply_seen key_bytes (member_reply whole s.text (more i))) (sym is)
+    ∙ ap (λ x. reply_seen key_bytes (key_reply u.text i x)) read ∙ ap (λ x. reply_seen key_bytes (colon_reply key x)) past
 
 slice-first : (t : List ℕ) (b e : ℕ) → b < e → e ≤ length t
     → slice_range t b e ≡ slice_index t b ∷ slice_range t (b + 1) e
@@ -257,3 +239,19 @@ undecoded view seen v s i x e is place quote needs wrong = subst P (sym is) (by 
           ),
         );
       }
+
+-- The number at the reader's position ends at e.
+pub number-given : {X A : Type 0} (view : X → A) (a : X) (reply : ReaderState → Reply A) (v s : ReaderState) (i j e : ℕ)
+    → v ≡ s → v.position ≡ i → i ≤ j → j < e → e ≤ length v.text → reply v ≡ gave (view a) e
+    → Reads never view (reply s) (Ok a) s (with_position v e)
+number-given view a reply v s i j e is here start some within value = subst P is by-v where
+  P : ReaderState → Type 0
+  P s = Reads never view (reply s) (Ok a) s (with_position v e)
+
+  by-v : P v
+  by-v = record {
+    moves = record { same = refl; forward = omega (arith, here, start, some); within = within };
+    value = value;
+    index = tt;
+    memory = tt;
+  }

@@ -63,14 +63,14 @@ read-never (only_at At) {x = Err e} h =
     record { moves = h.moves; value = λ m. h.value; index = h.index; memory = λ m. absurd (h.memory m) }
 
 -- What comes next is of another type: the error of the value there.
-pub other-refused : (s : ReaderState) (w : ValueType) (v : ReaderState) (i c : ℕ) (e : JiterError) → v ≡ s
+pub other-refused : {X : Type 0} (s : ReaderState) (w : ValueType) (v : ReaderState) (i c : ℕ) (e : JiterError) → v ≡ s
     → i ≡ value_place s → s.position ≤ i → i ≤ length s.text → slice_get v.text i ≡ Some c
     → refusal_view e ≡ type_refusal v i w (start_of c) → IsRefusalOf v.text e
-    → Stops (next s (λ i b. refused_as s i w b)) e s (with_position v i)
-other-refused s w v i c e is place = subst P (sym is) here where
+    → Stops {X = X} (next s (λ i b. refused_as s i w b)) (Err e) s (with_position v i)
+other-refused {X = X} s w v i c e is place = subst P (sym is) here where
   P : ReaderState → Type 0
   P v = s.position ≤ i → i ≤ length s.text → slice_get v.text i ≡ Some c → refusal_view e ≡ type_refusal v i w (start_of c)
-      → IsRefusalOf v.text e → Stops (next s (λ i b. refused_as s i w b)) e s (with_position v i)
+      → IsRefusalOf v.text e → Stops {X = X} (next s (λ i b. refused_as s i w b)) (Err e) s (with_position v i)
 
   here : P s
   here ahead within byte wrong bytes =

@@ -1,5 +1,5 @@
 -- What every read of the pull reader promises.
-use Rattle.std.specs.Prelude.{◌≡◌, ◌≤◌, ◌+◌, ◌⊎◌, ℕ, List, Result, Err}
+use Rattle.std.specs.Prelude.{◌≡◌, ◌≤◌, ◌+◌, ◌⊎◌, ℕ, List, Result}
 use Rattle.jiter_steps.specs.Answer.{read_at}
 use Rattle.jiter_steps.specs.Step.{Step, more, step, object_first, object_step}
 use Rattle.jiter_steps.specs.StringDecoder.{WantsMemory}
@@ -41,8 +41,8 @@ pub record Reads {X A : Type 0} (when : Memory) (view : X → A) (reply : Reply 
   pub memory : WhereMemory result (RunsOut when new)
 
 -- How a read fails for the bytes, whatever it would have returned.
-abbrev pub Stops : Reply (Unit {0}) → JiterError → ReaderState → ReaderState → Type 0
-Stops reply e old new = Reads {X = Unit {0}} never (λ u. u) reply (Err e) old new
+abbrev pub Stops : {X : Type 0} → Reply (Unit {0}) → Result X JiterError → ReaderState → ReaderState → Type 0
+Stops reply result old new = Reads never (λ _. tt) reply result old new
 
 -- The same of a read whose result is borrowed from the reader: of the reader once the borrow ends.
 abbrev pub Lends : {X A : Type 0} → Memory → (X → A) → Reply A → Result X JiterError → ReaderState → Type 0

@@ -344,20 +344,20 @@ impl<'j> Jiter<'j> {
         }
     }
 
-    // Moves to an error of the bytes and returns it.
+    // Moves to an error of the bytes and returns it. The result is made here, so that a caller holds no part of it.
     #[cold]
     #[inline(never)]
-    fn cold_stop(&mut self, kind: FaultKind, index: usize) -> JiterError
+    fn cold_stop<T: Drop>(&mut self, kind: FaultKind, index: usize) -> JiterResult<T>
         requires { (self.old.position ≤ index) × (index ≤ length self.old.text) }
         ensures { Stops (refused (json_error (fault_kind kind)) index index) result self.old self.new }
     {
         self.parser.index = index;
-        refusal(fault_at(kind, index))
+        Err(refusal(fault_at(kind, index)))
     }
 
     // A function of its own: otherwise the fast path would reserve stack space for the result of this call.
     #[inline(always)]
-    fn stop(&mut self, kind: FaultKind, index: usize) -> JiterError
+    fn stop<T: Drop>(&mut self, kind: FaultKind, index: usize) -> JiterResult<T>
         requires { (self.old.position ≤ index) × (index ≤ length self.old.text) }
         ensures { Stops (refused (json_error (fault_kind kind)) index index) result self.old self.new }
     {
@@ -368,7 +368,7 @@ impl<'j> Jiter<'j> {
     // that passed it on would hold it in a register on the fast path.
     #[cold]
     #[inline(never)]
-    fn cold_stop_at(&mut self, wanted: JsonType, at: usize) -> JiterError
+    fn cold_stop_at<T: Drop>(&mut self, wanted: JsonType, at: usize) -> JiterResult<T>
         requires place { at ≡ value_place self.old }
         requires within { (self.old.position ≤ at) × (at ≤ length self.old.text) }
         ensures { Stops (next self.old (λ i b. refused_as self.old i (type_of wanted) b)) result
@@ -376,14 +376,14 @@ impl<'j> Jiter<'j> {
     {
         self.parser.index = at;
         match byte_at(self.parser.bytes, at) {
-            Some(byte) => self.refused_as(wanted, start_of(byte)),
-            None => refusal(fault_at(FaultKind::EofWhileParsingValue, at)),
+            Some(byte) => Err(self.refused_as(wanted, start_of(byte))),
+            None => Err(refusal(fault_at(FaultKind::EofWhileParsingValue, at))),
         }
     }
 
     // The same reason as for `stop`.
     #[inline(always)]
-    fn stop_at(&mut self, wanted: JsonType, at: usize) -> JiterError
+    fn stop_at<T: Drop>(&mut self, wanted: JsonType, at: usize) -> JiterResult<T>
         requires place { at ≡ value_place self.old }
         requires within { (self.old.position ≤ at) × (at ≤ length self.old.text) }
         ensures { Stops (next self.old (λ i b. refused_as self.old i (type_of wanted) b)) result

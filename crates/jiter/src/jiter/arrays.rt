@@ -32,7 +32,7 @@ impl<'j> Jiter<'j> {
                 self.parser.index = at;
                 Ok(None)
             }
-            (at, Step::Fault(kind)) => Err(self.stop(kind, at)),
+            (at, Step::Fault(kind)) => self.stop(kind, at),
         }
     }
 
@@ -71,7 +71,7 @@ impl<'j> Jiter<'j> {
                 let found = first(self.parser.bytes, at + 1, ContainerKind::Array);
                 self.item(found)
             }
-            (at, _) => Err(self.stop_at(JsonType::Array, at)),
+            (at, _) => self.stop_at(JsonType::Array, at),
         }
     }
 

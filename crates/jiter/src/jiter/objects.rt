@@ -1,6 +1,6 @@
 //! The pull reader's steps through objects.
 ghost use Rattle.std.specs.Borrow.{sem};
-ghost use Rattle.std.specs.Prelude.{◌≡◌, ◌<◌, ◌≤◌, ◌+◌, IfErr, IfOk, OnOk, Some, length, option_map, slice_get};
+ghost use Rattle.std.specs.Prelude.{◌≡◌, ◌<◌, ◌≤◌, ◌+◌, IfErr, IfOk, IfSome, None, OnOk, Some, length, option_map, slice_get};
 ghost use Rattle.std.specs.Prelude.{Option};
 ghost use Rattle.jiter_scan.specs.Ascii as ascii;
 ghost use Rattle.jiter_steps.specs.Found.{step_of};
@@ -9,9 +9,9 @@ ghost use Rattle.jiter_steps.specs.Step.{more, step, colon, object_first, object
 ghost use Rattle.jiter_steps.specs.StringDecoder.{text_view};
 ghost use Rattle.jiter_steps.specs.StringReading.{Form, whole, raw};
 ghost use Rattle.jiter_steps.specs.Tree.{Text};
-ghost use Rattle.jiter.specs.Reader.{value_place, next, known, colon_reply, member_reply, object_read};
+ghost use Rattle.jiter.specs.Reader.{value_place, next, known, gave, colon_reply, member_reply, object_read};
 ghost use Rattle.jiter.specs.Reader.{key_step, position_after};
-ghost use Rattle.jiter.specs.Jiter.{reply_seen, key_bytes, StandsAt};
+ghost use Rattle.jiter.specs.Jiter.{MovesOn, reply_seen, key_bytes, StandsAt, indexed_key_view};
 ghost use Rattle.jiter.specs.Jiter.{StandsBefore, EndsWithColon, KeyIsAt, indexed_key_bytes};
 ghost use Rattle.jiter.specs.Reads.{Lends, Reads, never, key_memory, first_key_memory, next_key_memory};
 ghost use Rattle.jiter.specs.Lending.{LeavesReader};
@@ -40,7 +40,7 @@ impl<'j> Jiter<'j> {
     {
         match peek_for(self.parser.bytes, self.parser.index, b'{') {
             (at, Some(b'{')) => Ok(first(self.parser.bytes, at + 1, ContainerKind::Object)),
-            (at, _) => Err(self.stop_at(JsonType::Object, at)),
+            (at, _) => self.stop_at(JsonType::Object, at),
         }
     }
 
@@ -58,37 +58,130 @@ impl<'j> Jiter<'j> {
                 self.parser.index = end;
                 Ok(key)
             }
-            (at, Some(kind)) => Err(self.stop(kind, at)),
+            (at, Some(kind)) => self.stop(kind, at),
         }
     }
 
-    // Reads the key at `at` and its colon.
-    #[inline(never)]
-    fn take_key(&mut self, alloc: Global, at: usize) -> JiterResult<CowStr<'j>>
-        requires { (self.old.position ≤ at) × (at < length self.old.text) }
-        ensures reads { Reads (key_memory self.old.text (more at)) (λ key. Some (text_view key))
-            (member_reply whole self.old.text (more at)) result self.old self.new }
-        ensures colon { OnOk result (StandsBefore self.old.text self.new.position ascii.colon) }
+    // Reads the plain key that a step found and its colon, or moves past the end of the object (`Some(None)`). Otherwise
+    // returns `None` and stays.
+    #[inline(always)]
+    fn plain_key(&mut self, found: (usize, Step)) -> Option<Option<&'j str>>
+        requires within { (self.old.position ≤ found.0) × (found.0 ≤ length self.old.text) }
+        requires part { found.1 ≡ Step.Part → found.0 < length self.old.text }
+        ensures moves { MovesOn self.old self.new }
+        ensures value { IfSome result
+            (λ key. reply_seen key_bytes (member_reply whole self.old.text (step_of found.0 found.1))
+            ≡ gave (option_map (λ x. x.now) key) self.new.position) }
+        ensures colon { IfSome result
+            (λ key. IfSome key (λ _. StandsBefore self.old.text self.new.position ascii.colon)) }
+        ensures index { IfSome result (λ key. IfSome key (λ _. found.1 ≡ Step.Part)) }
+        ensures same { result ≡ None → self.new ≡ self.old }
     {
-        self.parser.index = at;
-        let text = self.string(alloc, false)?;
-        self.past_colon(self.parser.index, text)
+        match found {
+            (at, Step::Part) => {
+                let Ok(key) = fast_text(self.parser.bytes, at) else {
+                    return None;
+                };
+                match colon(self.parser.bytes, at + key.len() + 2) {
+                    (end, None) => {
+                        self.parser.index = end;
+                        Some(Some(key))
+                    }
+                    _ => None,
+                }
+            }
+            (at, Step::End) => {
+                self.parser.index = at;
+                Some(None)
+            }
+            _ => None,
+        }
+    }
+
+    // Reads what the fast path can't, or returns the error that the step found.
+    #[inline(never)]
+    fn take_key(
+        &mut self,
+        alloc: Global,
+        found: (usize, Step),
+    ) -> JiterResult<Option<(CowStr<'j>, usize)>>
+        requires within { (self.old.position ≤ found.0) × (found.0 ≤ length self.old.text) }
+        requires part { found.1 ≡ Step.Part → found.0 < length self.old.text }
+        ensures reads { Reads (key_memory self.old.text (step_of found.0 found.1)) (option_map indexed_key_view)
+            (member_reply whole self.old.text (step_of found.0 found.1)) result self.old self.new }
+        ensures colon { EndsWithColon result self.old.text self.new.position }
+        ensures index { KeyIsAt (step_of found.0 found.1) result }
+    {
+        match found {
+            (at, Step::Part) => {
+                self.parser.index = at;
+                let text = self.string(alloc, false)?;
+                self.past_colon(self.parser.index, Some((text, at)))
+            }
+            (at, Step::End) => {
+                self.parser.index = at;
+                Ok(None)
+            }
+            (at, Step::Fault(kind)) => self.stop(kind, at),
+        }
     }
 
     // A function of its own: otherwise the fast path would reserve stack space for the result of `take_key`.
     #[inline(always)]
-    fn slow_key_cow(&mut self, alloc: Global, at: usize) -> JiterResult<Option<(CowStr<'j>, usize)>>
-        requires { (self.old.position ≤ at) × (at < length self.old.text) }
-        ensures reads { Reads (key_memory self.old.text (more at)) (option_map indexed_key_bytes)
-            (reply_seen key_bytes (member_reply whole self.old.text (more at))) result self.old self.new }
-        ensures colon { EndsWithColon result self.old.text self.new.position }
-        ensures index { KeyIsAt (more at) result }
+    fn slow_key(&mut self, alloc: Global, found: (usize, Step)) -> JiterResult<Option<&str>>
+        requires within { (self.old.position ≤ found.0) × (found.0 ≤ length self.old.text) }
+        requires part { found.1 ≡ Step.Part → found.0 < length self.old.text }
+        ensures reads { Lends (key_memory self.old.text (step_of found.0 found.1)) (option_map (λ x. x.now))
+            (reply_seen key_bytes (member_reply whole self.old.text (step_of found.0 found.1))) result self.old }
+        ensures colon { EndsWithColon result self.old.text
+            (position_after (member_reply whole self.old.text (step_of found.0 found.1))) }
+        ensures* after { sem 𝓛 (LeavesReader (key_memory self.old.text (step_of found.0 found.1)) (option_map (λ x. x.now))
+            (reply_seen key_bytes (member_reply whole self.old.text (step_of found.0 found.1))) result self.entry) }
     {
-        let text = self.take_key(alloc, at)?;
-        Ok(Some((text, at)))
+        let key = self.take_key(alloc, found)?;
+        match key {
+            Some((text, _)) => {
+                self.text = text;
+                Ok(Some(self.text.as_str()))
+            }
+            None => Ok(None),
+        }
     }
 
-    // Moves to where a step ended. Reads the key there and its colon.
+    #[inline(always)]
+    fn key(&mut self, alloc: Global, found: (usize, Step)) -> JiterResult<Option<&str>>
+        requires within { (self.old.position ≤ found.0) × (found.0 ≤ length self.old.text) }
+        requires part { found.1 ≡ Step.Part → found.0 < length self.old.text }
+        ensures reads { Lends (key_memory self.old.text (step_of found.0 found.1)) (option_map (λ x. x.now))
+            (reply_seen key_bytes (member_reply whole self.old.text (step_of found.0 found.1))) result self.old }
+        ensures colon { EndsWithColon result self.old.text
+            (position_after (member_reply whole self.old.text (step_of found.0 found.1))) }
+        ensures* after { sem 𝓛 (LeavesReader (key_memory self.old.text (step_of found.0 found.1)) (option_map (λ x. x.now))
+            (reply_seen key_bytes (member_reply whole self.old.text (step_of found.0 found.1))) result self.entry) }
+    {
+        if let Some(key) = self.plain_key(found) {
+            return Ok(key);
+        }
+        self.slow_key(alloc, found)
+    }
+
+    #[inline(always)]
+    fn slow_key_cow(
+        &mut self,
+        alloc: Global,
+        found: (usize, Step),
+    ) -> JiterResult<Option<(CowStr<'j>, usize)>>
+        requires within { (self.old.position ≤ found.0) × (found.0 ≤ length self.old.text) }
+        requires part { found.1 ≡ Step.Part → found.0 < length self.old.text }
+        ensures reads { Reads (key_memory self.old.text (step_of found.0 found.1)) (option_map indexed_key_bytes)
+            (reply_seen key_bytes (member_reply whole self.old.text (step_of found.0 found.1)))
+            result self.old self.new }
+        ensures colon { EndsWithColon result self.old.text self.new.position }
+        ensures index { KeyIsAt (step_of found.0 found.1) result }
+    {
+        self.take_key(alloc, found)
+    }
+
     #[inline(always)]
     fn key_cow(
         &mut self,
@@ -103,42 +196,10 @@ impl<'j> Jiter<'j> {
         ensures colon { EndsWithColon result self.old.text self.new.position }
         ensures index { KeyIsAt (step_of found.0 found.1) result }
     {
-        match found {
-            (at, Step::Part) => match fast_text(self.parser.bytes, at) {
-                Ok(text) => {
-                    let key = (CowStr::Borrowed(text), at);
-                    self.past_colon(at + text.len() + 2, Some(key))
-                }
-                Err(_) => self.slow_key_cow(alloc, at),
-            },
-            (at, Step::End) => {
-                self.parser.index = at;
-                Ok(None)
-            }
-            (at, Step::Fault(kind)) => Err(self.stop(kind, at)),
-        }
-    }
-
-    // Lends the key from the document, or from the reader if it has an escape.
-    #[inline(always)]
-    fn key(&mut self, alloc: Global, found: (usize, Step)) -> JiterResult<Option<&str>>
-        requires within { (self.old.position ≤ found.0) × (found.0 ≤ length self.old.text) }
-        requires part { found.1 ≡ Step.Part → found.0 < length self.old.text }
-        ensures reads { Lends (key_memory self.old.text (step_of found.0 found.1)) (option_map (λ x. x.now))
-            (reply_seen key_bytes (member_reply whole self.old.text (step_of found.0 found.1))) result self.old }
-        ensures colon { EndsWithColon result self.old.text
-            (position_after (member_reply whole self.old.text (step_of found.0 found.1))) }
-        ensures* after { sem 𝓛 (LeavesReader (key_memory self.old.text (step_of found.0 found.1)) (option_map (λ x. x.now))
-            (reply_seen key_bytes (member_reply whole self.old.text (step_of found.0 found.1))) result self.entry) }
-    {
-        let key = self.key_cow(alloc, found)?;
-        match key {
-            Some((CowStr::Borrowed(text), _)) => Ok(Some(text)),
-            Some((text, _)) => {
-                self.text = text;
-                Ok(Some(self.text.as_str()))
-            }
-            None => Ok(None),
+        match self.plain_key(found) {
+            Some(Some(text)) => Ok(Some((CowStr::Borrowed(text), found.0))),
+            Some(None) => Ok(None),
+            None => self.slow_key_cow(alloc, found),
         }
     }
 
@@ -159,7 +220,7 @@ impl<'j> Jiter<'j> {
                 self.parser.index = at;
                 Ok(None)
             }
-            (at, Step::Fault(kind)) => Err(self.stop(kind, at)),
+            (at, Step::Fault(kind)) => self.stop(kind, at),
         }
     }
 
