@@ -5,7 +5,7 @@ use Rattle.jiter_scan.specs.NumberReading.{number_at}
 use Rattle.jiter_scan.specs.Scanned.{taken}
 use Rattle.jiter_scan.proofs.FastNumberValues.{short-signed, short-signed_float}
 use Rattle.jiter_scan.proofs.NumberBytes.{IsAscii-decimal, IsMinusTo-le}
-use Rattle.jiter.specs.Reader.{ReaderState, gave, scalar_reply}
+use Rattle.jiter.specs.Reader.{ReaderState, scalar_reply}
 use Rattle.jiter.proofs.FastReplies.{number-given}
 use Rattle.jiter.proofs.jiter.Jiter.number.Goals as goal
 
