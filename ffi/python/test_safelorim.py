@@ -21,6 +21,7 @@ import subprocess
 import sys
 import textwrap
 import threading
+import time
 import unittest
 
 import safelorim
@@ -233,23 +234,30 @@ class Loads(unittest.TestCase):
             self.assertEqual(self.rejected(b'[{"a": 1, "a": "x', partial=partial, unique=True).kind, 23)
 
     def test_interrupt(self):
-        """Ctrl-C ends a call before the error at the document's end is found."""
-        text = "[" + "[], " * 3_000_000 + "]"
+        """Ctrl-C ends a call long before its document is read. Time is that of the processor."""
+        text = "[" + "[], " * 3_000_000 + "1]"
 
         def interrupt(number, frame):
             raise KeyboardInterrupt
 
-        before = signal.signal(signal.SIGALRM, interrupt)
+        def seconds():
+            start = time.process_time()
+            try:
+                safelorim.loads(text)
+                return time.process_time() - start, False
+            except KeyboardInterrupt:
+                return time.process_time() - start, True
+
+        whole, _ = seconds()
+        before = signal.signal(signal.SIGPROF, interrupt)
         try:
-            signal.setitimer(signal.ITIMER_REAL, 0.01)
-            safelorim.loads(text)
-        except KeyboardInterrupt as raised:
-            self.assertIsNone(raised.__context__)
-        except safelorim.JsonError:
-            self.fail("the call was not interrupted")
+            signal.setitimer(signal.ITIMER_PROF, 0.01)
+            part, is_interrupted = seconds()
         finally:
-            signal.setitimer(signal.ITIMER_REAL, 0)
-            signal.signal(signal.SIGALRM, before)
+            signal.setitimer(signal.ITIMER_PROF, 0)
+            signal.signal(signal.SIGPROF, before)
+        self.assertTrue(is_interrupted)
+        self.assertLess(part, whole / 2)
 
 
 class Chunks(unittest.TestCase):
@@ -519,14 +527,15 @@ class Memory(unittest.TestCase):
         for _ in range(1000):
             all_calls(text, "[1, [2, {\"k\": 3,}]]")
         gc.collect()
-        blocks, memory, counts = sys.getallocatedblocks(), self.memory(), [sys.getrefcount(it) for it in (None, True, 1, "a")]
+        shared = (None, True, 1, *safelorim.loads('{"a": 1}'))
+        blocks, memory, counts = sys.getallocatedblocks(), self.memory(), [sys.getrefcount(it) for it in shared]
         for _ in range(ROUNDS):
             all_calls(text, "[1, [2, {\"k\": 3,}]]")
         gc.collect()
         self.assertLess(abs(sys.getallocatedblocks() - blocks), 500)
         if "PYTHONMALLOC" not in os.environ:  # the sanitizers' allocator keeps what is freed
             self.assertLess(self.memory() - memory, 4 << 20)
-        for it, before in zip((None, True, 1, "a"), counts):
+        for it, before in zip(shared, counts):
             self.assertLess(abs(sys.getrefcount(it) - before), 500, it)
 
     def test_cycles_are_collected(self):

@@ -60,8 +60,6 @@ static PyObject *read_part(Builder *builder, size_t from, size_t to, bool comple
 static PyObject *text_up_to(Builder *builder, size_t from, size_t cut) {
   size_t end = 0;
   PyObject *text = read_part(builder, from, cut, true, &end);
-  if (text && end != cut + 1)
-    Py_CLEAR(text);
   if (!text || !builder->settled_text)
     return text;
   PyObject *both = PyUnicode_Concat(builder->settled_text, text);
