@@ -21,6 +21,7 @@ import subprocess
 import sys
 import textwrap
 import threading
+import time
 import unittest
 
 import safelorim
@@ -34,7 +35,7 @@ CORPUS = [
     "null", "true", " false ", "0", "-0", "12", "-7", "9223372036854775807", "9223372036854775808", "1" * 400,
     "1.5", "-2.50e-3", "1E400", "0.1e+2", '""', '"a"', '"\\u00e9\\n\\"\\\\\\/"', '"\\ud83d\\ude00"', '"é😀"', "[]", "{}",
     "[1, [2.0, []], {\"k\": null}]", '{"a": 1, "b": [true], "a": 2}', '{"\\u0061": {"b": {}}}', "NaN", "[Infinity, -Infinity]",
-    "[" * 200 + "]" * 200, '"\\u0000\\u001f\\u007f"', '["é\\n\x7f", "\x7f", "a\x7f中"]', '{"ké\\t\x7f": "\x7f", "é": {"中\\"": "\\u4e2d"}, "\x7f": "\\\\é"}',
+    "[" * 201 + "]" * 201, '{"a":' * 200 + "{}" + "}" * 200, '[{"a":' * 100 + "1" + "}]" * 100, '"\\u0000\\u001f\\u007f"', '["é\\n\x7f", "\x7f", "a\x7f中"]', '{"ké\\t\x7f": "\x7f", "é": {"中\\"": "\\u4e2d"}, "\x7f": "\\\\é"}',
     '["%s", "é"]' % ("\\n" * 3000), '["%s"]' % ("é\\n" * 3000),
 ]
 REJECTED = [
@@ -92,7 +93,7 @@ class Loads(unittest.TestCase):
 
     def test_rejects_what_json_accepts(self):
         for text, kind, index in (
-            ("[" * 202 + "]" * 202, 21, 201), ('"\\ud83d"', 20, 7), ('"\\udc00"', 17, 6), ("NaN", 10, 0), ("[-Infinity]", 12, 2),
+            ("[" * 202 + "]" * 202, 21, 201), ('{"a":' * 201 + "1" + "}" * 201, 21, 1005), ('"\\ud83d"', 20, 7), ('"\\udc00"', 17, 6), ("NaN", 10, 0), ("[-Infinity]", 12, 2),
         ):
             json.loads(text)
             error = self.rejected(text)
@@ -180,6 +181,9 @@ class Loads(unittest.TestCase):
         keys = [list(it)[0] for it in (*one, other)]
         self.assertIs(keys[0], keys[1])
         self.assertIs(keys[0], keys[2])
+        for key, is_kept in (("k" * 64, True), ("k" * 65, False), ("ké", False)):
+            one, other = (list(safelorim.loads(json.dumps({key: 1}, ensure_ascii=False)))[0] for _ in range(2))
+            self.assertEqual((one, one is other), (key, is_kept))
 
     def test_long_texts(self):
         for count in (1, 2, 3, 4, 5, 7, 8, 9, 15, 16, 17, 31, 32, 33, 63, 64, 65, 99, 100, 4095, 4096, 70000):
@@ -230,20 +234,30 @@ class Loads(unittest.TestCase):
             self.assertEqual(self.rejected(b'[{"a": 1, "a": "x', partial=partial, unique=True).kind, 23)
 
     def test_interrupt(self):
+        """Ctrl-C ends a call long before its document is read. Time is that of the processor."""
         text = "[" + "[], " * 3_000_000 + "1]"
 
         def interrupt(number, frame):
             raise KeyboardInterrupt
 
-        before = signal.signal(signal.SIGALRM, interrupt)
+        def seconds():
+            start = time.process_time()
+            try:
+                safelorim.loads(text)
+                return time.process_time() - start, False
+            except KeyboardInterrupt:
+                return time.process_time() - start, True
+
+        whole, _ = seconds()
+        before = signal.signal(signal.SIGPROF, interrupt)
         try:
-            signal.setitimer(signal.ITIMER_REAL, 0.01)
-            with self.assertRaises(KeyboardInterrupt):
-                for _ in range(100):
-                    safelorim.loads(text)
+            signal.setitimer(signal.ITIMER_PROF, 0.01)
+            part, is_interrupted = seconds()
         finally:
-            signal.setitimer(signal.ITIMER_REAL, 0)
-            signal.signal(signal.SIGALRM, before)
+            signal.setitimer(signal.ITIMER_PROF, 0)
+            signal.signal(signal.SIGPROF, before)
+        self.assertTrue(is_interrupted)
+        self.assertLess(part, whole / 2)
 
 
 class Chunks(unittest.TestCase):
@@ -513,14 +527,15 @@ class Memory(unittest.TestCase):
         for _ in range(1000):
             all_calls(text, "[1, [2, {\"k\": 3,}]]")
         gc.collect()
-        blocks, memory, counts = sys.getallocatedblocks(), self.memory(), [sys.getrefcount(it) for it in (None, True, 1, "a")]
+        shared = (None, True, 1, *safelorim.loads('{"a": 1}'))
+        blocks, memory, counts = sys.getallocatedblocks(), self.memory(), [sys.getrefcount(it) for it in shared]
         for _ in range(ROUNDS):
             all_calls(text, "[1, [2, {\"k\": 3,}]]")
         gc.collect()
         self.assertLess(abs(sys.getallocatedblocks() - blocks), 500)
         if "PYTHONMALLOC" not in os.environ:  # the sanitizers' allocator keeps what is freed
             self.assertLess(self.memory() - memory, 4 << 20)
-        for it, before in zip((None, True, 1, "a"), counts):
+        for it, before in zip(shared, counts):
             self.assertLess(abs(sys.getrefcount(it) - before), 500, it)
 
     def test_cycles_are_collected(self):

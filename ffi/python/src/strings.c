@@ -5,6 +5,8 @@
 #ifndef UNSETTLED
 #define UNSETTLED 256
 #endif
+/* The longest character, of two escapes. */
+#define LONGEST_CHARACTER 12
 
 bool grow_room(Builder *builder, size_t size) {
   size = size < 1024 ? 1024 : size;
@@ -35,39 +37,6 @@ PyObject *read_string(Builder *builder, JiterReader *reader) {
   return NULL;
 }
 
-/* ---- Where a string may be cut in two strings. The library still reads both. */
-
-static bool is_high_surrogate(const char *escape) {
-  return (escape[2] | 0x20) == 'd' && strchr("89abAB", escape[3]) != NULL;
-}
-
-/* Whether a character ends before `at`. A backslash is looked for as far back as an escape reaches. */
-static bool is_between_characters(const char *bytes, size_t from, size_t at) {
-  size_t after = at;
-  if ((bytes[at] & 0xC0) == 0x80)
-    return false;
-  while (after > from && at - after < 6 && bytes[after - 1] != '\\')
-    after--;
-  if (after == from || bytes[after - 1] != '\\')
-    return true;
-  size_t escape = after - 1, first = escape;
-  while (first > from && bytes[first - 1] == '\\')
-    first--;
-  if ((escape - first) % 2 == 1) /* it is escaped itself */
-    return true;
-  if (at == after || bytes[after] != 'u')
-    return at > after;
-  return at - escape == 6 && !is_high_surrogate(bytes + escape);
-}
-
-/* The last such index of some, or `from`. */
-static size_t last_cut(const char *bytes, size_t from, size_t end) {
-  for (size_t at = end - 1; at > from && end - at <= 16; at--)
-    if (is_between_characters(bytes, from, at))
-      return at;
-  return from;
-}
-
 /* ---- Strings that grow. */
 
 /* Reads bytes of the string with a quote before them, and one after them if they are complete. Writes where they end. */
@@ -87,12 +56,10 @@ static PyObject *read_part(Builder *builder, size_t from, size_t to, bool comple
   return text;
 }
 
-/* The settled text up to this cut, or NULL. */
+/* The settled text up to this cut, or NULL if the cut is within a character. */
 static PyObject *text_up_to(Builder *builder, size_t from, size_t cut) {
   size_t end = 0;
   PyObject *text = read_part(builder, from, cut, true, &end);
-  if (text && end != cut + 1)
-    Py_CLEAR(text);
   if (!text || !builder->settled_text)
     return text;
   PyObject *both = PyUnicode_Concat(builder->settled_text, text);
@@ -100,12 +67,16 @@ static PyObject *text_up_to(Builder *builder, size_t from, size_t cut) {
   return both;
 }
 
-/* Settles more of a string, from this index on. If memory runs out, it is done at the next call. */
+/* Settles more of a string, from this index on, up to the last character that is complete: where the library takes the part
+ * for a string. If memory runs out, it is done at the next call. */
 static void settle(Builder *builder, size_t from) {
-  const JiterReader *reader = &builder->reader;
   JiterFault fault = builder->fault;
-  size_t cut = reader->length - from < UNSETTLED ? from : last_cut(reader->bytes, from, reader->length);
-  PyObject *text = cut > from ? text_up_to(builder, from, cut) : NULL;
+  PyObject *text = NULL;
+  size_t end = builder->reader.length, cut = end + 1;
+  if (end - from < UNSETTLED)
+    return;
+  while (!text && !PyErr_Occurred() && --cut > from && end - cut < LONGEST_CHARACTER)
+    text = text_up_to(builder, from, cut);
   PyErr_Clear();
   builder->fault = fault;
   if (text) {
