@@ -1,6 +1,7 @@
 -- Where a reader of C's stands after a refused scalar, and after a peek.
 use Rattle.std.proofs.Common.{◌≡◌, ◌≢◌, ◌∙◌, ◌≤◌, ℕ, Bool, true, false, length, min, sym, ap, subst, arith}
-use Rattle.std.specs.Prelude.{Result, Ok, Err, OnOk}
+use Rattle.std.specs.Prelude.{Result, Ok, Err, None, OnOk}
+use Rattle.std.specs.Result.{result_ok}
 use Rattle.std.proofs.lemmas.Bool.{false≢true}
 use Rattle.jiter_steps.specs.Literal.{start_of}
 use Rattle.jiter.specs.Cause.{Cause}
@@ -26,6 +27,12 @@ pub reports-stays : {X A : Type 0} (view : X → A) (read : Result X JiterError)
     → OnOk read ((given ≡ true) × P) → given ≡ false → i ≡ new.position → i ≡ value_place s
 reports-stays view (Ok a) s new r given i P is h ok none_given at = absurd (false≢true (sym none_given ∙ ok.0))
 reports-stays view (Err e) s new r given i P is h ok none_given at = stays-at s r _ _ _ i h is at
+
+-- the same by whether a call's result gave anything
+pub answer-stays : {X A : Type 0} (view : X → A) (read : Result X JiterError) (s new : ReaderState) (r : Reply A) (i : ℕ)
+    → Replies view read new r → StaysAt (value_place s) r → result_ok read ≡ None → i ≡ new.position → i ≡ value_place s
+answer-stays view (Ok a) s new r i is h none at = absurd (cc)
+answer-stays view (Err e) s new r i is h none at = stays-at s r _ _ _ i h is at
 
 -- what a reply gave, seen otherwise, leaves the reader at the same place
 pub seen-stays : {A B : Type 0} (f : A → B) (i : ℕ) (r : Reply A) → StaysAt i r → StaysAt i (reply_seen f r)

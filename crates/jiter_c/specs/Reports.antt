@@ -1,8 +1,11 @@
 -- What a call of the reader reports: whether a value was given, the reader's position, and why the call failed.
 use Rattle.std.specs.Prelude.{◌≡◌, ◌≢◌, ◌≤◌, ◌++◌, ℕ, Bool, true, false, List, length, take, drop}
+use Rattle.std.specs.Prelude.{Result, Ok, Err}
 use Rattle.jiter.specs.Cause.{json_error}
+use Rattle.jiter.specs.Errors.{cause_of}
 use Rattle.jiter.specs.Reader.{Reply, gave, position_after, refused}
 use Rattle.jiter.specs.Reads.{Memory, never, only_at}
+use Rattle.jiter.specs.declared.errors.JiterError.{JiterError}
 use Rattle.jiter_scan.specs.Kind.{out_of_memory}
 use Rattle.jiter_c.specs.Faults.{fault_of, memory_number}
 use Rattle.jiter_c.specs.declared.faults.JiterFault.{JiterFault}
@@ -22,6 +25,11 @@ given_or before (refused c i stop) = before
 abbrev pub fault_or : {A : Type 0} → JiterFault → Reply A → JiterFault
 fault_or before (gave a e) = before
 fault_or before (refused c i stop) = fault_of c i
+
+-- the error of a result, or what the caller had there before
+abbrev pub error_or : {A : Type 0} → JiterFault → Result A JiterError → JiterFault
+error_or before (Ok a) = before
+error_or before (Err e) = fault_of (cause_of e.error_type) e.index
 
 -- the same reader where a reply leaves it
 abbrev pub left_by : {A : Type 0} → JiterReader → Reply A → JiterReader

@@ -8,7 +8,7 @@ ghost use Rattle.jiter_c.specs.Replies.{has_part, key_reply, object_reply, or_em
 ghost use Rattle.jiter_c.specs.Reports.{Reports, RunsOutAt, UnlessMemory, WhereMemory, given_or, written};
 
 use crate::faults::{JiterFault, fault_of};
-use crate::reader::{JiterReader, jiter_at};
+use crate::reader::{JiterReader, answer, jiter_at};
 use crate::texts::{JiterText, write_prefix};
 use std::alloc::Global;
 
@@ -133,19 +133,15 @@ pub extern "C" fn jiter_next_object_bytes<'j>(
 {
     let mut jiter = jiter_at(reader);
     let read = jiter.next_object_bytes();
-    reader.index = jiter.current_index();
-    match read {
-        Ok(name) => {
+    match answer(reader, &jiter, read, fault) {
+        Some(name) => {
             *more = name.is_some();
             *key = JiterText {
                 bytes: name.unwrap_or(b""),
             };
             true
         }
-        Err(error) => {
-            *fault = fault_of(&error);
-            false
-        }
+        None => false,
     }
 }
 
@@ -173,18 +169,14 @@ pub extern "C" fn jiter_next_key_bytes<'j>(
 {
     let mut jiter = jiter_at(reader);
     let read = jiter.next_key_bytes();
-    reader.index = jiter.current_index();
-    match read {
-        Ok(name) => {
+    match answer(reader, &jiter, read, fault) {
+        Some(name) => {
             *more = name.is_some();
             *key = JiterText {
                 bytes: name.unwrap_or(b""),
             };
             true
         }
-        Err(error) => {
-            *fault = fault_of(&error);
-            false
-        }
+        None => false,
     }
 }

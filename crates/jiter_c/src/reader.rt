@@ -1,12 +1,13 @@
 //! The reader that C holds: its peek, its skip and its end.
 ghost use Rattle.std.specs.Prelude.{◌≡◌, IfErr, OnOk, false, true};
+ghost use Rattle.std.specs.Result.{result_ok};
 ghost use Rattle.jiter.specs.Errors.{cause_of};
 ghost use Rattle.jiter.specs.Jiter.{byte_of};
 ghost use Rattle.jiter.specs.Reader.{finish, skip_read};
 ghost use Rattle.jiter_steps.specs.Literal.{start_of};
 ghost use Rattle.jiter_c.specs.Faults.{fault_of};
 ghost use Rattle.jiter_c.specs.Replies.{next_reply, peek_reply, start_number, state_of};
-ghost use Rattle.jiter_c.specs.Reports.{Reports, given_or};
+ghost use Rattle.jiter_c.specs.Reports.{Reports, error_or, given_or};
 
 use crate::faults::{JiterFault, fault_of};
 use jiter::{Jiter, JiterResult, Peek};
@@ -130,6 +131,27 @@ pub fn report(read: JiterResult<()>, fault: &mut JiterFault) -> bool
         Err(error) => {
             *fault = fault_of(&error);
             false
+        }
+    }
+}
+
+/// Moves the reader to where a call left the library's, and returns what the call gave, or writes its error.
+pub fn answer<T: Drop>(
+    reader: &mut JiterReader<'_>,
+    jiter: &Jiter<'_>,
+    read: JiterResult<T>,
+    fault: &mut JiterFault,
+) -> Option<T>
+    ensures place { reader.new ≡ record reader.old { index = jiter.now.position } }
+    ensures given { result ≡ result_ok read }
+    ensures fault { fault.new ≡ error_or fault.old read }
+{
+    reader.index = jiter.current_index();
+    match read {
+        Ok(given) => Some(given),
+        Err(error) => {
+            *fault = fault_of(&error);
+            None
         }
     }
 }

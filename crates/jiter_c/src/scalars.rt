@@ -11,7 +11,7 @@ ghost use Rattle.jiter_c.specs.Numbers.{IfGiven, IsNumber, IsUnsigned, ReportsUn
 ghost use Rattle.jiter_c.specs.Reports.{Reports, RunsOutAt, UnlessMemory, WhereMemory, given_or, written};
 
 use crate::faults::{JiterFault, fault_of};
-use crate::reader::{JiterReader, jiter_at, report};
+use crate::reader::{JiterReader, answer, jiter_at, report};
 use crate::texts::{JiterText, write_prefix};
 use jiter::{NumberAny, NumberInt};
 use std::alloc::Global;
@@ -53,16 +53,12 @@ pub extern "C" fn jiter_next_bool(
 {
     let mut jiter = jiter_at(reader);
     let read = jiter.next_bool();
-    reader.index = jiter.current_index();
-    match read {
-        Ok(truth) => {
+    match answer(reader, &jiter, read, fault) {
+        Some(truth) => {
             *value = truth;
             true
         }
-        Err(error) => {
-            *fault = fault_of(&error);
-            false
-        }
+        None => false,
     }
 }
 
@@ -90,22 +86,18 @@ pub extern "C" fn jiter_next_int(
 {
     let mut jiter = jiter_at(reader);
     let read = jiter.next_int();
-    reader.index = jiter.current_index();
-    match read {
-        Ok(NumberInt::Int(number)) => {
+    match answer(reader, &jiter, read, fault) {
+        Some(NumberInt::Int(number)) => {
             *fits = true;
             *value = number;
             true
         }
-        Ok(NumberInt::BigInt(_)) => {
+        Some(NumberInt::BigInt(_)) => {
             *fits = false;
             *value = 0;
             true
         }
-        Err(error) => {
-            *fault = fault_of(&error);
-            false
-        }
+        None => false,
     }
 }
 
@@ -131,16 +123,12 @@ pub extern "C" fn jiter_next_number<'j>(
 {
     let mut jiter = jiter_at(reader);
     let read = jiter.next_number_bytes();
-    reader.index = jiter.current_index();
-    match read {
-        Ok(bytes) => {
+    match answer(reader, &jiter, read, fault) {
+        Some(bytes) => {
             *text = JiterText { bytes };
             true
         }
-        Err(error) => {
-            *fault = fault_of(&error);
-            false
-        }
+        None => false,
     }
 }
 
@@ -375,16 +363,12 @@ pub extern "C" fn jiter_next_bytes<'j>(
 {
     let mut jiter = jiter_at(reader);
     let read = jiter.next_bytes();
-    reader.index = jiter.current_index();
-    match read {
-        Ok(bytes) => {
+    match answer(reader, &jiter, read, fault) {
+        Some(bytes) => {
             *text = JiterText { bytes };
             true
         }
-        Err(error) => {
-            *fault = fault_of(&error);
-            false
-        }
+        None => false,
     }
 }
 

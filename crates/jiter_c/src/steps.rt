@@ -3,8 +3,8 @@ ghost use Rattle.std.specs.Prelude.{◌≡◌};
 ghost use Rattle.jiter_c.specs.Replies.{array_reply, item_reply};
 ghost use Rattle.jiter_c.specs.Reports.{Reports, given_or};
 
-use crate::faults::{JiterFault, fault_of};
-use crate::reader::{JiterReader, jiter_at};
+use crate::faults::JiterFault;
+use crate::reader::{JiterReader, answer, jiter_at};
 
 /// Steps into the next array.
 ///
@@ -26,16 +26,12 @@ pub extern "C" fn jiter_next_array(
 {
     let mut jiter = jiter_at(reader);
     let read = jiter.next_array();
-    reader.index = jiter.current_index();
-    match read {
-        Ok(item) => {
+    match answer(reader, &jiter, read, fault) {
+        Some(item) => {
             *more = item.is_some();
             true
         }
-        Err(error) => {
-            *fault = fault_of(&error);
-            false
-        }
+        None => false,
     }
 }
 
@@ -59,15 +55,11 @@ pub extern "C" fn jiter_array_step(
 {
     let mut jiter = jiter_at(reader);
     let read = jiter.array_step();
-    reader.index = jiter.current_index();
-    match read {
-        Ok(item) => {
+    match answer(reader, &jiter, read, fault) {
+        Some(item) => {
             *more = item.is_some();
             true
         }
-        Err(error) => {
-            *fault = fault_of(&error);
-            false
-        }
+        None => false,
     }
 }
