@@ -150,7 +150,7 @@ one-part m line part part' p q =
     let b = part-ends m line part' q in
     sym a.is ∙ ap (seen-at m line) (one (string_bytes m.name) (at_start line) a.how b.how a.ends b.ends) ∙ b.is
 
-one-line : (ms : List Member) (line text : List ℕ) (o o' : Seen) → LineBecomes ms line text o → LineBecomes ms line text o' → o ≡ o'
+pub one-line : (ms : List Member) (line text : List ℕ) (o o' : Seen) → LineBecomes ms line text o → LineBecomes ms line text o' → o ≡ o'
 one-line [] line text o o' p q = p ∙ sym q
 one-line (m ∷ ms) line text o o' p q =
     by p.0 p.2 (subst (λ part. AfterPart part o' (λ value. LineBecomes ms line ((text ++ m.key.items) ++ value) o'))

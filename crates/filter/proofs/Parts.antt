@@ -1,10 +1,12 @@
 -- A member's value, read or skipped.
-use Rattle.std.proofs.Common.{◌≡◌, ◌∙◌, ℕ, Bool, true, false, Option, Some, None, refl, ap}
+use Rattle.std.proofs.Common.{◌≡◌, ◌∙◌, ℕ, Bool, true, false, Option, Some, None, refl, sym, ap}
 use Rattle.std.specs.Prelude.{Err, Ok, Result, slice_get}
 use Rattle.jiter.specs.Caller.{ReaderState, Reads, Reply, RunsOut, Start, Tells, Tree, UnlessMemory}
-use Rattle.jiter.specs.Caller.{WhereMemory, anywhere, gave, if_byte, never, next, reply_seen, start_of, value_place}
-use Rattle.jiter.specs.Caller.{value_read}
+use Rattle.jiter.specs.Caller.{SkipsAsRead, WhereMemory, anywhere, gave, if_byte, never, next, refused, reply_seen}
+use Rattle.jiter.specs.Caller.{skip_read, start_of, value_place, value_read}
 use Rattle.jiter.specs.declared.errors.JiterError.{JiterError}
+use Rattle.jiter.proofs.SkipReplies.{next-skipped}
+use Rattle.jiter.proofs.Walking.{gave-refused}
 use Rattle.filter.specs.Members.{part_read}
 
 -- what a next_ call replies, seen so
@@ -21,6 +23,22 @@ pub part-told : (s : ReaderState) (named : Bool) (v : Tree) (b e : ℕ) → Tell
     → next s (part_read named s) ≡ gave tt e
 part-told s true v b e told = next-seen (λ v. tt) s (value_read s) ∙ ap (reply_seen (λ v. tt)) told.value
 part-told s false v b e told = told.passed
+
+-- a skip replies so
+abbrev Skips : ReaderState → Reply (Unit {0}) → Type 0
+Skips s r = next s (skip_read s) ≡ r
+
+read-skips : (s : ReaderState) (e : ℕ) (r : Reply Tree) → SkipsAsRead (Skips s) r
+    → reply_seen {B = Unit {0}} (λ v. tt) r ≡ gave tt e → next s (skip_read s) ≡ gave tt e
+read-skips s e (gave v j) skips same = skips ∙ same
+read-skips s e (refused c x stop) skips same = absurd (gave-refused (sym same))
+
+-- A value that can be read can be skipped, to the same end.
+pub part-any : (s : ReaderState) (named : Bool) (e : ℕ) → next s (part_read true s) ≡ gave tt e
+    → next s (part_read named s) ≡ gave tt e
+part-any s true e h = h
+part-any s false e h =
+    read-skips s e (next s (value_read s)) (next-skipped (Skips s) s refl) (sym (next-seen (λ v. tt) s (value_read s)) ∙ h)
 
 unless : {X : Type 0} (r : Result X JiterError) (P : Type 0) → P → UnlessMemory r P
 unless (Ok x) P p = p

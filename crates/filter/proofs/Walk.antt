@@ -1,101 +1,30 @@
--- The source of a member, on the way through the members of a line.
-use Rattle.std.proofs.Common.{◌≡◌, ◌∙◌, ℕ, Bool, false, List, refl, sym, ap, subst}
-use Rattle.std.specs.Prelude.{slice_range, Option, Some, None, Ok, Err, Result, IsErrAnd}
+-- The walk through the members of a line, as each member's own one.
+use Rattle.std.proofs.Common.{◌≡◌, ◌∙◌, ◌<◌, ◌≤◌, ◌-◌, ◌||◌, ℕ, Bool, true, false, List, [], ◌∷◌, refl, sym, suc, zero, ap}
+use Rattle.std.proofs.Common.{◌+◌, arith, drop, length, subst, take}
+use Rattle.std.specs.Prelude.{get_or, replicate, slice_range, string_bytes, Option, Some, None, Ok, Err, Result, IsErrAnd}
+use Rattle.std.specs.Prelude.{option_map}
 use Rattle.std.specs.Borrow.{Bor}
 use Rattle.std.specs.Str.{bytes_eq}
-use Rattle.jiter.specs.Caller.{Cause, IsDocument, IsMemory, MovesOn, Node, ReaderState, Reads, Tree, ValueType}
-use Rattle.jiter.specs.Caller.{anywhere, at_start, begin, cause_of, end, finish, gave, key_step, next, object_read}
-use Rattle.jiter.specs.Caller.{other_type, refused, reply_seen, tree_type, value_of, value_place, whole, with_position}
-use Rattle.jiter.specs.Caller.{wrong_type}
+use Rattle.std.specs.declared.alloc.Global.{Global}
+use Rattle.std.specs.declared.borrow.CowStr.{CowStr}
+use Rattle.std.proofs.lemmas.List.{drop_more}
+use Rattle.std.proofs.lemmas.List.Folds.{list_any_at}
+use Rattle.jiter.specs.Caller.{Cause, IsMemory, MovesOn, ReaderState, Reads, Reply, Text, at_start, cause_of, finish}
+use Rattle.jiter.specs.Caller.{gave, indexed_key_bytes, key_bytes, key_step, never, next, object_read, refused}
+use Rattle.jiter.specs.Caller.{reply_seen}
+use Rattle.jiter.specs.Caller.{value_place, whole, with_position}
 use Rattle.jiter.specs.declared.errors.JiterError.{JiterError}
-use Rattle.jiter.proofs.MemberLoops.{Loop, LoopAt, ReadsMember, first-refused, loop-ends, member-at, text-is, value-tells}
-use Rattle.jiter.proofs.Walking.{IsNoObject, document-next, gave-is, gave-refused, moves-on, sees-whole, whole_key}
-use Rattle.filter.specs.Members.{Fails, Finds, IsAnswer, Passed, ReadsSo, found_view, key_is, last_source, part_read}
-use Rattle.filter.specs.Members.{source_of, with_value}
-use Rattle.filter.proofs.Parts.{part-told}
+use Rattle.jiter.proofs.MemberLoops.{key-kept}
+use Rattle.jiter.proofs.Walking.{gave-is, gave-refused, key-ahead, moves-on}
+use Rattle.filter.specs.Members.{Fails, Finds, Passed, key_is}
+use Rattle.filter.specs.Members.{part_read, with_value}
+use Rattle.filter.specs.Once.{FoundAll, Keeps, ReadsAll, ReadsOne, found_at, is_wanted, name_at}
+use Rattle.filter.specs.declared.pointers.Member.{Member}
+use Rattle.filter.proofs.Parts.{part-any}
 
--- A key is kept as whether it is the name, and the members that are left lead to the source of the last such one.
-abbrev pub members : (name line : List ℕ) → Loop (at_start line) (Option (List ℕ)) (Option (List ℕ)) Bool
-members name line = record {
-  form = whole;
-  view = whole_key line;
-  sees = sees-whole line;
-  read = λ key. bytes_eq key.bytes name;
-  start = None;
-  result = last_source name line;
-}
-
-other-same : (v : Tree) (b : ℕ) (c : Cause) (x stop : ℕ) → other_type {A = Unit {0}} ValueType.object v b ≡ refused c x stop
-    → (c ≡ wrong_type ValueType.object (tree_type v)) × (x ≡ b)
-other-same v b c x stop is = (cc, cc)
-
+-- ---- one member
 module _ (name line : List ℕ) where
-  -- A member's value was passed, and its source cut out.
-  pub source-read : (s s1 : ReaderState) (named : Bool) (p : Option (List ℕ)) → LoopAt (members name line) s (Some named) p
-      → {X : Type 0} (x : X) (source : List ℕ) → Reads anywhere (λ _. tt) (next s (part_read named s)) (Ok x) s s1
-      → source ≡ slice_range s.text (value_place s) s1.position
-      → ReadsMember (members name line) s s1 named p (with_value named source p)
-  source-read s s1 named p h x source read is = record {
-    moves = read.moves;
-    place = λ v comes told. (gave-is _ _ _ _ (sym read.value ∙ part-told s named _ _ _ told)).1;
-    keeps = λ key v rest same comes told.
-        let there = (gave-is _ _ _ _ (sym read.value ∙ part-told s named _ _ _ told)).1 in
-        let cut : source ≡ source_of line v =
-        is ∙ ap (λ t. slice_range t (value_place s) s1.position) (text-is (members name line) s h.same)
-        ∙ ap (λ i. slice_range line i s1.position) told.place ∙ ap (λ i. slice_range line (begin v) i) there in
-        ap (λ q. last_source name line q rest)
-        (ap (λ b. with_value b (source_of line v) p) (sym same) ∙ ap (λ w. with_value named w p) (sym cut));
-  }
-
-  -- A member's value is not refused.
-  pub value-refused : (s : ReaderState) (named : Bool) (p : Option (List ℕ)) → LoopAt (members name line) s (Some named) p
-      → (c : Cause) (x stop : ℕ) → next s (part_read named s) ≡ refused c x stop → (n : Node)
-      → IsDocument false line n → ⊥
-  value-refused s named p h c x stop is n d =
-      let m = member-at (members name line) s named p h n (document-next (at_start line) n d refl) in
-      let told = value-tells (members name line) refl s named p h m.value m.comes in
-      gave-refused {a = tt} {i = end m.value} {c = c} {x = x} {stop = stop} (sym (part-told s named _ _ _ told) ∙ is)
-
-  -- What was found at the end is the answer.
-  pub answered : (s : ReaderState) (f : Option (Bor (List ℕ))) → LoopAt (members name line) s None (found_view f)
-      → (n : Node) → IsDocument false line n → IsAnswer name line n (Ok f)
-  answered s f h n d =
-      let e = loop-ends (members name line) s (found_view f) h n (document-next (at_start line) n d refl) in
-      subst (λ m. IsAnswer name line m (Ok f)) (sym e.is) e.leads
-
-  -- A call that a document's bytes don't refuse failed for memory.
-  pub never-refused : (x : Result (Option (Bor (List ℕ))) JiterError) (e : JiterError) → IsErrAnd x (λ d. d ≡ e)
-      → (n : Node) → ((IsMemory e → ⊥) → ⊥) → IsAnswer name line n x
-  never-refused (Ok f) e is n sure = absurd is
-  never-refused (Err d) e is n sure = subst (λ y. IsAnswer name line n (Err y)) (sym is) (by n) where
-    by : (n : Node) → IsAnswer name line n (Err e)
-    by (Node.object b i ms) = sure
-    by (Node.literal l b i) = λ bytes. absurd (sure bytes)
-    by (Node.number b i) = λ bytes. absurd (sure bytes)
-    by (Node.string ps b i) = λ bytes. absurd (sure bytes)
-    by (Node.array b i ns) = λ bytes. absurd (sure bytes)
-
-  -- Another value than an object is refused as one.
-  pub object-refused : (x : Result (Option (Bor (List ℕ))) JiterError) (e : JiterError) (stop : ℕ)
-      → IsErrAnd x (λ d. d ≡ e)
-      → ((IsMemory e → ⊥) → next (at_start line) (object_read whole (at_start line)) ≡ refused (cause_of e.error_type) e.index stop)
-      → (n : Node) → IsDocument false line n → IsAnswer name line n x
-  object-refused (Ok f) e stop is refusal n d = absurd is
-  object-refused (Err y) e stop is refusal n d =
-      subst (λ z. IsAnswer name line n (Err z)) (sym is)
-      (by n (λ bytes. first-refused (members name line) _ _ _ (refusal bytes) n (document-next (at_start line) n d refl)))
-    where
-      by : (n : Node) → ((IsMemory e → ⊥) → IsNoObject n × (other_type {A = Unit {0}} ValueType.object (value_of line n) (begin n)
-          ≡ refused (cause_of e.error_type) e.index stop)) → IsAnswer name line n (Err e)
-      by (Node.object b i ms) h = λ bytes. absurd (h bytes).0
-      by (Node.literal l b i) h = λ bytes. other-same (value_of line (Node.literal l b i)) b _ _ stop (h bytes).1
-      by (Node.number b i) h = λ bytes. other-same (value_of line (Node.number b i)) b _ _ stop (h bytes).1
-      by (Node.string ps b i) h = λ bytes. other-same (value_of line (Node.string ps b i)) b _ _ stop (h bytes).1
-      by (Node.array b i ns) h = λ bytes. other-same (value_of line (Node.array b i ns)) b _ _ stop (h bytes).1
-
--- ---- any line
-module _ (name line : List ℕ) where
-  abbrev s0 : ReaderState
+  abbrev pub s0 : ReaderState
   s0 = at_start line
 
   -- The reader passed members, and stands here.
@@ -158,8 +87,154 @@ module _ (name line : List ℕ) where
       ended = subst (λ (v : ReaderState). finish v ≡ gave tt last) h.moves.same is;
     }
 
-  -- A call that is refused, unless memory ran out, is what is returned.
-  pub fails-so : (x : Result (Option (Bor (List ℕ))) JiterError) (e : JiterError) (stop : ℕ) → IsErrAnd x (λ d. d ≡ e)
-      → ((IsMemory e → ⊥) → Fails name s0 (cause_of e.error_type) e.index stop) → ReadsSo name line x
-  fails-so (Ok f) e stop is fails = absurd is
-  fails-so (Err d) e stop is fails = subst (λ y. ReadsSo name line (Err y)) (sym is) (λ bytes. (stop, fails bytes))
+-- ---- all members
+-- a key that was read, and its index
+abbrev pub Told : Type 0
+Told = CowStr Global × ℕ
+
+-- whether it is the name
+abbrev pub told_named : List ℕ → Option Told → Option Bool
+told_named name = option_map (λ k. bytes_eq (indexed_key_bytes k) name)
+
+told-is : (name : List ℕ) (key : Option Told) (r : Reply (Option Text)) (i : ℕ)
+    → reply_seen key_bytes r ≡ gave (option_map indexed_key_bytes key) i
+    → reply_seen (key_is name) r ≡ gave (told_named name key) i
+told-is name key r i h = key-kept indexed_key_bytes (λ k. bytes_eq k name) key (told_named name key) r i h refl
+
+module _ (members : List Member) (line : List ℕ) where
+  -- The reader stands here for each member.
+  abbrev pub AllHere : ReaderState → Option Told → List (Option (Bor (List ℕ))) → Type 0
+  AllHere s key sources = (k : ℕ) (m : Member) → k < length members
+      → Here (name_at members k m) line s (told_named (name_at members k m) key) (found_at sources k)
+
+  found-none : (n k : ℕ) → found_at (replicate n None) k ≡ None
+  found-none zero k = refl
+  found-none (suc n) zero = refl
+  found-none (suc n) (suc k) = found-none n k
+
+  pub all-first : (s : ReaderState) (key : Option Told) (sources : List (Option (Bor (List ℕ)))) → MovesOn (at_start line) s
+      → reply_seen key_bytes (next (at_start line) (object_read whole (at_start line)))
+      ≡ gave (option_map indexed_key_bytes key) s.position
+      → sources ≡ replicate (length members) None → AllHere s key sources
+  all-first s key sources moves is none k m within =
+      subst (Here (name_at members k m) line s (told_named (name_at members k m) key))
+      (sym (ap (λ l. found_at l k) none ∙ found-none (length members) k))
+      (here-first (name_at members k m) line s _ moves (told-is _ key _ _ is))
+
+  -- the member's value was passed, and the next key read
+  module _ (s s1 s2 : ReaderState) (key : Told) (sources : List (Option (Bor (List ℕ)))) (h : AllHere s (Some key) sources)
+      (moves : MovesOn s s1) (wanted : Bool) (all : wanted ≡ is_wanted (indexed_key_bytes key) members)
+      (read : next s (part_read wanted s) ≡ gave tt s1.position) where
+    -- each member's own walk passes it too
+    passes : (k : ℕ) (m : Member) → k < length members
+        → next s (part_read (bytes_eq (indexed_key_bytes key) (name_at members k m)) s) ≡ gave tt s1.position
+    passes k m within = by wanted all read where
+      by : (w : Bool) → w ≡ is_wanted (indexed_key_bytes key) members → next s (part_read w s) ≡ gave tt s1.position
+          → next s (part_read (bytes_eq (indexed_key_bytes key) (name_at members k m)) s) ≡ gave tt s1.position
+      by true is h = part-any s _ _ h
+      by false is h = no (bytes_eq (indexed_key_bytes key) (name_at members k m)) refl where
+        no : (b : Bool) → bytes_eq (indexed_key_bytes key) (name_at members k m) ≡ b
+            → next s (part_read b s) ≡ gave tt s1.position
+        no false same = h
+        no true same =
+            absurd (let never : false ≡ true = is ∙ list_any_at (λ x. bytes_eq (indexed_key_bytes key) (string_bytes x.name))
+            members k m within same in cc)
+
+    module _ (next_key : Option Told) (moves2 : MovesOn s1 s2)
+        (given : reply_seen key_bytes (key_step whole s1) ≡ gave (option_map indexed_key_bytes next_key) s2.position)
+        (source : List ℕ) (cut : source ≡ slice_range s.text (value_place s) s1.position)
+        (sources' : List (Option (Bor (List ℕ)))) where
+      pub all-more : Keeps members (indexed_key_bytes key) source sources sources' → AllHere s2 next_key sources'
+      all-more put k m within =
+          subst (Here (name_at members k m) line s2 (told_named (name_at members k m) next_key)) (sym (put k m within))
+          (here-more (name_at members k m) line s _ _ (h k m within) s1 moves (passes k m within) s2 _ moves2
+          (told-is _ next_key _ _ given) source cut)
+
+    -- fewer bytes are left
+    pub less-left : MovesOn (at_start line) s → (next_key : Option Told) → MovesOn s1 s2
+        → reply_seen key_bytes (key_step whole s1) ≡ gave (option_map indexed_key_bytes next_key) s2.position
+        → length line - s2.position < length line - s.position
+    less-left before next_key moves2 given =
+        let moves1 = moves-on (at_start line) s s1 before moves in
+        let text : length s1.text ≡ length line = ap (λ (v : ReaderState). length v.text) moves1.same in
+        omega (
+          arith,
+          moves.forward,
+          ahead (omega (arith, moves1.within, text)) (key_step whole s1) refl given,
+          (moves-on (at_start line) s1 s2 moves1 moves2).within,
+        ) where
+          ahead : s1.position ≤ length s1.text → (r : Reply (Option Text)) → key_step whole s1 ≡ r
+              → reply_seen key_bytes r ≡ gave (option_map indexed_key_bytes next_key) s2.position → s1.position < s2.position
+          ahead within (gave o j) is same =
+              omega (arith, key-ahead whole s1 o j within is, (gave-is _ _ j s2.position same).1)
+          ahead within (refused c x stop) is same = absurd (gave-refused (sym same))
+
+-- ---- the error of a walk for one member
+one-wanted : (key : List ℕ) (m : Member) → is_wanted key (m ∷ []) ≡ bytes_eq key (string_bytes m.name)
+one-wanted key m = by (bytes_eq key (string_bytes m.name)) where
+  by : (b : Bool) → (b || false) ≡ b
+  by true = refl
+  by false = refl
+
+module _ (members : List Member) (line : List ℕ) (m : Member) (one : members ≡ m ∷ []) where
+  abbrev name : List ℕ
+  name = string_bytes m.name
+
+  alone : (s : ReaderState) (key : Option Told) (sources : List (Option (Bor (List ℕ)))) → AllHere members line s key sources
+      → Here name line s (told_named name key) (found_at sources 0)
+  alone s key sources h = subst (λ l. AllHere l line s key sources) one h 0 m (omega arith)
+
+  alone-wanted : (key : Told) (wanted : Bool) → wanted ≡ is_wanted (indexed_key_bytes key) members
+      → wanted ≡ bytes_eq (indexed_key_bytes key) name
+  alone-wanted key wanted is = is ∙ ap (is_wanted (indexed_key_bytes key)) one ∙ one-wanted (indexed_key_bytes key) m
+
+  module _ (s : ReaderState) (key : Told) (sources : List (Option (Bor (List ℕ))))
+      (h : AllHere members line s (Some key) sources) (wanted : Bool)
+      (is : wanted ≡ is_wanted (indexed_key_bytes key) members) (c : Cause) (x stop : ℕ) where
+    pub one-value-fails : next s (part_read wanted s) ≡ refused c x stop → Fails name (at_start line) c x stop
+    one-value-fails refusal =
+        value-fails name line s _ _ (alone s (Some key) sources h) c x stop
+        (subst (λ w. next s (part_read w s) ≡ refused c x stop) (alone-wanted key wanted is) refusal)
+
+    pub one-key-fails : (s1 : ReaderState) → MovesOn s s1 → next s (part_read wanted s) ≡ gave tt s1.position
+        → key_step whole s1 ≡ refused c x stop → Fails name (at_start line) c x stop
+    one-key-fails s1 moves read =
+        key-fails name line s _ _ (alone s (Some key) sources h) s1 moves
+        (subst (λ w. next s (part_read w s) ≡ gave tt s1.position) (alone-wanted key wanted is) read) c x stop
+
+  pub one-end-fails : (s : ReaderState) (sources : List (Option (Bor (List ℕ)))) → AllHere members line s None sources
+      → (c : Cause) (x stop : ℕ) → finish s ≡ refused c x stop → Fails name (at_start line) c x stop
+  one-end-fails s sources h = end-fails name line s _ (alone s None sources h)
+
+-- ---- what is returned
+module _ (members : List Member) (line : List ℕ) (sources : List (Option (Bor (List ℕ)))) where
+  pub fails-so : (x : Result (Unit {0}) JiterError) (e : JiterError) (stop : ℕ) → IsErrAnd x (λ d. d ≡ e)
+      → ((m : Member) → members ≡ m ∷ [] → (IsMemory e → ⊥)
+      → Fails (string_bytes m.name) (at_start line) (cause_of e.error_type) e.index stop) → ReadsAll members line sources x
+  fails-so (Ok u) e stop is fails = absurd is
+  fails-so (Err d) e stop is fails =
+      subst (λ y. ReadsAll members line sources (Err y)) (sym is) (λ m one bytes. (stop, fails m one bytes))
+
+  -- after the last member
+  pub finished : (s new : ReaderState) → AllHere members line s None sources → (x : Result (Unit {0}) JiterError)
+      → Reads never (λ u. u) (finish s) x s new → ReadsAll members line sources x
+  finished s new h (Ok u) reads = λ k m within. all-passed (name_at members k m) line s _ (h k m within) new.position reads.value
+  finished s new h (Err e) reads =
+      λ m one bytes. (new.position, one-end-fails members line m one s sources h _ e.index new.position reads.value)
+
+-- ---- a walk for the member at an index
+module _ (members : List Member) (line : List ℕ) (i : ℕ) (m : Member) (within : i < length members)
+    (sources : List (Option (Bor (List ℕ)))) where
+  one-there : slice_range members i (i + 1) ≡ get_or members i m ∷ []
+  one-there =
+      ap (λ n. take n (drop i members)) (let one : i + 1 - i ≡ 1 = omega arith in one)
+      ∙ ap (take 1) (drop_more members i m within)
+
+  pub one-found : FoundAll (slice_range members i (i + 1)) line sources → Finds (name_at members i m) line (found_at sources 0)
+  one-found h = subst (λ l. FoundAll l line sources) one-there h 0 m (omega arith)
+
+  pub one-failed : (x : Result (Option (Bor (List ℕ))) JiterError) (e : JiterError) → IsErrAnd x (λ d. d ≡ e)
+      → ReadsAll (slice_range members i (i + 1)) line sources (Err e) → ReadsOne (name_at members i m) line x
+  one-failed (Ok found) e is h = absurd is
+  one-failed (Err d) e is h =
+      subst (λ y. ReadsOne (name_at members i m) line (Err y)) (sym is) (h (get_or members i m) one-there)

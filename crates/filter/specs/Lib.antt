@@ -1,3 +1,4 @@
 pub mod Line
 pub mod Members
+pub mod Once
 pub mod Pointers

@@ -37,11 +37,6 @@ abbrev pub outcome_of : List Member → List ℕ → Node → Seen
 outcome_of members t (Node.object b e ms) = written (line_text members t (value_of t (Node.object b e ms)) ms)
 outcome_of members t n = refused_at t n
 
--- what becomes of one member
-abbrev pub part_outcome : Member → List ℕ → Node → Seen
-part_outcome m t (Node.object b e ms) = written (part_text m t (value_of t (Node.object b e ms)) ms)
-part_outcome m t n = refused_at t n
-
 -- ---- any line
 -- what becomes of a member whose pointer has more steps, by what is read of the whole line
 abbrev pub pointed_outcome : List ℕ → Reading Tree → Seen

@@ -1,17 +1,9 @@
 -- A member of an object, as it stands in its text.
-use Rattle.std.specs.Prelude.{◌≡◌, ℕ, Bool, if◌then◌else◌, List, Option, Some, None, Result, Ok, Err}
-use Rattle.std.specs.Prelude.{option_map, slice_range}
-use Rattle.std.specs.Borrow.{Bor}
+use Rattle.std.specs.Prelude.{◌≡◌, ℕ, Bool, if◌then◌else◌, List, Option, Some, None, option_map, slice_range}
 use Rattle.std.specs.Str.{bytes_eq}
-use Rattle.jiter.specs.Caller.{Cause, IsMemory, Key, Node, NodeMembers, ReaderState, Reply, Start, Text, ValueType}
-use Rattle.jiter.specs.Caller.{at_start, begin, cause_of, end, finish, gave, key_step, next, object_read, refused}
-use Rattle.jiter.specs.Caller.{reply_seen, skip_read, text_at, tree_type, value_of, value_place, value_read, whole}
-use Rattle.jiter.specs.Caller.{with_position, wrong_type}
-use Rattle.jiter.specs.declared.errors.JiterError.{JiterError}
-
--- the source of a value, if one was found
-abbrev pub found_view : Option (Bor (List ℕ)) → Option (List ℕ)
-found_view = option_map (λ x. x.now)
+use Rattle.jiter.specs.Caller.{Cause, Key, Node, NodeMembers, ReaderState, Reply, Start, Text, ValueType, at_start, begin}
+use Rattle.jiter.specs.Caller.{end, finish, gave, key_step, next, object_read, refused, reply_seen, skip_read, text_at}
+use Rattle.jiter.specs.Caller.{tree_type, value_of, value_place, value_read, whole, with_position, wrong_type}
 
 -- after one value more, of a key that is the name or isn't
 abbrev pub with_value : Bool → List ℕ → Option (List ℕ) → Option (List ℕ)
@@ -34,13 +26,6 @@ last_source name t found (NodeMembers.member k n ms) =
 -- why a value that isn't an object is refused
 abbrev pub no_object : List ℕ → Node → Cause
 no_object t n = wrong_type ValueType.object (tree_type (value_of t n))
-
--- What is answered of a document, unless memory ran out: the source of an object's member. Another value is refused.
-abbrev pub IsAnswer : List ℕ → List ℕ → Node → Result (Option (Bor (List ℕ))) JiterError → Type 0
-IsAnswer name t (Node.object b e ms) (Ok found) = found_view found ≡ last_source name t None ms
-IsAnswer name t (Node.object b e ms) (Err x) = (IsMemory x → ⊥) → ⊥
-IsAnswer name t n (Ok found) = ⊥
-IsAnswer name t n (Err x) = (IsMemory x → ⊥) → (cause_of x.error_type ≡ no_object t n) × (x.index ≡ begin n)
 
 -- ---- any line, by what the reader's calls reply
 -- the value of a member that has the name is read, and that of any other one skipped
@@ -82,9 +67,3 @@ pub data Fails (name : List ℕ) (s : ReaderState) (c : Cause) (x stop : ℕ) : 
       → key_step whole (with_position s j) ≡ refused c x stop → Fails name s c x stop
   at_end : (found : Option (List ℕ)) (i : ℕ) → Passed name s None found i
       → finish (with_position s i) ≡ refused c x stop → Fails name s c x stop
-
--- What is returned for any line, unless memory ran out.
-abbrev pub ReadsSo : List ℕ → List ℕ → Result (Option (Bor (List ℕ))) JiterError → Type 0
-ReadsSo name line (Ok found) = Finds name line (found_view found)
-ReadsSo name line (Err x) =
-    (IsMemory x → ⊥) → (stop : ℕ) × Fails name (at_start line) (cause_of x.error_type) x.index stop
