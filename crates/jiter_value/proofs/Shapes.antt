@@ -28,7 +28,6 @@ use Rattle.jiter_value.specs.declared.stacks.Slot.TheVariants as slot
 use Rattle.jiter_value.specs.declared.stacks.Stacks.{Stacks}
 use Rattle.jiter_steps.specs.ReadError.{WhereRefused}
 use Rattle.jiter_value.specs.declared.stacks.State.{State}
-use Rattle.jiter_value.specs.declared.stacks.State.TheVariants as state
 use Rattle.jiter_value.proofs.KeptKeys.{kept-on}
 use Rattle.jiter_value.proofs.Sizes.{item-size}
 use Rattle.jiter_value.proofs.TurnOutcomes.{refused-any}

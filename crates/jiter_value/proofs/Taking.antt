@@ -1,5 +1,5 @@
 -- A turn at a key: it leads on, or it is stopped.
-use Rattle.std.proofs.Common.{◌≡◌, ◌+◌, ◌++◌, ◌∙◌, ℕ, Bool, true, false, List, ap, refl}
+use Rattle.std.proofs.Common.{◌≡◌, ◌+◌, ◌++◌, ◌∙◌, ℕ, Bool, true, false, List, ap}
 use Rattle.std.specs.Prelude.{OnOk}
 use Rattle.jiter_scan.specs.Kind.{Kind}
 use Rattle.jiter_scan.specs.NumberReading.{extent_then}
@@ -52,13 +52,6 @@ more-known old more s a Knows known =
     weaker-on s a (λ kept. (keys_of old ++ more, known, left-keys old s.members.items more kept))
 
 -- A colon, and where a value begins after it.
-first-taken : (x : Extent) (then : ℕ → Extent) (m : ℕ) → extent_then x then ≡ taken tt m → (j : ℕ) × (x ≡ taken tt j)
-first-taken (taken u j) then m is = (j, refl)
-first-taken (failed k j) then m is = absurd (cc)
-
-pub colon-taken : (t : List ℕ) (e m : ℕ) → object_colon t e ≡ taken tt m → (j : ℕ) × (step t colon e ≡ taken tt j)
-colon-taken t e m is = first-taken (step t colon e) (step t value_first) m is
-
 pub after-colon : (t : List ℕ) (e j : ℕ) (x : Extent) → step t colon e ≡ taken tt j → step t value_first j ≡ x
     → object_colon t e ≡ x
 after-colon t e j x colon first = ap (λ c. extent_then c (step t value_first)) colon ∙ first

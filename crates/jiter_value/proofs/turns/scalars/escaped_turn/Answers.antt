@@ -6,7 +6,6 @@ use Rattle.jiter_steps.proofs.Grammar.StringLaws.{string_at-within}
 use Rattle.jiter_steps.specs.Read.{done}
 use Rattle.jiter_steps.specs.Answer.{value_form}
 use Rattle.jiter_steps.specs.Tree.{string}
-use Rattle.jiter_steps.specs.declared.parse.Start.TheVariants as start
 use Rattle.jiter_value.specs.Size.{size}
 use Rattle.jiter_value.proofs.Placed.{text-failed, text-taken}
 use Rattle.jiter_value.proofs.TurnOutcomes.{grows-decoded, refused-turned}

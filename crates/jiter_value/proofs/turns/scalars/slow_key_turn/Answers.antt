@@ -1,4 +1,4 @@
-use Rattle.std.proofs.Common.{◌∙◌, ap, arith, false, length, refl, reverse}
+use Rattle.std.proofs.Common.{ap, arith, false, length, refl, reverse}
 use Rattle.jiter_scan.specs.Kind.{fault_kind}
 use Rattle.jiter_steps.specs.Read.{scalar_at}
 use Rattle.jiter_steps.specs.StringDecoder.{text_view}
