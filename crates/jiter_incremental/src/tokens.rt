@@ -343,7 +343,6 @@ impl Reader {
     }
 
     // A wrong byte counts as taken: the error is final.
-    #[inline(never)]
     fn move_string(
         &mut self,
         slot: &mut JsonValue<'static>,
@@ -374,7 +373,6 @@ impl Reader {
         }
     }
 
-    #[inline(always)]
     fn take_string(
         &mut self,
         slot: &mut JsonValue<'static>,
