@@ -45,7 +45,7 @@ use Rattle.jiter_incremental.proofs.Documents.{known-as}
 use Rattle.jiter_incremental.proofs.Documents.Ends.{broken-answered, broken-low, kind-whole, none-answered}
 use Rattle.jiter_incremental.proofs.Documents.Ends.{nothing-comes, partial-answers, strict-answers, value-answered}
 use Rattle.jiter_incremental.proofs.Innermost.{inside-of, utf8-of}
-use Rattle.jiter_incremental.proofs.Settling.{shown-key, shown-nothing}
+use Rattle.jiter_incremental.proofs.Settling.{settled-so, shown-key, shown-nothing}
 
 -- ---- the value so far
 
@@ -178,7 +178,7 @@ pub strict-told : (d : Document) (t : List ℕ) (h : HasArrived d t) (none : d.f
 strict-told d t h none r end =
     let o = h.read.opened in
     let k = h.read.known in
-    let s = h.read.held (k.noted none) in
+    let s = settled-so d t h (k.noted none) in
     let p = strictly d.settings in
     let led = nothing-comes p t o (subst (λ f. ReadsAt p t [] f o) none (k.reads strict [] tt)) in
     let same = settings-are d t o s in
@@ -278,7 +278,7 @@ module _ (d : Document) (t : List ℕ) (h : HasArrived d t) (unset : d.fault ≡
   o = h.read.opened
 
   abbrev settled : Settled d t o
-  settled = h.read.held unset
+  settled = settled-so d t h unset
 
   abbrev e : Document
   e = settled.apart

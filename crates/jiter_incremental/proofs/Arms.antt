@@ -36,7 +36,7 @@ use Rattle.jiter_incremental.proofs.Documents.{byte-first, known-any, known-here
 use Rattle.jiter_incremental.proofs.Between.{RowIs, at-value, between-of, between-parts, item-begins, key-begins, not-both, object-array, row-item, row-key, colon-missing, goes-colon, goes-comma, goes-end}
 use Rattle.jiter_incremental.proofs.Between.{goes-missing, goes-wrong, missing-forgiven, put-left, row-comma, row-missing}
 use Rattle.jiter_incremental.proofs.Slots.{filled-same}
-use Rattle.jiter_incremental.proofs.Settling.{ahead-level, apart-read, moves-one, none-slice, reads-apart, shown-nothing, steps-one}
+use Rattle.jiter_incremental.proofs.Settling.{ahead-level, apart-read, moves-one, none-slice, reads-apart, shown-nothing, steps-one, not-shown}
 
 zero-more : (n : ℕ) → n + 0 ≡ n
 zero-more n = omega arith
@@ -73,7 +73,7 @@ pub hidden-nothing : (n : Next) (d : Document) (t : List ℕ) → HasReadIn n d 
 hidden-nothing n d t h unset none =
     let s = h.held unset in
     let same : d.token ≡ s.apart.token = ap (λ (e : Document). e.token) s.same in
-    s.shows ∙ shown-nothing s.apart (sym same ∙ none)
+    not-shown d t h.opened s (shown-nothing s.apart (sym same ∙ none))
 
 -- What is open before the byte, where no token is unfinished
 pub record Here (c : ℕ) (d : Document) (t : List ℕ) : Type 0 where
@@ -287,6 +287,7 @@ module _ (level : ℕ) (chunk : List ℕ) (i : Reader) (v : Tree) (h : IsHere le
             ap (ahead j chunk) (zero-more i.at)
             ∙ ahead-level j.token j.awaits (i.depth - 1) chunk i.at none refl h.inside in
             record {
+              complete = λ unset _. shown-nothing (document j v) none;
               goes = λ t outer at r.
                   let x = filled outer v in
                   let d = document i x in
@@ -296,8 +297,7 @@ module _ (level : ℕ) (chunk : List ℕ) (i : Reader) (v : Tree) (h : IsHere le
                   record { known = b.known; token = none; unset = h.unset; position = r.position } in
                   let g = closes kind comma one miss outer at b.state b.left e.value refl refl refl in
                   let all : HasReadIn (with_byte c) e t =
-                  reads-apart (with_byte c) e t (closes-noted d e.value c t b.state kind stands g on) hidden-here
-                  (λ unset. shown-nothing e none) in
+                  reads-apart (with_byte c) e t (closes-noted d e.value c t b.state kind stands g on) hidden-here in
                   subst (λ n. HasReadIn n e (t ++ slice_range chunk i.at (i.at + 0))) (sym here)
                   (subst (λ u. HasReadIn (with_byte c) e u)
                   (sym (ap (λ u. t ++ u) (none-slice chunk i.at) ∙ append-nil t)) all);

@@ -8,19 +8,19 @@ use Rattle.jiter_steps.specs.Tree.{Tree, string}
 use Rattle.jiter_steps.proofs.OpenStrings.{grown-taken, plain-of, run-plain}
 use Rattle.jiter_incremental.specs.Between.{text_of}
 use Rattle.jiter_incremental.specs.Document.{Document, HasMoved, HasReadIn, Holding, IsMoved, IsShown, Known, Opened}
-use Rattle.jiter_incremental.specs.Document.{Settled, anything}
-use Rattle.jiter_incremental.specs.Document.{between_tokens, in_key, in_scalar, shown_as, token_tree}
+use Rattle.jiter_incremental.specs.Document.{Parted, anything}
+use Rattle.jiter_incremental.specs.Document.{between_tokens, in_key, in_scalar, token_tree}
 use Rattle.jiter_incremental.specs.Reader.{IsAt, IsGrowing, IsHere, IsPlainRun, Steps, ahead, document}
 use Rattle.jiter_incremental.specs.Slot.{AwaitsPart, HasValue, IsOfKey, OpenFrame, filled}
 use Rattle.jiter_incremental.specs.Strings.{HasText, IsGrown, IsOfString}
 use Rattle.jiter_incremental.specs.declared.reader.Reader.{Reader}
-use Rattle.jiter_incremental.specs.declared.reader.Token.{Token}
 use Rattle.jiter_incremental.specs.declared.reader.Token.TheVariants as token
 use Rattle.jiter_incremental.proofs.Documents.{known-in}
 use Rattle.jiter_incremental.proofs.Documents.Strings.{goes-on, is-inside, with_string}
 use Rattle.jiter_incremental.proofs.Settling.{moves-here, read-any}
 use Rattle.jiter_incremental.proofs.Showing.{stands-part, stands-root}
 use Rattle.jiter_incremental.proofs.StringSteps.{ahead-string}
+use Rattle.std.proofs.lemmas.Bool.{false≢true}
 
 -- A text that is unfinished is inside these containers.
 text-left : (a : Document) (t : List ℕ) (o : Opened) → a.token ≡ token.Text → Holding a t o
@@ -29,16 +29,8 @@ text-left a t (between_tokens s) is h = absurd (let no : token.Text ≡ token.No
 text-left a t (in_scalar fs b) is h = (fs, h.3.2, h.3.3)
 text-left a t (in_key fs ms b) is h = absurd (let no : token.Text ≡ token.Key = sym is ∙ h.2 in cc)
 
--- With more characters it is shown as it was.
-grown-shown : (a : Document) (v : List ℕ) (k : Token) → shown_as (with_string a (grown a.string v)) k ≡ shown_as a k
-grown-shown a v token.Nothing = refl
-grown-shown a v token.Word = refl
-grown-shown a v token.Number = refl
-grown-shown a v token.Text = refl
-grown-shown a v token.Key = refl
-
 -- What is known of a text that is shown
-module _ (d : Document) (t : List ℕ) (o : Opened) (s : Settled d t o) (text : d.token ≡ token.Text)
+module _ (d : Document) (t : List ℕ) (o : Opened) (s : Parted d t o) (text : d.token ≡ token.Text)
     (shown : d.shown ≡ true)
   where
     abbrev a : Document
@@ -87,13 +79,13 @@ module _ (d : Document) (t : List ℕ) (o : Opened) (s : Settled d t o) (text : 
         },
       )
 
-      pub grown-settled : Settled e (t ++ v) o
+      pub grown-settled : Parted e (t ++ v) o
       grown-settled = record {
         apart = new;
         held =
             goes-on a t (inl text-apart) (grown a.string v) a.first v
             (λ u. grown-taken a.string u v (even-apart even) (plain-of v plain)) o s.held;
-        shows = s.shows ∙ sym (grown-shown a v a.token);
+        sure = s.sure;
         same = ap (λ (q : Document). record q { value = e.value }) s.same;
         moved =
             subst (λ b. IsMoved b new e) (sym shown)
@@ -116,7 +108,7 @@ pub plain-run : (v : List ℕ) (i n : ℕ) → n ≡ scan_stop v i → IsAsciiTo
 plain-run v i n stop low = plain-each (slice_range v i n) (run-plain v i n stop) low
 
 -- No key is shown.
-shown-text : (d : Document) (t : List ℕ) (o : Opened) (s : Settled d t o) → d.shown ≡ true → IsOfString d.token
+shown-text : (d : Document) (t : List ℕ) (o : Opened) (s : Parted d t o) → d.shown ≡ true → IsOfString d.token
     → d.token ≡ token.Text
 shown-text d t o s on (inl is) = is
 shown-text d t o s on (inr is) =
@@ -179,6 +171,7 @@ module _ (level : ℕ) (chunk : List ℕ) (i : Reader) (v : Tree) (h : IsHere le
           held = λ _. grown-settled d t o s is on.0 bytes (filled outer w) on.1 run.plain put;
         } in
         read-any (ahead i chunk (i.at + n)) e (t ++ bytes) read;
+    complete = λ unset off. absurd (false≢true (sym off ∙ on.0));
     moves =
         moves-here level chunk i h.here h.low i n some run.within (refl, refl, refl) refl;
   }

@@ -11,9 +11,9 @@ use Rattle.jiter_steps.specs.declared.partial_string.PartialString.{PartialStrin
 use Rattle.jiter_steps.specs.declared.parse.ContainerKind.TheVariants as shape
 use Rattle.jiter_incremental.specs.Arrived.{Arrived, IsLeft, OpenValue, at_value, between_parts, at_end}
 use Rattle.jiter_incremental.specs.Between.{text_of}
-use Rattle.jiter_incremental.specs.Document.{Document, HasArrived, HasMoved, HasReadIn, Holding, IsMoved, Next, Opened, Settled}
+use Rattle.jiter_incremental.specs.Document.{Document, HasArrived, HasMoved, HasReadIn, Holding, IsMoved, Next, Opened, Parted}
 use Rattle.jiter_incremental.specs.Document.{anything, between_tokens, in_key, in_scalar, token_tree}
-use Rattle.jiter_incremental.specs.Reader.{HasReadTo, Ready, Refuses, Steps, Went, ahead, ahead_as, document, next_of}
+use Rattle.jiter_incremental.specs.Reader.{HasReadTo, IsComplete, Ready, Refuses, Steps, Went, ahead, ahead_as, document, next_of}
 use Rattle.jiter_incremental.specs.Slot.{OpenFrame, around, begun, filled}
 use Rattle.jiter_incremental.specs.declared.reader.Awaits.{Awaits}
 use Rattle.jiter_incremental.specs.declared.reader.Awaits.TheVariants as awaits
@@ -85,7 +85,7 @@ open-shown d new t (in_scalar fs b) h m some =
     let there = m.1.value fs h.3.2 h.3.3 in
     open-around new.value.depth new.value.tree fs (token_tree d d.token) there.0 there.1 some
 
-pub open-settled : (d : Document) (t : List ℕ) (o : Opened) → Settled d t o → 0 < d.value.depth
+pub open-settled : (d : Document) (t : List ℕ) (o : Opened) → Parted d t o → 0 < d.value.depth
     → OpenTree d.value.depth d.value.tree
 open-settled d t o h some = by d.shown refl h.moved where
   by : (b : Bool) → d.shown ≡ b → IsMoved b h.apart d → OpenTree d.value.depth d.value.tree
@@ -123,6 +123,7 @@ below level chunk i v f x r some deeper is = record {
   low = r.low;
   within = r.within;
   room = r.room;
+  complete = r.complete;
   read = (
     r.read.0,
     f ∷ r.read.1,
@@ -140,6 +141,7 @@ above level chunk i x j y f v w some was is q = record {
   same = q.same;
   depth = omega (arith, q.depth);
   low = q.low;
+  complete = q.complete;
   reads = record {
     goes = λ t outer n r.
         subst (λ u. HasReadTo chunk j (filled outer u) (t ++ take j.at chunk)) (sym is)
@@ -166,6 +168,7 @@ went-then level chunk i v j w k x a b = record {
   same = (b.same.0 ∙ a.same.0, b.same.1 ∙ a.same.1);
   depth = b.depth;
   low = b.low;
+  complete = b.complete;
   reads = record { goes = λ t outer n r. b.reads.goes t outer n (a.reads.goes t outer n r) };
 }
 
@@ -182,6 +185,7 @@ ready-then level chunk i v j w r a deep = record {
   above = deep;
   low = a.low;
   within = a.within;
+  complete = a.complete;
   room = subst (λ b. b + length chunk < 2 ^ 64) (sym a.same.1) r.room;
   read = (r.read.0, r.read.1, r.read.2, a.reads.goes r.read.0 r.read.1 r.read.2 r.read.3);
 }
@@ -193,6 +197,7 @@ went-none level chunk i v r = record {
   same = (refl, refl);
   depth = omega (arith, r.above);
   low = r.low;
+  complete = r.complete;
   reads = record { goes = λ t outer n h. h };
 }
 
@@ -216,7 +221,7 @@ read-counted n d p t h = record {
       record {
         apart = record s.apart { position = p };
         held = counted-holding s.apart p t h.opened s.held;
-        shows = s.shows;
+        sure = s.sure;
         same = ap (λ (e : Document). record e { position = p }) s.same;
         moved = by d.shown s.apart s.moved;
       };
@@ -233,6 +238,7 @@ steps-went level chunk i v j w n r s = record {
   same = (s.moves.still.0, s.moves.still.1);
   depth = s.moves.depth.0;
   low = s.moves.low;
+  complete = s.complete;
   reads = record {
     goes = λ t outer at h.
         let k = record j { at = j.at + n } in
@@ -261,6 +267,7 @@ outermost chunk i v j w a = record {
   same = a.same;
   depth = omega arith;
   low = a.low;
+  complete = a.complete;
   reads = record { goes = λ t outer at h. a.reads.goes t outer at h };
 }
 
@@ -268,6 +275,7 @@ pub outermost-ready : (chunk : List ℕ) (i : Reader) (v : Tree) → Ready 0 chu
 outermost-ready chunk i v r some = record {
   above = omega (arith, some);
   low = r.low;
+  complete = r.complete;
   within = r.within;
   room = r.room;
   read = (r.read.0, r.read.1, r.read.2, r.read.3);
@@ -289,6 +297,7 @@ pub ready-start : (chunk : List ℕ) (i : Reader) (v : Tree) (t : List ℕ) → 
 ready-start chunk i v t h start low room = record {
   above = omega arith;
   low = low;
+  complete = h.full;
   within = omega (arith, start);
   room = room;
   read = (t, [], refl, chunk-begun chunk i v t h start);
@@ -311,11 +320,12 @@ counted-to chunk i j x t n below within base at place h =
     }
 
 -- What was read to the end of a chunk, or to where an allocation failed, has arrived.
-pub arrived-free : (chunk : List ℕ) (j : Reader) (w : Tree) (t : List ℕ) → ahead j chunk j.at ≡ anything
+pub arrived-free : (chunk : List ℕ) (j : Reader) (w : Tree) (t : List ℕ) → ahead j chunk j.at ≡ anything → IsComplete j
     → HasReadTo chunk j w t → HasArrived (document j w) t
-arrived-free chunk j w t free h = record {
+arrived-free chunk j w t free full h = record {
   read = subst (λ n. HasReadIn n (document j w) t) free h.read;
   position = h.position;
+  full = full;
 }
 
 ahead-end : (k : Token) (a : Awaits) (chunk : List ℕ) (i : ℕ) → length chunk ≤ i → ahead_as k a chunk i ≡ anything
@@ -323,12 +333,13 @@ ahead-end token.Nothing awaits.Comma chunk i past = ap next_of (slice_get_past c
 ahead-end token.Nothing awaits.Nothing chunk i past = ap next_of (slice_get_past chunk i past)
 ahead-end k a chunk i past = refl
 
-pub arrived-all : (chunk : List ℕ) (j : Reader) (w : Tree) (t : List ℕ) → length chunk ≤ j.at → j.at ≤ length chunk
+pub arrived-all : (chunk : List ℕ) (j : Reader) (w : Tree) (t : List ℕ) → IsComplete j → length chunk ≤ j.at
+    → j.at ≤ length chunk
     → HasReadTo chunk j w (t ++ take j.at chunk) → HasArrived (document j w) (t ++ chunk)
-arrived-all chunk j w t past within h =
+arrived-all chunk j w t full past within h =
     let all : take j.at chunk ≡ chunk = take_all j.at chunk past in
     subst (λ u. HasArrived (document j w) (t ++ u)) all
-    (arrived-free chunk j w (t ++ take j.at chunk) (ahead-end j.token j.awaits chunk j.at past) h)
+    (arrived-free chunk j w (t ++ take j.at chunk) (ahead-end j.token j.awaits chunk j.at past) full h)
 
 -- From the start of the chunk
 pub went-from : (chunk : List ℕ) (i : Reader) (v : Tree) (j : Reader) (w : Tree) → Went 0 chunk i v j w → i.at ≡ 0

@@ -1,6 +1,6 @@
 -- A scalar begins in a chunk, or a number is read there, in an open container whatever that is in.
-use Rattle.std.proofs.Common.{◌≡◌, ◌⊎◌, ℕ, ◌+◌, ◌-◌, ◌<◌, ◌≤◌, true, false, List, [], ◌∷◌, ◌++◌, length, refl, sym}
-use Rattle.std.proofs.Common.{subst, ap, ◌∙◌}
+use Rattle.std.proofs.Common.{◌≡◌, ℕ, ◌+◌, ◌-◌, ◌<◌, ◌≤◌, true, false, List, [], ◌∷◌, ◌++◌, length, refl, sym}
+use Rattle.std.proofs.Common.{subst}
 use Rattle.std.proofs.Common.{◌==◌, Bool, arith, eqb-true}
 use Rattle.std.specs.Prelude.{slice_index, slice_range, Vec}
 use Rattle.std.specs.declared.alloc.Global.{Global}
@@ -19,7 +19,7 @@ use Rattle.jiter_steps.specs.declared.parse.Start.TheVariants as start
 use Rattle.jiter_value.specs.Owned.{owned_text, tree_as}
 use Rattle.jiter_incremental.specs.Document.{BeginsHere, HasReadIn, HasTakenIn, NameBegins, anything}
 use Rattle.jiter_incremental.specs.Document.{between_tokens, in_scalar, with_byte}
-use Rattle.jiter_incremental.specs.Reader.{AwaitsValue, HasReadTo, IsAt, IsHere, Moves, Shows, Stays, Steps}
+use Rattle.jiter_incremental.specs.Reader.{AwaitsValue, AsRead, IsAt, IsComplete, IsHere, Moves, Stays, Steps}
 use Rattle.jiter_incremental.specs.Reader.{after_level, ahead, document, refused, with_shown}
 use Rattle.jiter_incremental.specs.Slot.{AwaitsPart, HasRoomAt, IsContainer, IsPut, IsRoomy, OpenFrame, begun, filled}
 use Rattle.jiter_value.specs.declared.value.JsonValue.{JsonValue, out-JsonValue}
@@ -33,8 +33,9 @@ use Rattle.jiter_incremental.proofs.Documents.{follows-byte, known-as, refuses, 
 use Rattle.jiter_incremental.proofs.Documents.Tokens.{decimal-starts, infinity-begins, infinity-first, name-denied}
 use Rattle.jiter_incremental.proofs.Documents.Tokens.{nan-begins, number-begins, range-first}
 use Rattle.jiter_incremental.proofs.Placing.{begins-there, number-put}
-use Rattle.jiter_incremental.proofs.Settling.{apart-read, moves-here, moves-one, read-any, reads-apart, shown-nothing, steps-one}
+use Rattle.jiter_incremental.proofs.Settling.{apart-read, moves-here, moves-one, reads-apart, shown-nothing, steps-one}
 use Rattle.jiter_incremental.proofs.Slots.{filled-same}
+use Rattle.jiter_incremental.proofs.Showing.{shown-steps}
 
 -- The byte begins the one name or the other.
 pub name-of : (c : ℕ) → start_of c ≡ start.Number → begins_decimal c ≡ false → (k : Name) × NameBegins k c
@@ -43,33 +44,6 @@ name-of c starts named = by (c == 78) refl where
   by true is = (name.NaN, subst (NameBegins name.NaN) (sym (eqb-true c 78 is)) nan-begins)
   by false is =
       (name.Infinity, subst (NameBegins name.Infinity) (sym (infinity-first c starts named is)) infinity-begins)
-
--- What is moved into the value so far, and shown there, is read.
-pub shown-steps : (level : ℕ) (chunk : List ℕ) (i : Reader) (v : Tree) (k : Reader) (x : Tree) (j : Reader) (w : Tree)
-    (n : ℕ) → Moves level chunk i k n → Shows level k x j w → j ≡ with_shown k j.shown j.number j.string j.key
-    → ((t : List ℕ) (outer : List OpenFrame) → IsAt level outer → HasReadTo chunk i (filled outer v) t
-    → HasTakenIn anything (document k (filled outer x)) (t ++ slice_range chunk i.at (i.at + n)))
-    → Steps level chunk i v j w n
-shown-steps level chunk i v k x j w n moves shows same goes = record {
-  goes = λ t outer at r.
-      let d = document j (filled outer w) in
-      let u = t ++ slice_range chunk i.at (i.at + n) in
-      read-any (ahead j chunk (i.at + n)) d u (shows.goes anything u outer at (goes t outer at r));
-  moves =
-      let settings : j.settings ≡ k.settings = ap (λ (r : Reader). r.settings) same in
-      let base : j.base ≡ k.base = ap (λ (r : Reader). r.base) same in
-      let place : j.at ≡ k.at = ap (λ (r : Reader). r.at) same in
-      let depth : j.depth ≡ k.depth = ap (λ (r : Reader). r.depth) same in
-      let unset : j.fault ≡ k.fault = ap (λ (r : Reader). r.fault) same in
-      record {
-        within = moves.within;
-        some = subst (λ m. (0 < n) ⊎ (m < level)) (sym depth) moves.some;
-        still = (settings ∙ moves.still.0, base ∙ moves.still.1, place ∙ moves.still.2);
-        depth = (omega (arith, depth, moves.depth.0), omega (arith, depth, moves.depth.1));
-        low = omega (arith, depth, moves.low);
-        deeper = λ more. unset ∙ moves.deeper (omega (arith, depth, more));
-      };
-}
 
 module _ (level : ℕ) (chunk : List ℕ) (i : Reader) (v : Tree) (h : IsHere level chunk i v)
     (none : i.token ≡ token.Nothing)
@@ -97,10 +71,11 @@ module _ (level : ℕ) (chunk : List ℕ) (i : Reader) (v : Tree) (h : IsHere le
                 known = known-as anything d e t o (refl, refl, refl) b.known;
                 held = λ unset. (none, b.left);
               } in
-              reads-apart anything e t all hidden (λ unset. shown-nothing e none);
+              reads-apart anything e t all hidden;
           free = free;
           still = (refl, refl, refl);
           depth = refl;
+          complete = λ unset _. shown-nothing (document j v) none;
         }
 
     module _ (awaited : AwaitsValue level chunk i v) (other : is_blank c ≡ false) (low : level ≤ 200) where
@@ -134,12 +109,13 @@ module _ (level : ℕ) (chunk : List ℕ) (i : Reader) (v : Tree) (h : IsHere le
         -- Else its bytes are kept.
         pub number-kept : (n : PartialNumber) (e : ℕ) → i.at < e → e ≤ length chunk
             → HoldsNumber n (slice_range chunk i.at e) → (j : Reader) (w : Tree)
-            → Shows level (record i {
+            → AsRead level (record i {
               begin = i.base + i.at;
               token = token.Number;
               awaits = awaits.Value;
               number = n;
             }) v j w
+            → IsComplete j
             → j ≡ with_shown (record i {
               begin = i.base + i.at;
               token = token.Number;
@@ -147,13 +123,13 @@ module _ (level : ℕ) (chunk : List ℕ) (i : Reader) (v : Tree) (h : IsHere le
               number = n;
             }) j.shown j.number j.string j.key
             → Steps level chunk i v j w (e - i.at)
-        number-kept n e some within held j w shows same =
+        number-kept n e some within held j w shows full same =
             let k = record i { begin = i.base + i.at; token = token.Number; awaits = awaits.Value; number = n } in
             let end : i.at + (e - i.at) ≡ e = omega (arith, some) in
             let moves : Moves level chunk i k (e - i.at) =
             moves-here level chunk i h.here h.low k (e - i.at) (omega (arith, some)) (omega (arith, end, within))
             (refl, refl, refl) refl in
-            shown-steps level chunk i v k v j w (e - i.at) moves shows same
+            shown-steps level chunk i v k v j w (e - i.at) moves shows full same (hidden-here level chunk i v h none)
             (λ t outer at r.
             let d = document i (filled outer v) in
             let new = document k (filled outer v) in

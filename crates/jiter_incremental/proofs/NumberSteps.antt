@@ -1,7 +1,7 @@
 -- A number that a chunk cut goes on, ends or is refused, in an open container whatever that is in.
 use Rattle.std.proofs.Common.{◌≡◌, ◌⊎◌, ℕ, ◌+◌, ◌<◌, ◌≤◌, Bool, true, false, List, [], ◌∷◌, ◌++◌, length, refl, sym, subst, ap, ◌∙◌}
 use Rattle.std.proofs.Common.{append-nil, arith, inl, inr}
-use Rattle.std.specs.Prelude.{None, Result, Ok, Err, IfOk, OnErr, slice_index, slice_range, string_bytes}
+use Rattle.std.specs.Prelude.{Result, Ok, Err, IfOk, OnErr, slice_index, slice_range, string_bytes}
 use Rattle.std.specs.declared.alloc.Global.{Global}
 use Rattle.std.specs.declared.borrow.CowStr.{CowStr}
 use Rattle.std.proofs.lemmas.Option.{none-some}
@@ -17,9 +17,9 @@ use Rattle.jiter_scan.specs.declared.partial_word.PartialWord.{PartialWord}
 use Rattle.jiter_steps.specs.Blank.{is_blank}
 use Rattle.jiter_steps.specs.StringDecoder.{text_view}
 use Rattle.jiter_steps.specs.Tree.{Tree}
-use Rattle.jiter_incremental.specs.Document.{HasCome, HasReadIn, HasTakenIn, IsReadAs, anything, in_scalar, is_shown, own_number, with_byte}
+use Rattle.jiter_incremental.specs.Document.{HasCome, HasReadIn, HasTakenIn, IsReadAs, anything, in_scalar, own_number, with_byte}
 use Rattle.jiter_incremental.specs.Names.{name_word}
-use Rattle.jiter_incremental.specs.Reader.{HasReadTo, HasTakenTo, Hides, IsApart, IsAt, IsHere, IsStill, Moves, Shows, Stays, Steps, StepsFrom, after_level, ahead, ahead_as}
+use Rattle.jiter_incremental.specs.Reader.{AsRead, HasReadTo, IsAt, IsComplete, IsHere, Stays, Steps, after_level, ahead, ahead_as}
 use Rattle.jiter_incremental.specs.Reader.{document, refused, with_shown}
 use Rattle.jiter_incremental.specs.Slot.{IsPut, OpenFrame, filled}
 use Rattle.jiter_incremental.specs.declared.names.Name.TheVariants as name
@@ -31,38 +31,42 @@ use Rattle.jiter_incremental.proofs.Documents.{puts, refuses}
 use Rattle.jiter_incremental.proofs.Documents.Names.{minus-alone, name-refused, name-taken}
 use Rattle.jiter_incremental.proofs.Documents.Tokens.{number-ends, number-known, number-minus, number-open, number-refused, number-stays, number-takes}
 use Rattle.jiter_incremental.proofs.Placing.{depth-of, put-there}
-use Rattle.jiter_incremental.proofs.Settling.{ahead-level, moves-here, moves-one, one-slice, read-any, reads-apart, shown-word}
-use Rattle.jiter_incremental.proofs.Showing.{apart-here}
+use Rattle.jiter_incremental.proofs.Settling.{ahead-level, apart-read, moves-from, moves-here, moves-one, reads-apart, shown-word, steps-one}
+use Rattle.jiter_incremental.proofs.Showing.{shown-steps}
 
--- The next byte is taken where a scalar is unfinished and apart.
-module _ (level : ℕ) (chunk : List ℕ) (i : Reader) (v : Tree) (h : IsApart level chunk i v) where
-  pub come-here : (x : Tree) (t : List ℕ) → HasTakenTo i x t → HasCome (document i x) t
-  come-here x t r = record { read = r.read; position = r.position }
+-- Nothing is known of the byte after a number that is unfinished.
+pub ahead-number : (r : Reader) (chunk : List ℕ) (n : ℕ) → r.token ≡ token.Number → ahead r chunk n ≡ anything
+ahead-number r chunk n is = ap (λ k. ahead_as k r.awaits chunk n) is
 
-  pub from-one : (j : Reader) → Moves level chunk i j 1 → j.shown ≡ false
-      → ((x : Tree) → j.fault ≡ None → is_shown (document j x) ≡ false)
-      → ((t : List ℕ) (outer : List OpenFrame) → IsAt level outer → HasTakenTo i (filled outer v) t
-      → HasTakenIn anything (document j (filled outer v)) (t ++ slice_index chunk i.at ∷ []))
-      → StepsFrom level chunk i v j v 1
-  from-one j moves hidden off goes = record {
-    goes = λ t outer at r.
-        let d = document j (filled outer v) in
-        let u = t ++ slice_index chunk i.at ∷ [] in
-        subst (λ s. HasReadIn (ahead j chunk (i.at + 1)) d (t ++ s)) (sym (one-slice chunk i.at h.inside))
-        (read-any (ahead j chunk (i.at + 1)) d u
-        (reads-apart anything d u (goes t outer at r) hidden (off (filled outer v))));
-    moves = moves;
-  }
+-- What was kept begins a number.
+pub begun-more : {E : Type 0} (old new : PartialNumber) (w : List ℕ) (f : ℕ → List ℕ) (r : Result ℕ E)
+    → HoldsNumber old w → IfOk r (λ n. (u : List ℕ) → HoldsNumber old u → HoldsNumber new (u ++ f n))
+    → OnErr r ((string_bytes new.text ≡ string_bytes old.text) × (new.stage ≡ old.stage))
+    → IsBegun (string_bytes new.text) new.stage
+begun-more old new w f (Ok n) h held refused =
+    let x = held w h in subst (λ u. IsBegun u new.stage) (sym x.text) x.begun
+begun-more old new w f (Err e) h held refused =
+    subst (λ s. IsBegun (string_bytes new.text) s) (sym refused.1)
+    (subst (λ u. IsBegun u old.stage) (sym (refused.0 ∙ h.text)) h.begun)
 
+-- A number is unfinished, and apart.
+module _ (level : ℕ) (chunk : List ℕ) (i : Reader) (v : Tree) (h : IsHere level chunk i v) (hidden : i.shown ≡ false) where
   module _ (is : i.token ≡ token.Number) where
+    come-here : (x : Tree) (t : List ℕ) → HasReadTo chunk i x t → HasCome (document i x) t
+    come-here x t r = record {
+      read = apart-read anything (document i x) t
+          (subst (λ n. HasReadIn n (document i x) t) (ahead-number i chunk i.at is) r.read) hidden;
+      position = r.position;
+    }
+
     -- It fits nowhere in the number,
     pub number-wrong : (kind : FaultKind) (w : Went) (at : ℕ) → is_forgiven (fault_kind kind) ≡ false
         → Leads i.number.stage (slice_index chunk i.at) w
         → ((names : Bool) (u : List ℕ) → number_by names u (i.base + i.at) w ≡ failed (fault_kind kind) at)
-        → StepsFrom level chunk i v (refused i kind at) v 1
+        → Steps level chunk i v (refused i kind at) v 1
     number-wrong kind w at bad leads fails =
         let j = refused i kind at in
-        from-one j (moves-one level chunk i h.here h.low j h.inside (refl, refl, refl) refl) h.hidden (λ x none. absurd (none-some _ (sym none)))
+        steps-one level chunk i v j v h.inside (moves-one level chunk i h.here h.low j h.inside (refl, refl, refl) refl) hidden (λ x none. absurd (none-some _ (sym none)))
         (λ t outer place r.
         let d = document i (filled outer v) in
         let c = slice_index chunk i.at in
@@ -75,10 +79,10 @@ module _ (level : ℕ) (chunk : List ℕ) (i : Reader) (v : Tree) (h : IsApart l
     module _ (fits : Fits i.number.stage (slice_index chunk i.at) went.Named) where
       pub name-begins : (o : PartialWord) → o.word.now ≡ name_word name.MinusInfinity → o.seen ≡ 1
           → i.settings.allow_inf_nan ≡ true
-          → StepsFrom level chunk i v (record i { token = token.Word; name = name.MinusInfinity; word = o }) v 1
+          → Steps level chunk i v (record i { token = token.Word; name = name.MinusInfinity; word = o }) v 1
       name-begins o word one allowed =
           let j = record i { token = token.Word; name = name.MinusInfinity; word = o } in
-          from-one j (moves-one level chunk i h.here h.low j h.inside (refl, refl, refl) refl) h.hidden (λ x none. shown-word (document j x) refl)
+          steps-one level chunk i v j v h.inside (moves-one level chunk i h.here h.low j h.inside (refl, refl, refl) refl) hidden (λ x none. shown-word (document j x) refl)
           (λ t outer place r.
           let d = document i (filled outer v) in
           let e = document j (filled outer v) in
@@ -89,11 +93,11 @@ module _ (level : ℕ) (chunk : List ℕ) (i : Reader) (v : Tree) (h : IsApart l
           refl refl refl word one allowed))
 
       pub name-wrong : i.settings.allow_inf_nan ≡ false
-          → StepsFrom level chunk i v (refused i fault_of.InvalidNumber (i.base + i.at)) v 1
+          → Steps level chunk i v (refused i fault_of.InvalidNumber (i.base + i.at)) v 1
       name-wrong off =
           let at = i.base + i.at in
           let j = refused i fault_of.InvalidNumber at in
-          from-one j (moves-one level chunk i h.here h.low j h.inside (refl, refl, refl) refl) h.hidden (λ x none. absurd (none-some _ (sym none)))
+          steps-one level chunk i v j v h.inside (moves-one level chunk i h.here h.low j h.inside (refl, refl, refl) refl) hidden (λ x none. absurd (none-some _ (sym none)))
           (λ t outer place r.
           let d = document i (filled outer v) in
           let e = document j (filled outer v) in
@@ -109,7 +113,7 @@ module _ (level : ℕ) (chunk : List ℕ) (i : Reader) (v : Tree) (h : IsApart l
 
     module _ (leads : Leads i.number.stage (slice_index chunk i.at) went.Over) (n : PartialNumber) (k : CowStr Global)
         (w : Tree) (put : IsPut level v (text_view i.key) (own_number (string_bytes i.number.text)) w) where
-      read-ended : (t : List ℕ) (outer : List OpenFrame) → IsAt level outer → HasTakenTo i (filled outer v) t
+      read-ended : (t : List ℕ) (outer : List OpenFrame) → IsAt level outer → HasReadTo chunk i (filled outer v) t
           → HasReadTo chunk (ended n k) (filled outer w) t
       read-ended t outer at r =
           let d = document i (filled outer v) in
@@ -130,7 +134,7 @@ module _ (level : ℕ) (chunk : List ℕ) (i : Reader) (v : Tree) (h : IsApart l
           let next : ahead (ended n k) chunk i.at ≡ with_byte c =
           ahead-level token.Nothing (after_level level) level chunk i.at refl refl h.inside in
           record {
-            read = subst (λ m. HasReadIn m e t) (sym next) (reads-apart (with_byte c) e t one h.hidden (λ unset. refl));
+            read = subst (λ m. HasReadIn m e t) (sym next) (reads-apart (with_byte c) e t one hidden);
             position = r.position;
           }
 
@@ -146,21 +150,15 @@ module _ (level : ℕ) (chunk : List ℕ) (i : Reader) (v : Tree) (h : IsApart l
 
       -- What goes on after it,
       pub ended-then : (j : Reader) (x : Tree) (m : ℕ) → Steps level chunk (ended n k) w j x m
-          → StepsFrom level chunk i v j x m
+          → Steps level chunk i v j x m
       ended-then j x m s = record {
         goes = λ t outer at r. s.goes t outer at (read-ended t outer at r);
-        moves = record {
-          within = s.moves.within;
-          some = s.moves.some;
-          still = s.moves.still;
-          depth = s.moves.depth;
-          low = s.moves.low;
-          deeper = s.moves.deeper;
-        };
+        moves = moves-from level chunk i (ended n k) j m (refl, refl, refl) s.moves;
+        complete = s.complete;
       }
 
       -- or whitespace.
-      pub ended-blank : is_blank (slice_index chunk i.at) ≡ true → StepsFrom level chunk i v (ended n k) w 1
+      pub ended-blank : is_blank (slice_index chunk i.at) ≡ true → Steps level chunk i v (ended n k) w 1
       ended-blank blank =
           let j = ended n k in
           ended-then j w 1
@@ -173,92 +171,47 @@ pub invalid-only : (w : Went) → (w ≡ went.Invalid) ⊎ (w ≡ went.TooLong) 
 invalid-only w (inl is) other = is
 invalid-only w (inr is) other = absurd (other is)
 
--- Nothing is known of the byte after a number that is unfinished.
-pub ahead-number : (r : Reader) (chunk : List ℕ) (n : ℕ) → r.token ≡ token.Number → ahead r chunk n ≡ anything
-ahead-number r chunk n is = ap (λ k. ahead_as k r.awaits chunk n) is
-
--- What was kept begins a number.
-pub begun-more : {E : Type 0} (old new : PartialNumber) (w : List ℕ) (f : ℕ → List ℕ) (r : Result ℕ E)
-    → HoldsNumber old w → IfOk r (λ n. (u : List ℕ) → HoldsNumber old u → HoldsNumber new (u ++ f n))
-    → OnErr r ((string_bytes new.text ≡ string_bytes old.text) × (new.stage ≡ old.stage))
-    → IsBegun (string_bytes new.text) new.stage
-begun-more old new w f (Ok n) h held refused =
-    let x = held w h in subst (λ u. IsBegun u new.stage) (sym x.text) x.begun
-begun-more old new w f (Err e) h held refused =
-    subst (λ s. IsBegun (string_bytes new.text) s) (sym refused.1)
-    (subst (λ u. IsBegun u old.stage) (sym (refused.0 ∙ h.text)) h.begun)
-
--- A number goes on: it is moved out of the value so far, takes bytes, and is moved in.
-module _ (level : ℕ) (chunk : List ℕ) (i : Reader) (v : Tree) (h : IsHere level chunk i v) (is : i.token ≡ token.Number)
-    (j : Reader) (w : Tree) (hides : Hides level i v j w) (same : j ≡ with_shown i false j.number j.string j.key) where
-  number-come : (t : List ℕ) (outer : List OpenFrame) → IsAt level outer → HasReadTo chunk i (filled outer v) t
-      → HasCome (document j (filled outer w)) t
-  number-come t outer at r = record {
-    read = subst (λ n. HasTakenIn n (document j (filled outer w)) t) (ahead-number i chunk i.at is)
-        (hides.goes (ahead i chunk i.at) t outer at r.read);
-    position = ap (λ (m : Reader). m.base + m.at) same ∙ r.position;
-  }
-
-  pub number-apart : IsApart level chunk j w
-  number-apart = apart-here level chunk i v h j w (ahead-number i chunk i.at is) hides same
-
-  pub number-held : (w : List ℕ) × HoldsNumber j.number w
+-- A number goes on, and is moved into the value so far again if it is one.
+module _ (level : ℕ) (chunk : List ℕ) (i : Reader) (v : Tree) (h : IsHere level chunk i v) (hidden : i.shown ≡ false)
+    (is : i.token ≡ token.Number) where
+  pub number-held : (w : List ℕ) × HoldsNumber i.number w
   number-held =
       let r = h.read in
-      let d = document j (filled r.1 w) in
-      let x = number-open d r.0 (number-come r.0 r.1 r.2 r.3) (ap (λ (m : Reader). m.fault) same ∙ h.unset)
-      (ap (λ (m : Reader). m.token) same ∙ is) in
+      let d = document i (filled r.1 v) in
+      let x = number-open d r.0 (come-here level chunk i v h hidden is (filled r.1 v) r.0 r.3) h.unset is in
       (x.bytes, x.held.0)
 
-  module _ (m : PartialNumber) (k : Reader) (x : Tree) (shows : Shows level (record j { number = m }) w k x)
-      (new : k ≡ with_shown (record j { number = m }) k.shown k.number k.string k.key) where
-    number-still : IsStill i k
-    number-still = (
-      ap (λ (r : Reader). r.settings) new ∙ ap (λ (r : Reader). r.settings) same,
-      ap (λ (r : Reader). r.base) new ∙ ap (λ (r : Reader). r.base) same,
-      ap (λ (r : Reader). r.at) new ∙ ap (λ (r : Reader). r.at) same,
-    )
-
-    number-depth : k.depth ≡ i.depth
-    number-depth = ap (λ (r : Reader). r.depth) new ∙ ap (λ (r : Reader). r.depth) same
-
-    number-taken : (n : ℕ) → (0 < n) × (j.at + n ≤ length chunk)
-        → ((u : List ℕ) → HoldsNumber j.number u → HoldsNumber m (u ++ slice_range chunk j.at (j.at + n)))
-        → Steps level chunk i v k x n
-    number-taken n part held =
-        let place = ap (λ (r : Reader). r.at) same in
-        record {
-          goes = λ t outer at r.
-              let d = document j (filled outer w) in
-              let bytes = slice_range chunk j.at (j.at + n) in
-              let e = document k (filled outer x) in
-              let more = number-takes d m t bytes (number-come t outer at r)
-              (ap (λ (q : Reader). q.fault) same ∙ h.unset)
-              (ap (λ (q : Reader). q.token) same ∙ is) held in
-              let read = shows.goes anything (t ++ bytes) outer at more in
-              subst (λ p. HasReadIn (ahead k chunk (p + n)) e (t ++ slice_range chunk p (p + n))) place
-              (read-any (ahead k chunk (j.at + n)) e (t ++ bytes) read);
-          moves = moves-here level chunk i h.here h.low k n part.0 (subst (λ p. p + n ≤ length chunk) place part.1)
-              number-still number-depth;
-        }
-
-    pub number-steps : {E : Type 0} (r : Result ℕ E) → IfOk r (λ n. (0 < n) × (j.at + n ≤ length chunk))
-        → IfOk r (λ n. (u : List ℕ) → HoldsNumber j.number u → HoldsNumber m (u ++ slice_range chunk j.at (j.at + n)))
+  module _ (m : PartialNumber) (k : Reader) (x : Tree) (read : AsRead level (record i { number = m }) v k x)
+      (full : IsComplete k) (same : k ≡ with_shown (record i { number = m }) k.shown k.number k.string k.key) where
+    pub number-steps : {E : Type 0} (r : Result ℕ E) → IfOk r (λ n. (0 < n) × (i.at + n ≤ length chunk))
+        → IfOk r (λ n. (u : List ℕ) → HoldsNumber i.number u → HoldsNumber m (u ++ slice_range chunk i.at (i.at + n)))
         → IfOk r (λ n. Steps level chunk i v k x n)
-    number-steps (Ok n) part held = number-taken n part held
+    number-steps (Ok n) part held =
+        let j = record i { number = m } in
+        shown-steps level chunk i v j v k x n
+        (moves-here level chunk i h.here h.low j n part.0 part.1 (refl, refl, refl) refl) read full same hidden
+        (λ t outer at r.
+        let d = document i (filled outer v) in
+        number-takes d m t (slice_range chunk i.at (i.at + n))
+        (come-here level chunk i v h hidden is (filled outer v) t r) h.unset is held)
     number-steps (Err e) part held = tt
 
     pub number-kept : {E : Type 0} (r : Result ℕ E)
-        → OnErr r ((string_bytes m.text ≡ string_bytes j.number.text) × (m.stage ≡ j.number.stage))
+        → OnErr r ((string_bytes m.text ≡ string_bytes i.number.text) × (m.stage ≡ i.number.stage))
         → OnErr r (Stays level chunk i v k x)
     number-kept (Ok n) refused = tt
     number-kept (Err e) refused = record {
       goes = λ t outer at r.
-          let d = document j (filled outer w) in
-          let more = number-stays d m t (number-come t outer at r) (ap (λ (q : Reader). q.fault) same ∙ h.unset)
-          (ap (λ (q : Reader). q.token) same ∙ is) refused.0 refused.1 in
-          shows.goes anything t outer at more.read;
-      free = ahead-number k chunk i.at (ap (λ (r : Reader). r.token) new ∙ ap (λ (r : Reader). r.token) same ∙ is);
-      still = number-still;
-      depth = number-depth;
+          let d = document i (filled outer v) in
+          let more = number-stays d m t (come-here level chunk i v h hidden is (filled outer v) t r) h.unset is
+          refused.0 refused.1 in
+          read.goes anything t outer at (reads-apart anything (document (record i { number = m }) (filled outer v)) t more.read hidden);
+      free = ahead-number k chunk i.at (ap (λ (r : Reader). r.token) same ∙ is);
+      still = (
+        ap (λ (r : Reader). r.settings) same,
+        ap (λ (r : Reader). r.base) same,
+        ap (λ (r : Reader). r.at) same,
+      );
+      depth = ap (λ (r : Reader). r.depth) same;
+      complete = full;
     }

@@ -8,7 +8,7 @@ use Rattle.jiter_scan.proofs.Standing.{slice_range-split}
 use Rattle.jiter_scan.specs.declared.errors.Fault.{Fault}
 use Rattle.jiter_steps.specs.Tree.{Tree}
 use Rattle.jiter_incremental.specs.Document.{Document, Follows, HasReadIn, HasTakenIn, IsOver, MayRefuseAt, Next}
-use Rattle.jiter_incremental.specs.Reader.{HasReadTo, IsAt, Ready, Refuses, Stays, Steps, Went, ahead, ahead_as, document, next_of}
+use Rattle.jiter_incremental.specs.Reader.{HasReadTo, IsAt, IsComplete, Ready, Refuses, Stays, Steps, Went, ahead, ahead_as, document, next_of}
 use Rattle.jiter_incremental.specs.Slot.{OpenFrame, filled}
 use Rattle.jiter_incremental.specs.declared.reader.Awaits.{Awaits}
 use Rattle.jiter_incremental.specs.declared.reader.Awaits.TheVariants as awaits
@@ -19,7 +19,7 @@ use Rattle.jiter_incremental.proofs.Arms.{hidden-nothing}
 use Rattle.jiter_incremental.proofs.Documents.{over-takes}
 use Rattle.jiter_incremental.proofs.Leading.{counted-to}
 use Rattle.jiter_incremental.proofs.Documents.Blanks.{held-byte, refuse-after, refuse-here, refuse-inside}
-use Rattle.jiter_incremental.proofs.Settling.{apart-read, one-slice, reads-apart, shown-nothing}
+use Rattle.jiter_incremental.proofs.Settling.{apart-read, one-slice, reads-apart}
 
 over-reads : (n m : Next) (d : Document) (t w : List ℕ) → Follows n w m → IsOver d → HasReadIn n d t
     → HasReadIn m d (t ++ w)
@@ -37,7 +37,7 @@ over-reads n m d t w follows over h = by d.fault refl where
     whole (inr f) =
         let hidden = hidden-nothing n d t h unset f.2 in
         let more = over-takes n m d t w follows over (apart-read n d t h hidden) in
-        reads-apart m d (t ++ w) more hidden (λ _. shown-nothing d f.2)
+        reads-apart m d (t ++ w) more hidden
 
 -- What is known to come next follows what was taken.
 follows-next : (chunk : List ℕ) (i : ℕ) (m : Next) → i < length chunk
@@ -68,6 +68,7 @@ over-step level chunk i v r here inside over =
           subst (λ e. HasReadIn (ahead i chunk e) d (t ++ slice_range chunk i.at e)) end
           (over-reads (ahead i chunk i.at) m d t (slice_range chunk i.at (length chunk))
           (follows-ahead i.token i.awaits chunk i.at m inside) (over (filled outer v)) h.read);
+      complete = r.complete;
       moves =
           record {
             within = omega (arith, end);
@@ -122,9 +123,9 @@ module _ (level : ℕ) (chunk : List ℕ) (i : Reader) (v : Tree) (j : Reader) (
   opened-so (Err e) here steps stays more = absurd (omega (arith, here, stays.depth, more))
 
 -- A reader that is over takes the rest of the chunk.
-pub over-went : (chunk : List ℕ) (i : Reader) (v : Tree) → i.at < length chunk → i.depth ≤ 201
+pub over-went : (chunk : List ℕ) (i : Reader) (v : Tree) → IsComplete i → i.at < length chunk → i.depth ≤ 201
     → ((x : Tree) → IsOver (document i x)) → Went 0 chunk i v (record i { at = length chunk }) v
-over-went chunk i v inside low over =
+over-went chunk i v full inside low over =
     let n = length chunk - i.at in
     let end : i.at + n ≡ length chunk = omega (arith, inside) in
     record {
@@ -133,6 +134,7 @@ over-went chunk i v inside low over =
       same = (refl, refl);
       depth = omega arith;
       low = low;
+      complete = full;
       reads = record {
         goes = λ t outer at h.
             let x = filled outer v in

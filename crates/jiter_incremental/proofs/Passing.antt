@@ -42,8 +42,8 @@ blanks-step level chunk i v h none n some end within =
           ∙ sym (slice_range-split chunk i.at (i.at + 1) (omega arith) (i.at + n) (omega (arith, some)))) in
           let u = t ++ slice_range chunk i.at (i.at + n) in
           read-any (ahead i chunk (i.at + n)) d u
-          (reads-apart anything d u (subst (HasTakenIn anything d) bytes more) (hidden-here level chunk i v h none)
-          (λ unset. shown-nothing d none));
+          (reads-apart anything d u (subst (HasTakenIn anything d) bytes more) (hidden-here level chunk i v h none));
+      complete = λ unset _. shown-nothing (document i v) none;
       moves =
           moves-here level chunk i h.here h.low i n some within (refl, refl, refl) refl;
     }

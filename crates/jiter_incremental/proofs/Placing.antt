@@ -166,8 +166,8 @@ module _ (level : ℕ) (chunk : List ℕ) (i : Reader) (v : Tree) (h : IsHere le
                 let got = document j (filled outer w) in
                 subst (λ m. HasReadIn (ahead j chunk m) got (t ++ slice_range chunk i.at m)) (sym end)
                 (read-any (ahead j chunk e) got (t ++ bytes)
-                (reads-apart anything got (t ++ bytes) all (hidden-here level chunk i v h none)
-                (λ unset. refl)));
+                (reads-apart anything got (t ++ bytes) all (hidden-here level chunk i v h none)));
+            complete = λ unset _. refl;
             moves =
                 moves-here level chunk i h.here h.low j (e - i.at) (omega (arith, within.begins))
                 (omega (arith, end, within.within)) (refl, refl, refl) refl;
@@ -206,9 +206,10 @@ module _ (level : ℕ) (chunk : List ℕ) (i : Reader) (v : Tree) (h : IsHere le
                 (λ p u n m. scalar-read x p u n m fs) b.reads in
                 let next : ahead j chunk e ≡ with_byte last =
                 ahead-level token.Nothing (after_level level) level chunk e refl refl within.ends.within in
-                let read = reads-apart (with_byte last) got (t ++ bytes) all (hidden-here level chunk i v h none) (λ unset. refl) in
+                let read = reads-apart (with_byte last) got (t ++ bytes) all (hidden-here level chunk i v h none) in
                 subst (λ m. HasReadIn (ahead j chunk m) got (t ++ slice_range chunk i.at m)) (sym end)
                 (subst (λ m. HasReadIn m got (t ++ bytes)) (sym next) read);
+            complete = λ unset _. refl;
             moves =
                 moves-here level chunk i h.here h.low j (e - i.at) (omega (arith, within.ends.begins))
                 (omega (arith, end, within.ends.within)) (refl, refl, refl) refl;

@@ -1,12 +1,13 @@
 -- A document whose unfinished scalar is in the value so far, or apart from it.
 use Rattle.std.proofs.Common.{◌≡◌, ℕ, zero, suc, ◌+◌, ◌-◌, ◌<◌, Bool, false, List, [], ◌∷◌, ◌++◌, length, take, drop, get_or, refl, sym, subst, ap, ◌∙◌}
-use Rattle.std.proofs.Common.{◌≤◌, arith, inl}
+use Rattle.std.proofs.Common.{◌≤◌, arith, inl, true}
+use Rattle.std.proofs.lemmas.Bool.{false≢true}
 use Rattle.jiter_steps.specs.Node.{nesting_limit}
 use Rattle.std.specs.Prelude.{slice_index, slice_range, None}
 use Rattle.std.proofs.lemmas.Option.{slice_get-get_or}
 use Rattle.jiter_scan.proofs.Standing.{slice-one}
-use Rattle.jiter_steps.specs.Tree.{Tree}
-use Rattle.jiter_incremental.specs.Document.{Document, HasReadIn, HasTakenIn, Holding, HoldsScalar}
+use Rattle.jiter_steps.specs.Tree.{Tree, null}
+use Rattle.jiter_incremental.specs.Document.{Document, HasReadIn, HasTakenIn, Holding, HoldsScalar, HasArrived, Parted, Settled}
 use Rattle.jiter_incremental.specs.Document.{IsMoved, Next, Opened, anything, between_tokens}
 use Rattle.jiter_incremental.specs.Document.{in_key, in_scalar, is_shown, shown_as, with_byte, with_parts}
 use Rattle.jiter_incremental.specs.Reader.{HasReadTo, IsAt, IsStill, Moves, Steps, after_level, ahead, ahead_as, document, next_of}
@@ -30,16 +31,22 @@ shown-word d is = ap (shown_as d) is
 pub shown-key : (d : Document) → d.token ≡ token.Key → is_shown d ≡ false
 shown-key d is = ap (shown_as d) is
 
--- A scalar that is no value stays apart,
-pub reads-apart : (n : Next) (d : Document) (t : List ℕ) → HasTakenIn n d t → d.shown ≡ false
-    → (d.fault ≡ None → is_shown d ≡ false) → HasReadIn n d t
-reads-apart n d t h hidden off = record {
+-- A scalar that is no value is not shown.
+pub not-shown : (d : Document) (t : List ℕ) (o : Opened) (s : Parted d t o) → is_shown s.apart ≡ false → d.shown ≡ false
+not-shown d t o s off = by d.shown refl where
+  by : (b : Bool) → d.shown ≡ b → d.shown ≡ false
+  by false is = is
+  by true is = absurd (false≢true (sym off ∙ s.sure is))
+
+-- One that stays apart is read,
+pub reads-apart : (n : Next) (d : Document) (t : List ℕ) → HasTakenIn n d t → d.shown ≡ false → HasReadIn n d t
+reads-apart n d t h hidden = record {
   opened = h.opened;
   known = h.known;
   held = λ unset. record {
     apart = d;
     held = h.held unset;
-    shows = hidden ∙ sym (off unset);
+    sure = λ on. absurd (false≢true (sym hidden ∙ on));
     same = refl;
     moved = subst (λ b. IsMoved b d d) (sym hidden) (refl, refl, refl);
   };
@@ -89,6 +96,19 @@ apart-read n d t h hidden = record {
       subst (λ e. Holding e t h.opened) (sym is) (holding-parts s.apart d.shown t h.opened s.held);
 }
 
+-- Where a scalar that is a value is shown, what is held is settled.
+pub settle : (d : Document) (t : List ℕ) (o : Opened) → Parted d t o → (d.shown ≡ false → is_shown d ≡ false) → Settled d t o
+settle d t o p full = record { apart = p.apart; held = p.held; shows = by d.shown refl; same = p.same; moved = p.moved } where
+  by : (b : Bool) → d.shown ≡ b → d.shown ≡ is_shown p.apart
+  by true is = is ∙ sym (p.sure is)
+  by false is =
+      let m = subst (λ b. IsMoved b p.apart d) is p.moved in
+      let same = same-parts d p.apart p.same m.0 m.1 m.2 in
+      is ∙ sym (sym (ap (λ (x : Document). is_shown x) same) ∙ full is)
+
+pub settled-so : (d : Document) (t : List ℕ) (h : HasArrived d t) → d.fault ≡ None → Settled d t h.read.opened
+settled-so d t h unset = settle d t h.read.opened (h.read.held unset) (h.full unset)
+
 -- One byte is taken.
 pub one-slice : (chunk : List ℕ) (at : ℕ) → at < length chunk → slice_range chunk at (at + 1) ≡ slice_index chunk at ∷ []
 one-slice chunk at within = slice-one chunk at (get_or chunk at 0) (slice_get-get_or chunk at 0 within)
@@ -109,6 +129,18 @@ module _ (level : ℕ) (chunk : List ℕ) (i : Reader) (here : i.depth ≡ level
   pub moves-one : (j : Reader) → i.at < length chunk → IsStill i j → j.depth ≡ i.depth → Moves level chunk i j 1
   moves-one j inside still depth = moves-here j 1 (omega arith) (omega (arith, inside)) still depth
 
+-- It moves as one that is where it is.
+pub moves-from : (level : ℕ) (chunk : List ℕ) (i j k : Reader) (n : ℕ) → IsStill i j → Moves level chunk j k n
+    → Moves level chunk i k n
+moves-from level chunk i j k n still m = record {
+  within = subst (λ a. a + n ≤ length chunk) still.2 m.within;
+  some = m.some;
+  still = (m.still.0 ∙ still.0, m.still.1 ∙ still.1, m.still.2 ∙ still.2);
+  depth = m.depth;
+  low = m.low;
+  deeper = m.deeper;
+}
+
 module _ (level : ℕ) (chunk : List ℕ) (i : Reader) (v : Tree) (j : Reader) (w : Tree) where
   -- The next byte is taken,
   pub steps-one : i.at < length chunk → Moves level chunk i j 1 → j.shown ≡ false
@@ -122,8 +154,9 @@ module _ (level : ℕ) (chunk : List ℕ) (i : Reader) (v : Tree) (j : Reader) (
         let u = t ++ slice_index chunk i.at ∷ [] in
         subst (λ s. HasReadIn (ahead j chunk (i.at + 1)) d (t ++ s)) (sym (one-slice chunk i.at inside))
         (read-any (ahead j chunk (i.at + 1)) d u
-        (reads-apart anything d u (goes t outer at h) hidden (off (filled outer w))));
+        (reads-apart anything d u (goes t outer at h) hidden));
     moves = moves;
+    complete = λ unset _. off null unset;
   }
 
 -- After a value the next byte is known to come.

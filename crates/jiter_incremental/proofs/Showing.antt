@@ -1,7 +1,7 @@
 -- An unfinished scalar is moved into the value so far, and out of it again, in an open container whatever that is in.
-use Rattle.std.proofs.Common.{◌≡◌, ℕ, ◌+◌, ◌<◌, ◌^◌, true, false, List, [], ◌∷◌, length, refl, sym, subst, ap, ap₂, ◌∙◌}
-use Rattle.std.proofs.Common.{add-one, arith}
-use Rattle.std.specs.Prelude.{string_bytes, None}
+use Rattle.std.proofs.Common.{◌≡◌, ℕ, ◌+◌, ◌<◌, true, false, List, [], ◌∷◌, length, refl, sym, subst, ap, ap₂, ◌∙◌}
+use Rattle.std.proofs.Common.{◌⊎◌, ◌++◌, Bool, add-one, arith}
+use Rattle.std.specs.Prelude.{string_bytes, slice_range, None, Result, Ok, Err, IfOk, OnErr}
 use Rattle.std.specs.declared.alloc.Global.{Global}
 use Rattle.std.specs.declared.borrow.CowStr.{CowStr}
 use Rattle.jiter_scan.specs.Number.{Number, number_value}
@@ -18,8 +18,8 @@ use Rattle.jiter_value.specs.Owned.{owned_text, tree_as}
 use Rattle.jiter_incremental.specs.Arrived.{IsLeft, OpenValue, at_value}
 use Rattle.jiter_incremental.specs.Between.{text_of}
 use Rattle.jiter_incremental.specs.Document.{Document, HasMoved, HasReadIn, HasTakenIn, Holding, HoldsScalar, IsMoved, Next, Opened}
-use Rattle.jiter_incremental.specs.Document.{Settled, TakenFrom, anything, between_tokens, bytes_in, in_key, in_scalar, is_shown, token_tree, with_parts}
-use Rattle.jiter_incremental.specs.Reader.{Hides, IsApart, IsAt, IsHere, Shows, ahead, document, with_shown}
+use Rattle.jiter_incremental.specs.Document.{Parted, TakenFrom, anything, between_tokens, bytes_in, in_key, in_scalar, is_shown, token_tree, with_parts}
+use Rattle.jiter_incremental.specs.Reader.{AsRead, HasReadTo, IsAt, IsComplete, IsHere, Moves, Stays, Steps, ahead, document, with_shown}
 use Rattle.jiter_incremental.specs.Slot.{AwaitsPart, HasPart, HasValue, IsContainer, IsOfKey, IsPut, IsTaken, OpenFrame, around, begun, filled}
 use Rattle.jiter_incremental.specs.declared.reader.Awaits.TheVariants as awaits
 use Rattle.jiter_incremental.specs.declared.reader.Reader.{Reader}
@@ -28,27 +28,28 @@ use Rattle.jiter_incremental.specs.declared.reader.Token.TheVariants as token
 use Rattle.jiter_incremental.proofs.Documents.{known-as}
 use Rattle.jiter_incremental.proofs.Leading.{moved-key, moved-nothing, open-settled}
 use Rattle.jiter_incremental.proofs.Placing.{depth-of, put-there}
-use Rattle.jiter_incremental.proofs.Settling.{reads-apart}
+use Rattle.jiter_incremental.proofs.Settling.{apart-read, moves-from, read-any, reads-apart}
 use Rattle.jiter_incremental.proofs.Slots.{filled-same}
 
 -- It is moved in,
 pub shows-moved : (level : ℕ) (i : Reader) (v w x : Tree) (n : PartialNumber) (s : PartialString) (k : CowStr Global)
-    → i.depth ≡ level → ((y : Tree) → is_shown (document i y) ≡ true)
+    → i.depth ≡ level → i.shown ≡ false → ((y : Tree) → is_shown (document i y) ≡ true)
     → ((y : Tree) → x ≡ token_tree (document i y) i.token) → ((y : Tree) → HasMoved i.token (document i y) n s x)
-    → IsPut level v (text_view i.key) x w → Shows level i v (with_shown i true n s k) w
-shows-moved level i v w x n s k here on seen moved put = record {
+    → IsPut level v (text_view i.key) x w → AsRead level i v (with_shown i true n s k) w
+shows-moved level i v w x n s k here hidden on seen moved put = record {
   goes = λ next t outer at h.
       let d = document i (filled outer v) in
       let e = document (with_shown i true n s k) (filled outer w) in
       let tree = token_tree d d.token in
       let is = seen (filled outer v) in
+      let a = apart-read next d t h hidden in
       record {
-        opened = h.opened;
-        known = known-as next d e t h.opened (refl, refl, refl) h.known;
+        opened = a.opened;
+        known = known-as next d e t a.opened (refl, refl, refl) a.known;
         held = λ unset. record {
           apart = d;
-          held = h.held unset;
-          shows = sym (on (filled outer v));
+          held = a.held unset;
+          sure = λ _. on (filled outer v);
           same = refl;
           moved = (
             subst (λ y. HasMoved d.token d n s y) is (moved (filled outer v)),
@@ -63,13 +64,6 @@ shows-moved level i v w x n s k here on seen moved put = record {
           );
         };
       };
-}
-
--- or it is no value yet.
-pub shows-none : (level : ℕ) (i : Reader) (v : Tree) → i.shown ≡ false → ((y : Tree) → is_shown (document i y) ≡ false)
-    → Shows level i v i v
-shows-none level i v hidden off = record {
-  goes = λ next t outer at h. reads-apart next (document i (filled outer v)) t h hidden (λ unset. off (filled outer v));
 }
 
 -- a scalar that is unfinished
@@ -185,11 +179,11 @@ free-again level depth v x y w k outer (f ∷ gs) here at h taken =
       key = key-on k f gs free.2;
     }
 
-settled-in : (d : Document) (t : List ℕ) (o : Opened) (s : Settled d t o) → IsMoved true s.apart d
+settled-in : (d : Document) (t : List ℕ) (o : Opened) (s : Parted d t o) → IsMoved true s.apart d
     → InScalar s.apart t o
 settled-in d t o s m = in-moved s.apart t o d.number d.string (token_tree s.apart s.apart.token) s.held m.0
 
-is-moved : (d : Document) (t : List ℕ) (o : Opened) (s : Settled d t o) → d.shown ≡ true → IsMoved true s.apart d
+is-moved : (d : Document) (t : List ℕ) (o : Opened) (s : Parted d t o) → d.shown ≡ true → IsMoved true s.apart d
 is-moved d t o s on = subst (λ b. IsMoved b s.apart d) on s.moved
 
 -- A slot where a scalar is shown has a part.
@@ -212,7 +206,7 @@ pub hides-moved : (level : ℕ) (i : Reader) (v w y : Tree) (n : PartialNumber) 
     → (n.stage ≡ i.number.stage) × (string_bytes n.text ≡ bytes_in y (string_bytes i.number.text)))
     → ((u : List ℕ) → i.token ≡ token.Text → y ≡ string (text_of u)
     → (s.text ≡ with_text i.string.text u) × (s.escape ≡ i.string.escape))
-    → Hides level i v (with_shown i false n s k) w
+    → AsRead level i v (with_shown i false n s k) w
 hides-moved level i v w y n s k here unset on taken number text = record {
   goes = λ next t outer at h.
       let d = document i (filled outer v) in
@@ -230,44 +224,62 @@ hides-moved level i v w y n s k here unset on taken number text = record {
       (m.1.awaits ∙ x.held.3.0, tt, free.part, free.key) in
       let held = holds-scalar z.apart n s e.value t x.frames x.begin x.held back left in
       let same : e ≡ with_parts z.apart false n s e.value = ap (λ a. with_parts a false n s e.value) z.same in
-      record {
+      reads-apart next e t (record {
         opened = h.opened;
         known = known-as next d e t h.opened (refl, refl, refl) h.known;
         held = λ none.
             subst (λ a. Holding a t h.opened) (sym same)
             (subst (λ o. Holding (with_parts z.apart false n s e.value) t o) (sym x.is) held);
-      };
+      }) refl;
 }
 
--- A reader in a container whose unfinished scalar was moved out of it
-module _ (level : ℕ) (chunk : List ℕ) (i : Reader) (v : Tree) (h : IsHere level chunk i v) where
-  pub apart-here : (j : Reader) (w : Tree) → ahead i chunk i.at ≡ anything → Hides level i v j w
-      → j ≡ with_shown i false j.number j.string j.key → IsApart level chunk j w
-  apart-here j w free hides same =
-      let at = ap (λ (r : Reader). r.at) same in
-      let base = ap (λ (r : Reader). r.base) same in
-      let depth = ap (λ (r : Reader). r.depth) same in
-      let t = h.read.0 in
-      let outer = h.read.1 in
+-- What is read of the other reader is read of the one.
+module _ (level : ℕ) (chunk : List ℕ) (i : Reader) (v : Tree) (j : Reader) (w : Tree) (b : Bool)
+    (read : AsRead level i v j w) (same : j ≡ with_shown i b j.number j.string j.key) where
+  abbrev j' : Reader
+  j' = with_shown i b j.number j.string j.key
+
+  read-as : (t : List ℕ) (outer : List OpenFrame) → IsAt level outer → HasReadTo chunk i (filled outer v) t
+      → HasReadTo chunk j' (filled outer w) t
+  read-as t outer at r =
+      let so = subst (λ q. AsRead level i v q w) same read in
+      record { read = so.goes (ahead i chunk i.at) t outer at r.read; position = r.position }
+
+  pub here-as : IsHere level chunk i v → IsHere level chunk j w
+  here-as h = subst (λ q. IsHere level chunk q w) (sym same) record {
+    here = h.here;
+    low = h.low;
+    inside = h.inside;
+    room = h.room;
+    unset = h.unset;
+    read = (h.read.0, h.read.1, h.read.2, read-as h.read.0 h.read.1 h.read.2 h.read.3);
+  }
+
+  pub steps-as : {E : Type 0} (r : Result ℕ E) (k : Reader) (x : Tree) → IfOk r (λ n. Steps level chunk j w k x n)
+      → IfOk r (λ n. Steps level chunk i v k x n)
+  steps-as (Ok n) k x s =
+      let so = subst (λ q. Steps level chunk q w k x n) same s in
       record {
-        here = depth ∙ h.here;
-        low = h.low;
-        inside = omega (arith, at, h.inside);
-        room = subst (λ b. b + length chunk < 2 ^ 64) (sym base) h.room;
-        unset = ap (λ (r : Reader). r.fault) same ∙ h.unset;
-        hidden = ap (λ (r : Reader). r.shown) same;
-        read = (
-          t,
-          outer,
-          h.read.2,
-          record {
-            read = subst (λ n. HasTakenIn n (document j (filled outer w)) t) free
-                (hides.goes (ahead i chunk i.at) t outer h.read.2 h.read.3.read);
-            position = ap (λ (r : Reader). r.base + r.at) same ∙ h.read.3.position;
-          },
-        );
+        goes = λ t outer at r. so.goes t outer at (read-as t outer at r);
+        moves = moves-from level chunk i j' k n (refl, refl, refl) so.moves;
+        complete = so.complete;
+      }
+  steps-as (Err e) k x s = tt
+
+  pub stays-as : {E : Type 0} (r : Result ℕ E) (k : Reader) (x : Tree) → OnErr r (Stays level chunk j w k x)
+      → OnErr r (Stays level chunk i v k x)
+  stays-as (Ok n) k x s = tt
+  stays-as (Err e) k x s =
+      let so = subst (λ q. Stays level chunk q w k x) same s in
+      record {
+        goes = λ t outer at r. so.goes t outer at (read-as t outer at r);
+        free = so.free;
+        still = so.still;
+        depth = so.depth;
+        complete = so.complete;
       }
 
+module _ (level : ℕ) (chunk : List ℕ) (i : Reader) (v : Tree) (h : IsHere level chunk i v) where
   -- It is a container, whether a scalar is shown in it or not.
   pub container-here : 0 < level → IsContainer v
   container-here some =
@@ -278,3 +290,44 @@ module _ (level : ℕ) (chunk : List ℕ) (i : Reader) (v : Tree) (h : IsHere le
       let long : length outer ≡ length o.frames = omega (arith, o.deep, h.here, h.read.2, some) in
       let same = filled-same outer o.frames v (begun o.innermost) long o.is in
       (o.innermost, same.1)
+
+-- What is moved into the value so far, and shown there, is read.
+pub shown-steps : (level : ℕ) (chunk : List ℕ) (i : Reader) (v : Tree) (k : Reader) (x : Tree) (j : Reader) (w : Tree)
+    (n : ℕ) → Moves level chunk i k n → AsRead level k x j w → IsComplete j → j ≡ with_shown k j.shown j.number j.string j.key
+    → k.shown ≡ false
+    → ((t : List ℕ) (outer : List OpenFrame) → IsAt level outer → HasReadTo chunk i (filled outer v) t
+    → HasTakenIn anything (document k (filled outer x)) (t ++ slice_range chunk i.at (i.at + n)))
+    → Steps level chunk i v j w n
+shown-steps level chunk i v k x j w n moves read full same hidden goes = record {
+  goes = λ t outer at r.
+      let d = document j (filled outer w) in
+      let u = t ++ slice_range chunk i.at (i.at + n) in
+      read-any (ahead j chunk (i.at + n)) d u
+      (read.goes anything u outer at (reads-apart anything (document k (filled outer x)) u (goes t outer at r) hidden));
+  complete = full;
+  moves =
+      let settings : j.settings ≡ k.settings = ap (λ (r : Reader). r.settings) same in
+      let base : j.base ≡ k.base = ap (λ (r : Reader). r.base) same in
+      let place : j.at ≡ k.at = ap (λ (r : Reader). r.at) same in
+      let depth : j.depth ≡ k.depth = ap (λ (r : Reader). r.depth) same in
+      let unset : j.fault ≡ k.fault = ap (λ (r : Reader). r.fault) same in
+      record {
+        within = moves.within;
+        some = subst (λ m. (0 < n) ⊎ (m < level)) (sym depth) moves.some;
+        still = (settings ∙ moves.still.0, base ∙ moves.still.1, place ∙ moves.still.2);
+        depth = (omega (arith, depth, moves.depth.0), omega (arith, depth, moves.depth.1));
+        low = omega (arith, depth, moves.low);
+        deeper = λ more. unset ∙ moves.deeper (omega (arith, depth, more));
+      };
+}
+
+-- Nothing was taken.
+pub stays-here : (level : ℕ) (chunk : List ℕ) (i : Reader) (v : Tree) → ahead i chunk i.at ≡ anything → IsComplete i
+    → Stays level chunk i v i v
+stays-here level chunk i v free full = record {
+  goes = λ t outer at r. subst (λ n. HasReadIn n (document i (filled outer v)) t) free r.read;
+  free = free;
+  still = (refl, refl, refl);
+  depth = refl;
+  complete = full;
+}

@@ -1,5 +1,5 @@
 -- Words and strings that a chunk cut go on and end, in an open container whatever that is in.
-use Rattle.std.proofs.Common.{◌≡◌, ℕ, ◌+◌, ◌-◌, ◌<◌, ◌≤◌, Bool, true, false, List, [], ◌∷◌, ◌++◌, length, refl}
+use Rattle.std.proofs.Common.{◌≡◌, ◌⊎◌, ℕ, ◌+◌, ◌-◌, ◌<◌, ◌≤◌, Bool, true, false, List, [], ◌∷◌, ◌++◌, length, refl}
 use Rattle.std.proofs.Common.{sym, subst, ap, ◌∙◌}
 use Rattle.std.proofs.Common.{arith, inl, inr, length-append}
 use Rattle.std.specs.Prelude.{slice_get, slice_index, slice_range, Option, None, Some}
@@ -16,7 +16,7 @@ use Rattle.jiter_scan.specs.declared.partial_word.Seen.TheVariants as seen
 use Rattle.jiter_scan.specs.PartialWord.{word_by, word_from}
 use Rattle.jiter_steps.specs.PartialString.{Goes, HasTaken, IsCountAt}
 use Rattle.jiter_steps.specs.StringDecoder.{text_view}
-use Rattle.jiter_steps.specs.Tree.{Tree, string}
+use Rattle.jiter_steps.specs.Tree.{Tree, null, string}
 use Rattle.jiter_steps.specs.declared.partial_string.PartialString.{PartialString}
 use Rattle.jiter_steps.specs.declared.partial_string.Went.TheVariants as went
 use Rattle.jiter_incremental.specs.Between.{text_of}
@@ -25,9 +25,9 @@ use Rattle.jiter_incremental.specs.Document.{Opened, anything}
 use Rattle.jiter_incremental.specs.Document.{HoldsScalar, between_tokens, in_key, in_scalar, is_shown, noted_in}
 use Rattle.jiter_incremental.specs.Document.{with_byte}
 use Rattle.jiter_incremental.specs.Names.{name_tree}
-use Rattle.jiter_incremental.specs.Reader.{HasReadTo, HasTakenTo, Hides, IsApart, IsAt, IsHere, Steps}
-use Rattle.jiter_incremental.specs.Reader.{StepsFrom, after_level, ahead, ahead_as}
-use Rattle.jiter_incremental.specs.Reader.{Shows, document, noted, refused, with_shown}
+use Rattle.jiter_incremental.specs.Reader.{AsRead, HasReadTo, IsAt, IsComplete, IsHere, Steps}
+use Rattle.jiter_incremental.specs.Reader.{after_level, ahead, ahead_as}
+use Rattle.jiter_incremental.specs.Reader.{document, noted, refused, with_shown}
 use Rattle.jiter_incremental.specs.Slot.{IsPut, OpenFrame, filled}
 use Rattle.jiter_incremental.specs.Strings.{IsClosedAs, IsOfString, IsTextAs}
 use Rattle.jiter_incremental.specs.declared.reader.Reader.{Reader}
@@ -42,7 +42,8 @@ use Rattle.jiter_incremental.proofs.Documents.Strings.{taken-on, taken-same, who
 use Rattle.jiter_incremental.proofs.Documents.Strings.{wrong-refused}
 use Rattle.jiter_incremental.proofs.Documents.Tokens.{Unfinished, word-ends, word-goes-on, word-open, word-refused}
 use Rattle.jiter_incremental.proofs.Placing.{depth-of, put-there}
-use Rattle.jiter_incremental.proofs.Settling.{apart-read, moves-here, moves-one, read-any, reads-apart, shown-nothing, shown-word, steps-one}
+use Rattle.jiter_incremental.proofs.Settling.{apart-read, moves-from, moves-here, moves-one, not-shown, one-slice, read-any, reads-apart, shown-nothing, shown-word, steps-one}
+use Rattle.jiter_incremental.proofs.Showing.{shown-steps}
 
 -- ---- words
 
@@ -58,7 +59,7 @@ module _ (level : ℕ) (chunk : List ℕ) (i : Reader) (v : Tree) (h : IsHere le
     hidden =
         let r = h.read.3.read in
         let s = r.held h.unset in
-        s.shows ∙ shown-word s.apart (sym (ap (λ (q : Document). q.token) s.same) ∙ word)
+        not-shown _ _ r.opened s (shown-word s.apart (sym (ap (λ (q : Document). q.token) s.same) ∙ word))
 
     come : (t : List ℕ) (x : Tree) → HasReadTo chunk i x t → HasCome (document i x) t
     come t x r = record {
@@ -178,72 +179,93 @@ key-goes i y k s n t (in_key fs ms b) is unset named known held follows text =
     key-taken (with_string d s) new n anything t (34 ∷ []) fs ms b u (known-as n d (with_string d s) t (in_key fs ms b) (refl, refl, refl) known) follows
     unset (held.4, tt, (held.5, held.6), sym named) low text (λ p t j e ms fs. key-read p t j e ms fs u)
 
+pub ahead-string : (k : Token) (r : Reader) (chunk : List ℕ) (i : ℕ) → r.token ≡ k → IsOfString k
+    → ahead r chunk i ≡ anything
+ahead-string k r chunk i is (inl e) = ap (λ x. ahead_as x r.awaits chunk i) (is ∙ e)
+ahead-string k r chunk i is (inr e) = ap (λ x. ahead_as x r.awaits chunk i) (is ∙ e)
+
+pub ahead-scalar : (i : Reader) (chunk : List ℕ) (n : ℕ) → (i.token ≡ token.Number) ⊎ IsOfString i.token
+    → ahead i chunk n ≡ anything
+ahead-scalar i chunk n (inl is) = ap (λ k. ahead_as k i.awaits chunk n) is
+ahead-scalar i chunk n (inr k) = ahead-string i.token i chunk n refl k
+
+-- What was read of a string that is apart
+pub string-come : (chunk : List ℕ) (i : Reader) → i.shown ≡ false → IsOfString i.token → (t : List ℕ) (x : Tree)
+    → HasReadTo chunk i x t → HasCome (document i x) t
+string-come chunk i hidden k t x r = record {
+  read = apart-read anything (document i x) t
+      (subst (λ n. HasReadIn n (document i x) t) (ahead-string i.token i chunk i.at refl k) r.read) hidden;
+  position = r.position;
+}
+
 some-none : (f : Fault) → Some f ≡ None → ⊥
 some-none f e = cc
 
-module _ (level : ℕ) (chunk : List ℕ) (i : Reader) (v : Tree) (h : IsApart level chunk i v) (k : IsOfString i.token)
+module _ (level : ℕ) (chunk : List ℕ) (i : Reader) (v : Tree) (h : IsHere level chunk i v) (hidden : i.shown ≡ false)
+    (k : IsOfString i.token)
     (quote : slice_get chunk i.at ≡ Some ascii.quote) (whole : i.string.escape ≡ None)
   where
-    abbrev apart-come : (t : List ℕ) (x : Tree) → HasTakenTo i x t → HasCome (document i x) t
-    apart-come t x r = record { read = r.read; position = r.position }
+    abbrev apart-come : (t : List ℕ) (x : Tree) → HasReadTo chunk i x t → HasCome (document i x) t
+    apart-come t x r = string-come chunk i hidden k t x r
 
     -- The quote is taken.
     from-quote : (j : Reader) (w : Tree) → j.settings ≡ i.settings → j.base ≡ i.base → j.at ≡ i.at → j.depth ≡ i.depth
         → j.shown ≡ false → ((x : Tree) → j.fault ≡ None → is_shown (document j x) ≡ false)
-        → ((t : List ℕ) (outer : List OpenFrame) → IsAt level outer → HasTakenTo i (filled outer v) t
+        → ((t : List ℕ) (outer : List OpenFrame) → IsAt level outer → HasReadTo chunk i (filled outer v) t
         → HasTakenIn anything (document j (filled outer w)) (t ++ 34 ∷ []))
-        → StepsFrom level chunk i v j w 1
-    from-quote j w settings base at depth hidden off goes = record {
+        → Steps level chunk i v j w 1
+    from-quote j w settings base at depth apart off goes = record {
       goes = λ t outer o r.
           let d = document j (filled outer w) in
           let u = t ++ 34 ∷ [] in
           subst (λ s. HasReadIn (ahead j chunk (i.at + 1)) d (t ++ s)) (sym (slice-one chunk i.at 34 quote))
           (read-any (ahead j chunk (i.at + 1)) d u
-          (reads-apart anything d u (goes t outer o r) hidden (off (filled outer w))));
+          (reads-apart anything d u (goes t outer o r) apart));
+      complete = λ unset _. off null unset;
       moves =
           moves-one level chunk i h.here h.low j h.inside (settings, base, at) depth;
     }
 
     -- The text is put by a reader that noted a fault or none.
     module _ (f : Option Fault) (n : Next) (follows : Follows n (34 ∷ []) anything)
-        (known : (t : List ℕ) (x : Tree) (r : HasTakenTo i x t)
-        → Known n (document (record i { first = f }) x) t r.read.opened)
-        (held : (t : List ℕ) (x : Tree) (r : HasTakenTo i x t)
-        → Holding (document (record i { first = f }) x) t r.read.opened)
-        (text : (t : List ℕ) (x : Tree) (r : HasTakenTo i x t)
-        → IsTextAs (document (record i { first = f }) x) anything (t ++ 34 ∷ []) r.read.opened i.string.text.text)
+        (known : (t : List ℕ) (x : Tree) (r : HasReadTo chunk i x t)
+        → Known n (document (record i { first = f }) x) t (apart-come t x r).read.opened)
+        (held : (t : List ℕ) (x : Tree) (r : HasReadTo chunk i x t)
+        → Holding (document (record i { first = f }) x) t (apart-come t x r).read.opened)
+        (text : (t : List ℕ) (x : Tree) (r : HasReadTo chunk i x t)
+        → IsTextAs (document (record i { first = f }) x) anything (t ++ 34 ∷ []) (apart-come t x r).read.opened i.string.text.text)
       where
         abbrev i' : Reader
         i' = record i { first = f }
 
         quote-put : (j : Reader) (w : Tree) → IsOfString i.token → IsPutSo level i' v j w
-            → StepsFrom level chunk i v j w 1
+            → Steps level chunk i v j w 1
         quote-put j w (inl is) p =
             let q = p.text is in
-            subst (λ j. StepsFrom level chunk i v j w 1) (sym q.1)
-            (from-quote (after_text i' level j.key j.string) w refl refl refl refl h.hidden
+            subst (λ j. Steps level chunk i v j w 1) (sym q.1)
+            (from-quote (after_text i' level j.key j.string) w refl refl refl refl hidden
             (λ x unset. shown-nothing (document (after_text i' level j.key j.string) x) refl)
             (λ t outer at r.
             let x = filled outer v in
-            text-goes level i' v w j.key j.string n t outer r.read.opened h.here at is q.0 (known t x r) (held t x r)
+            text-goes level i' v w j.key j.string n t outer (apart-come t x r).read.opened h.here at is q.0 (known t x r) (held t x r)
             follows (text t x r)))
         quote-put j w (inr is) p =
             let q = p.key is in
-            subst (λ j. StepsFrom level chunk i v j w 1) (sym q.2)
-            (from-quote (after_key i' j.key j.string) w refl refl refl refl h.hidden
+            subst (λ j. Steps level chunk i v j w 1) (sym q.2)
+            (from-quote (after_key i' j.key j.string) w refl refl refl refl hidden
             (λ x unset. shown-nothing (document (after_key i' j.key j.string) x) refl)
             (λ t outer at r.
             let x = filled outer v in
             subst (λ y. HasTakenIn anything (document (after_key i' j.key j.string) (filled outer y)) (t ++ 34 ∷ []))
             (sym q.0)
-            (key-goes i' x j.key j.string n t r.read.opened is h.unset q.1 (known t x r) (held t x r) follows
+            (key-goes i' x j.key j.string n t (apart-come t x r).read.opened is h.unset q.1 (known t x r) (held t x r) follows
             (text t x r))))
 
     -- A whole text is put,
     pub quote-whole-put : IsClosedAs i.string false true → (j : Reader) (w : Tree) → IsPutSo level i v j w
-        → StepsFrom level chunk i v j w 1
+        → Steps level chunk i v j w 1
     quote-whole-put is j w p =
-        quote-put i.first anything (λ u c. tt) (λ t x r. r.read.known) (λ t x r. r.read.held h.unset)
+        quote-put i.first anything (λ u c. tt) (λ t x r. (apart-come t x r).read.known) (λ t x r. (apart-come t x r).read.held h.unset)
         (λ t x r. whole-text (document i x) k h.unset t (apart-come t x r) whole is) j w k p
 
     module _ (kept : Bool) (text_kept : i.token ≡ token.Text → kept ≡ allows_trailing_strings i.settings.mode)
@@ -252,7 +274,7 @@ module _ (level : ℕ) (chunk : List ℕ) (i : Reader) (v : Tree) (h : IsApart l
       where
         -- and what is kept of one that is none as a whole,
         pub quote-kept-put : IsClosedAs i.string kept true → (j : Reader) (w : Tree)
-            → IsPutSo level (noted i fault_of.InvalidUnicodeCodePoint index) v j w → StepsFrom level chunk i v j w 1
+            → IsPutSo level (noted i fault_of.InvalidUnicodeCodePoint index) v j w → Steps level chunk i v j w 1
         quote-kept-put is j w p =
             quote-put (noted_in i.first fault_of.InvalidUnicodeCodePoint index) (with_byte 34) (λ u c. (u, refl))
             (λ t x r.
@@ -267,16 +289,16 @@ module _ (level : ℕ) (chunk : List ℕ) (i : Reader) (v : Tree) (h : IsApart l
 
         -- or it is refused.
         pub quote-refused : IsClosedAs i.string kept false
-            → StepsFrom level chunk i v (refused i fault_of.InvalidUnicodeCodePoint index) v 1
+            → Steps level chunk i v (refused i fault_of.InvalidUnicodeCodePoint index) v 1
         quote-refused is =
             let kind = fault_of.InvalidUnicodeCodePoint in
             let f : Fault = record { kind = kind; index = index } in
             let j = refused i kind index in
-            from-quote j v refl refl refl refl h.hidden (λ x unset. absurd (some-none f unset))
+            from-quote j v refl refl refl refl hidden (λ x unset. absurd (some-none f unset))
             (λ t outer at r.
             let x = filled outer v in
             let d = document i x in
-            refuses anything anything d t (34 ∷ []) r.read.opened kind index h.unset r.read.known (λ u c. tt)
+            refuses anything anything d t (34 ∷ []) (apart-come t x r).read.opened kind index h.unset (apart-come t x r).read.known (λ u c. tt)
             (closed-refused d k h.unset t (apart-come t x r) whole kept text_kept key_kept broken index place is))
 
     -- The place after its characters is in the text so far.
@@ -288,150 +310,83 @@ module _ (level : ℕ) (chunk : List ℕ) (i : Reader) (v : Tree) (h : IsApart l
 
 -- ---- strings that go on
 
-pub ahead-string : (k : Token) (r : Reader) (chunk : List ℕ) (i : ℕ) → r.token ≡ k → IsOfString k
-    → ahead r chunk i ≡ anything
-ahead-string k r chunk i is (inl e) = ap (λ x. ahead_as x r.awaits chunk i) (is ∙ e)
-ahead-string k r chunk i is (inr e) = ap (λ x. ahead_as x r.awaits chunk i) (is ∙ e)
-
--- The string was moved out of the value so far: this reader holds it.
-module _ (level : ℕ) (chunk : List ℕ) (i : Reader) (v : Tree) (j : Reader) (w : Tree) (h : IsHere level chunk i v)
-    (k : IsOfString i.token) (hides : Hides level i v j w) (off : j.shown ≡ false)
-    (same : j ≡ with_shown i false j.number j.string j.key)
+module _ (level : ℕ) (chunk : List ℕ) (i : Reader) (v : Tree) (h : IsHere level chunk i v) (hidden : i.shown ≡ false)
+    (k : IsOfString i.token) (s : PartialString)
   where
-    same-at : j.at ≡ i.at
-    same-at = ap (λ (r : Reader). r.at) same
+    abbrev j : Reader
+    j = record i { string = s }
 
-    same-base : j.base ≡ i.base
-    same-base = ap (λ (r : Reader). r.base) same
+    come-so : (t : List ℕ) (x : Tree) → HasReadTo chunk i x t → HasCome (document i x) t
+    come-so t x r = string-come chunk i hidden k t x r
 
-    same-depth : j.depth ≡ i.depth
-    same-depth = ap (λ (r : Reader). r.depth) same
-
-    same-settings : j.settings ≡ i.settings
-    same-settings = ap (λ (r : Reader). r.settings) same
-
-    unset-so : j.fault ≡ None
-    unset-so = ap (λ (r : Reader). r.fault) same ∙ h.unset
-
-    pub kind-so : IsOfString j.token
-    kind-so = subst IsOfString (sym (ap (λ (r : Reader). r.token) same)) k
-
-    taken-now : (t : List ℕ) (outer : List OpenFrame) → IsAt level outer → HasReadTo chunk i (filled outer v) t
-        → HasCome (document j (filled outer w)) t
-    taken-now t outer at r = record {
-      read =
-          hides.goes anything t outer at
-          (subst (λ n. HasReadIn n (document i (filled outer v)) t) (ahead-string i.token i chunk i.at refl k) r.read);
-      position = ap (λ (q : Reader). q.base + q.at) same ∙ r.position;
-    }
-
-    module _ (s : PartialString) where
-      abbrev j' : Reader
-      j' = record j { string = s }
-
-      -- Its quote comes next.
-      module _ (goes : (u : List ℕ) → HasTaken j.string u → Goes s u chunk j.at went.Quote) where
-        quote-taken : (t : List ℕ) (outer : List OpenFrame) → IsAt level outer → HasReadTo chunk i (filled outer v) t
-            → HasTakenTo j' (filled outer w) t
-        quote-taken t outer at r =
-            let c = taken-now t outer at r in
-            record {
-              read = taken-same (document j (filled outer w)) s t kind-so unset-so (λ u x. (goes u x).0) c.read;
-              position = c.position;
-            }
-
-        pub quote-apart : IsApart level chunk j' w
-        quote-apart = record {
-          here = same-depth ∙ h.here;
-          low = h.low;
-          inside = omega (arith, h.inside, same-at);
-          room = omega (arith, h.room, same-base);
-          unset = unset-so;
-          hidden = off;
-          read = (h.read.0, h.read.1, h.read.2, quote-taken h.read.0 h.read.1 h.read.2 h.read.3);
-        }
-
-        pub quote-is : (s.escape ≡ None) × (slice_get chunk j.at ≡ Some ascii.quote)
-        quote-is =
-            let outer = h.read.1 in
-            let c = taken-now h.read.0 outer h.read.2 h.read.3 in
-            let d = document j (filled outer w) in
-            let o = is-held d h.read.0 kind-so c.read.opened (c.read.held unset-so) in
-            let g = goes o.rest o.taken_so in
-            (g.1, g.2)
-
-        pub quote-steps : (x : Reader) (y : Tree) (n : ℕ) → StepsFrom level chunk j' w x y n
-            → Steps level chunk i v x y n
-        quote-steps x y n q = record {
-          goes = λ t outer at r.
-              subst
-              (λ m. HasReadIn (ahead x chunk (m + n)) (document x (filled outer y)) (t ++ slice_range chunk m (m + n)))
-              same-at (q.goes t outer at (quote-taken t outer at r));
-          moves =
-              record {
-                within = omega (arith, q.moves.within, same-at);
-                some = q.moves.some;
-                still = (q.moves.still.0 ∙ same-settings, q.moves.still.1 ∙ same-base, q.moves.still.2 ∙ same-at);
-                depth = q.moves.depth;
-                low = q.moves.low;
-                deeper = q.moves.deeper;
-              };
-        }
-
-      -- Bytes are taken into it, and it is shown again.
-      pub taken-steps : (n : ℕ) → ((u : List ℕ) → HasTaken j.string u → Goes s u chunk j.at (went.Taken n))
-          → IsCountAt chunk j.at n → (x : Reader) (y : Tree) → Shows level j' w x y
-          → x ≡ with_shown j' x.shown x.number x.string x.key → Steps level chunk i v x y n
-      taken-steps n goes part x y shows is = record {
-        goes = λ t outer at r.
-            let d = document j (filled outer w) in
-            let c = taken-now t outer at r in
-            let run = slice_range chunk j.at (j.at + n) in
-            let all = taken-on d s t run kind-so unset-so goes c.read in
-            let u = t ++ run in
-            let read = shows.goes anything u outer at all in
-            let e = document x (filled outer y) in
-            subst (λ m. HasReadIn (ahead x chunk (m + n)) e (t ++ slice_range chunk m (m + n)))
-            same-at (read-any (ahead x chunk (j.at + n)) (document x (filled outer y)) u read);
-        moves =
-            moves-here level chunk i h.here h.low x n part.0 (omega (arith, part.1, same-at)) (
-              ap (λ (r : Reader). r.settings) is ∙ same-settings,
-              ap (λ (r : Reader). r.base) is ∙ same-base,
-              ap (λ (r : Reader). r.at) is ∙ same-at,
-            ) (ap (λ (r : Reader). r.depth) is ∙ same-depth);
+    -- Its quote comes next.
+    module _ (goes : (u : List ℕ) → HasTaken i.string u → Goes s u chunk i.at went.Quote) where
+      quote-taken : (t : List ℕ) (x : Tree) → HasReadTo chunk i x t → HasReadTo chunk j x t
+      quote-taken t x r = record {
+        read =
+            subst (λ n. HasReadIn n (document j x) t) (sym (ahead-string i.token j chunk i.at refl k))
+            (reads-apart anything (document j x) t
+            (taken-same (document i x) s t k h.unset (λ u y. (goes u y).0) (come-so t x r).read) hidden);
+        position = r.position;
       }
 
-      -- A byte is wrong.
-      module _ (kind : FaultKind) (back : ℕ)
-          (goes : (u : List ℕ) → HasTaken j.string u → Goes s u chunk j.at (went.Wrong kind back)) where
-        there : j.at < length chunk
-        there = omega (arith, h.inside, same-at)
+      pub quote-here : IsHere level chunk j v
+      quote-here = record {
+        here = h.here;
+        low = h.low;
+        inside = h.inside;
+        room = h.room;
+        unset = h.unset;
+        read = (h.read.0, h.read.1, h.read.2, quote-taken h.read.0 (filled h.read.1 v) h.read.3);
+      }
 
-        pub wrong-before : back ≤ j.base + j.at
-        wrong-before =
-            let t = h.read.0 in
-            let outer = h.read.1 in
-            let c = taken-now t outer h.read.2 h.read.3 in
-            wrong-low (document j (filled outer w)) kind-so unset-so t c s chunk j.at back kind there goes
+      pub quote-is : (s.escape ≡ None) × (slice_get chunk i.at ≡ Some ascii.quote)
+      quote-is =
+          let x = filled h.read.1 v in
+          let c = come-so h.read.0 x h.read.3 in
+          let o = is-held (document i x) h.read.0 k c.read.opened (c.read.held h.unset) in
+          let g = goes o.rest o.taken_so in
+          (g.1, g.2)
 
-        pub wrong-steps : Steps level chunk i v (refused j' kind (j.base + j.at - back)) w 1
-        wrong-steps =
-            let index = j.base + j.at - back in
-            let f : Fault = record { kind = kind; index = index } in
-            let x = refused j' kind index in
-            record {
-              goes = λ t outer at r.
-                  let d = document j (filled outer w) in
-                  let c = taken-now t outer at r in
-                  let run = slice_range chunk j.at (j.at + 1) in
-                  let fails = wrong-refused d kind-so unset-so t c s chunk j.at back kind there goes in
-                  let e = document x (filled outer w) in
-                  let all : HasTakenIn anything e (t ++ run) =
-                  refuses anything anything (with_string d s) t run c.read.opened kind index unset-so
-                  (known-as anything d (with_string d s) t c.read.opened (refl, refl, refl) c.read.known) (λ u q. tt) fails in
-                  subst (λ m. HasReadIn (ahead x chunk (m + 1)) e (t ++ slice_range chunk m (m + 1))) same-at
-                  (read-any (ahead x chunk (j.at + 1)) e (t ++ run)
-                  (reads-apart anything e (t ++ run) all off (λ unset. absurd (some-none f unset))));
-              moves =
-                  moves-one level chunk i h.here h.low x h.inside (same-settings, same-base, same-at) same-depth;
-            }
+      pub quote-steps : (x : Reader) (y : Tree) (n : ℕ) → Steps level chunk j v x y n → Steps level chunk i v x y n
+      quote-steps x y n q = record {
+        goes = λ t outer at r. q.goes t outer at (quote-taken t (filled outer v) r);
+        moves = moves-from level chunk i j x n (refl, refl, refl) q.moves;
+        complete = q.complete;
+      }
+
+    -- Bytes are taken into it, and it is shown again.
+    pub taken-steps : (n : ℕ) → ((u : List ℕ) → HasTaken i.string u → Goes s u chunk i.at (went.Taken n))
+        → IsCountAt chunk i.at n → (x : Reader) (y : Tree) → AsRead level j v x y → IsComplete x
+        → x ≡ with_shown j x.shown x.number x.string x.key → Steps level chunk i v x y n
+    taken-steps n goes part x y read full same =
+        shown-steps level chunk i v j v x y n
+        (moves-here level chunk i h.here h.low j n part.0 part.1 (refl, refl, refl) refl) read full same hidden
+        (λ t outer at r.
+        taken-on (document i (filled outer v)) s t (slice_range chunk i.at (i.at + n)) k h.unset goes
+        (come-so t (filled outer v) r).read)
+
+    -- A byte is wrong.
+    module _ (kind : FaultKind) (back : ℕ)
+        (goes : (u : List ℕ) → HasTaken i.string u → Goes s u chunk i.at (went.Wrong kind back)) where
+      pub wrong-before : back ≤ i.base + i.at
+      wrong-before =
+          let t = h.read.0 in
+          let x = filled h.read.1 v in
+          wrong-low (document i x) k h.unset t (come-so t x h.read.3) s chunk i.at back kind h.inside goes
+
+      pub wrong-steps : Steps level chunk i v (refused j kind (i.base + i.at - back)) v 1
+      wrong-steps =
+          let index = i.base + i.at - back in
+          let x = refused j kind index in
+          steps-one level chunk i v x v h.inside
+          (moves-one level chunk i h.here h.low x h.inside (refl, refl, refl) refl) hidden
+          (λ y unset. absurd (some-none _ unset))
+          (λ t outer at r.
+          let d = document i (filled outer v) in
+          let c = come-so t (filled outer v) r in
+          let fails = wrong-refused d k h.unset t c s chunk i.at back kind h.inside goes in
+          let run = slice_range chunk i.at (i.at + 1) in
+          subst (λ b. HasTakenIn anything (document x (filled outer v)) (t ++ b)) (one-slice chunk i.at h.inside)
+          (refuses anything anything (with_string d s) t run c.read.opened kind index h.unset
+          (known-as anything d (with_string d s) t c.read.opened (refl, refl, refl) c.read.known) (λ u q. tt) fails))

@@ -15,7 +15,7 @@ use Rattle.jiter_steps.specs.declared.partial_string.PartialString.{PartialStrin
 use Rattle.jiter_incremental.specs.Arrived.{Arrived, IsLeft, at_value}
 use Rattle.jiter_incremental.specs.Between.{TakesByte, text_of}
 use Rattle.jiter_incremental.specs.Document.{HasTakenIn, anything, in_key, with_byte}
-use Rattle.jiter_incremental.specs.Reader.{AwaitsKey, AwaitsValue, HasReadTo, IsAt, IsHere, Shows, Steps, ahead}
+use Rattle.jiter_incremental.specs.Reader.{AwaitsKey, AwaitsValue, HasReadTo, AsRead, IsAt, IsComplete, IsHere, Steps, ahead}
 use Rattle.jiter_incremental.specs.Reader.{document, with_shown}
 use Rattle.jiter_incremental.specs.Slot.{OpenFrame, filled}
 use Rattle.jiter_incremental.specs.declared.reader.Awaits.TheVariants as awaits
@@ -28,7 +28,7 @@ use Rattle.jiter_incremental.proofs.Documents.Bytes.{takes-here}
 use Rattle.jiter_incremental.proofs.Documents.Strings.{key-taken}
 use Rattle.jiter_incremental.proofs.Documents.Tokens.{range-after, string-begins}
 use Rattle.jiter_incremental.proofs.Documents.WholeTexts.{text-follows, text-key, text-some}
-use Rattle.jiter_incremental.proofs.NumberBegins.{shown-steps}
+use Rattle.jiter_incremental.proofs.Showing.{shown-steps}
 use Rattle.jiter_incremental.proofs.Placing.{begins-there}
 use Rattle.jiter_incremental.proofs.Settling.{moves-here, moves-one, one-slice, read-any, reads-apart, shown-key, shown-nothing, steps-one}
 
@@ -37,6 +37,7 @@ pub tape-steps : (level : ℕ) (chunk : List ℕ) (i : Reader) (v : Tree) (j : R
     → Steps level chunk i v j w n → Steps level chunk i v (record j { tape = s }) w n
 tape-steps level chunk i v j w n s h = record {
   goes = h.goes;
+  complete = h.complete;
   moves = record {
     within = h.moves.within;
     some = h.moves.some;
@@ -56,13 +57,14 @@ module _ (level : ℕ) (chunk : List ℕ) (i : Reader) (v : Tree) (h : IsHere le
     -- A string begins there.
     pub text-kept : AwaitsValue level chunk i v → is_blank c ≡ false → level ≤ 200 → c ≡ ascii.quote
         → (s : PartialString) (b : Vec ℕ Global) → HasTaken s [] → (j : Reader) (w : Tree)
-        → Shows level (record i {
+        → AsRead level (record i {
           begin = i.base + i.at;
           token = token.Text;
           awaits = awaits.Value;
           string = s;
           tape = b;
         }) v j w
+        → IsComplete j
         → j ≡ with_shown (record i {
           begin = i.base + i.at;
           token = token.Text;
@@ -71,10 +73,10 @@ module _ (level : ℕ) (chunk : List ℕ) (i : Reader) (v : Tree) (h : IsHere le
           tape = b;
         }) j.shown j.number j.string j.key
         → Steps level chunk i v j w 1
-    text-kept awaited other low quote s b fresh j w shows same =
+    text-kept awaited other low quote s b fresh j w shows full same =
         let k = record i { begin = i.base + i.at; token = token.Text; awaits = awaits.Value; string = s; tape = b } in
         let moves = moves-one level chunk i h.here h.low k h.inside (refl, refl, refl) refl in
-        shown-steps level chunk i v k v j w 1 moves shows same
+        shown-steps level chunk i v k v j w 1 moves shows full same (hidden-here level chunk i v h none)
         (λ t outer at r.
         let d = document i (filled outer v) in
         let new = document k (filled outer v) in
@@ -148,6 +150,7 @@ module _ (level : ℕ) (chunk : List ℕ) (i : Reader) (v : Tree) (h : IsHere le
           key-whole =
               let end : i.at + (e - i.at) ≡ e = omega (arith, within.within.0) in
               record {
+                complete = λ unset _. shown-nothing (document ended v) none;
                 goes = λ t outer at r.
                     let d = document ended (filled outer v) in
                     let u = t ++ slice_range chunk i.at (i.at + (e - i.at)) in
@@ -155,7 +158,7 @@ module _ (level : ℕ) (chunk : List ℕ) (i : Reader) (v : Tree) (h : IsHere le
                     (reads-apart anything d u
                     (subst (λ m. HasTakenIn anything d (t ++ slice_range chunk i.at m)) (sym end)
                     (key-there t outer at r))
-                    (hidden-here level chunk i v h none) (λ unset. shown-nothing d none));
+                    (hidden-here level chunk i v h none));
                 moves =
                     moves-here level chunk i h.here h.low ended (e - i.at) (omega (arith, within.within.0)) (omega (arith, end, within.within.1))
                     (refl, refl, refl) refl;
@@ -168,6 +171,7 @@ module _ (level : ℕ) (chunk : List ℕ) (i : Reader) (v : Tree) (h : IsHere le
               let j = record ended { awaits = awaits.Value } in
               let end : i.at + (e + 1 - i.at) ≡ e + 1 = omega (arith, within.within.0) in
               record {
+                complete = λ unset _. shown-nothing (document j v) none;
                 goes = λ t outer at r.
                     let x = filled outer v in
                     let d = document j x in
@@ -189,7 +193,7 @@ module _ (level : ℕ) (chunk : List ℕ) (i : Reader) (v : Tree) (h : IsHere le
                     (reads-apart anything d all
                     (subst (λ m. HasTakenIn anything d (t ++ slice_range chunk i.at m)) (sym end)
                     (subst (HasTakenIn anything d) bytes one))
-                    (hidden-here level chunk i v h none) (λ unset. shown-nothing d none));
+                    (hidden-here level chunk i v h none));
                 moves =
                     moves-here level chunk i h.here h.low j (e + 1 - i.at) (omega (arith, within.within.0)) (omega (arith, end, more)) (refl, refl, refl)
                     refl;

@@ -13,7 +13,9 @@ use Rattle.jiter_scan.specs.Scanned.{failed}
 use Rattle.jiter_scan.specs.Stands.{Stands}
 use Rattle.jiter_scan.specs.declared.errors.Fault.{Fault}
 use Rattle.jiter_scan.specs.declared.errors.FaultKind.{FaultKind}
+use Rattle.jiter_scan.specs.declared.partial_mode.PartialMode.{PartialMode}
 use Rattle.jiter_scan.specs.declared.partial_mode.PartialMode.TheVariants.{Off}
+use Rattle.jiter_scan.specs.declared.partial_number.Stage.{Stage}
 use Rattle.jiter_scan.specs.declared.partial_number.PartialNumber.{PartialNumber}
 use Rattle.jiter_scan.specs.declared.partial_word.PartialWord.{PartialWord}
 use Rattle.jiter_steps.specs.Blank.{past_blanks}
@@ -183,10 +185,13 @@ pub record HasCome (d : Document) (t : List ℕ) : Type 0 where
   pub position : d.position ≡ length t
 
 -- the scalar that is unfinished is a value where the input ends,
+abbrev pub shown_by : PartialMode → Stage → Bool → Token → Bool
+shown_by mode stage broken token.Number = is_whole stage
+shown_by mode stage broken token.Text = allows_trailing_strings mode && not broken
+shown_by mode stage broken other = false
+
 abbrev pub shown_as : Document → Token → Bool
-shown_as d token.Number = is_whole d.number.stage
-shown_as d token.Text = allows_trailing_strings d.settings.mode && not d.string.text.broken
-shown_as d other = false
+shown_as d k = shown_by d.settings.mode d.number.stage d.string.text.broken k
 
 abbrev pub is_shown : Document → Bool
 is_shown d = shown_as d d.token
@@ -233,16 +238,25 @@ pub record Settled (d : Document) (t : List ℕ) (o : Opened) : Type 0 where
   pub same : d ≡ with_parts apart d.shown d.number d.string d.value
   pub moved : IsMoved d.shown apart d
 
--- These bytes were read, and the value so far is complete.
+-- What is open is held, and the unfinished scalar may be in the value so far, if it is a value already.
+pub record Parted (d : Document) (t : List ℕ) (o : Opened) : Type 0 where
+  pub apart : Document
+  pub held : Holding apart t o
+  pub sure : d.shown ≡ true → is_shown apart ≡ true
+  pub same : d ≡ with_parts apart d.shown d.number d.string d.value
+  pub moved : IsMoved d.shown apart d
+
+-- These bytes were read.
 pub record HasReadIn (n : Next) (d : Document) (t : List ℕ) : Type 0 where
   pub opened : Opened
   pub known : Known n d t opened
-  pub held : d.fault ≡ None → Settled d t opened
+  pub held : d.fault ≡ None → Parted d t opened
 
--- These bytes have arrived: they were read, whatever comes, and the position is after them.
+-- These bytes have arrived: they were read, whatever comes, the position is after them, and the value so far is complete.
 pub record HasArrived (d : Document) (t : List ℕ) : Type 0 where
   pub read : HasReadIn anything d t
   pub position : d.position ≡ length t
+  pub full : d.fault ≡ None → d.shown ≡ false → is_shown d ≡ false
 
 -- The same before a byte c, where the value may have moved on already: it left this open there.
 pub record StandsAt (c : ℕ) (d : Document) (t : List ℕ) (s : Arrived) : Type 0 where

@@ -10,9 +10,9 @@ use Rattle.jiter_steps.specs.declared.partial_string.PartialString.{PartialStrin
 use Rattle.jiter_steps.specs.Node.{nesting_limit}
 use Rattle.jiter_steps.specs.PartialString.{IsEven}
 use Rattle.jiter_steps.specs.StringDecoder.{text_view}
-use Rattle.jiter_steps.specs.Tree.{Text, Tree, members_of, object}
+use Rattle.jiter_steps.specs.Tree.{Text, Tree, members_of, null, object}
 use Rattle.jiter_incremental.specs.Arrived.{at_value}
-use Rattle.jiter_incremental.specs.Document.{Document, HasReadIn, HasTakenIn, Known, MayRefuseAt, Next, anything, between_tokens, in_key, noted_in}
+use Rattle.jiter_incremental.specs.Document.{Document, HasReadIn, Known, MayRefuseAt, Next, anything, between_tokens, in_key, is_shown, noted_in}
 use Rattle.jiter_incremental.specs.Document.{with_byte}
 use Rattle.jiter_incremental.specs.Slot.{AwaitsPart, IsOfKey, OpenFrame, filled}
 use Rattle.jiter_scan.specs.declared.errors.FaultKind.{FaultKind}
@@ -65,6 +65,10 @@ pub record HasReadTo (chunk : List ℕ) (r : Reader) (v : Tree) (t : List ℕ) :
 abbrev pub IsStill : Reader → Reader → Type 0
 IsStill i j = (j.settings ≡ i.settings) × (j.base ≡ i.base) × (j.at ≡ i.at)
 
+-- An unfinished scalar that is a value is in the value so far.
+abbrev pub IsComplete : Reader → Type 0
+IsComplete r = r.fault ≡ None → r.shown ≡ false → is_shown (document r null) ≡ false
+
 -- It took so many bytes of the chunk, which are not counted yet: none only where it ended the container before a byte.
 pub record Moves (level : ℕ) (chunk : List ℕ) (i j : Reader) (n : ℕ) : Type 0 where
   pub within : i.at + n ≤ length chunk
@@ -78,16 +82,7 @@ pub record Steps (level : ℕ) (chunk : List ℕ) (i : Reader) (v : Tree) (j : R
   pub goes : (t : List ℕ) (outer : List OpenFrame) → IsAt level outer → HasReadTo chunk i (filled outer v) t
       → HasReadIn (ahead j chunk (i.at + n)) (document j (filled outer w)) (t ++ slice_range chunk i.at (i.at + n))
   pub moves : Moves level chunk i j n
-
--- the same where the unfinished scalar was moved out of the value so far
-pub record HasTakenTo (r : Reader) (v : Tree) (t : List ℕ) : Type 0 where
-  pub read : HasTakenIn anything (document r v) t
-  pub position : r.base + r.at ≡ length t
-
-pub record StepsFrom (level : ℕ) (chunk : List ℕ) (i : Reader) (v : Tree) (j : Reader) (w : Tree) (n : ℕ) : Type 0 where
-  pub goes : (t : List ℕ) (outer : List OpenFrame) → IsAt level outer → HasTakenTo i (filled outer v) t
-      → HasReadIn (ahead j chunk (i.at + n)) (document j (filled outer w)) (t ++ slice_range chunk i.at (i.at + n))
-  pub moves : Moves level chunk i j n
+  pub complete : IsComplete j
 
 -- An allocation failed: what was read is read as before, whatever comes.
 pub record Stays (level : ℕ) (chunk : List ℕ) (i : Reader) (v : Tree) (j : Reader) (w : Tree) : Type 0 where
@@ -96,6 +91,7 @@ pub record Stays (level : ℕ) (chunk : List ℕ) (i : Reader) (v : Tree) (j : R
   pub free : ahead j chunk i.at ≡ anything
   pub still : IsStill i j
   pub depth : j.depth ≡ i.depth
+  pub complete : IsComplete j
 
 -- A value is awaited with the byte c, which comes next, inside these containers.
 pub record ValueHere (c : ℕ) (d : Document) (t : List ℕ) (fs : List OpenFrame) : Type 0 where
@@ -123,14 +119,10 @@ pub record AwaitsKey (level : ℕ) (chunk : List ℕ) (i : Reader) (v : Tree) : 
       → (fs : List OpenFrame) × (ms : List (Text × Tree))
       × KeyHere (slice_index chunk i.at) (document i (filled outer v)) t fs ms
 
--- The unfinished scalar was moved into the value so far, if it is a value already; or moved out of it again.
-pub record Shows (level : ℕ) (i : Reader) (v : Tree) (j : Reader) (w : Tree) : Type 0 where
+-- The same bytes are read: an unfinished scalar was moved into the value so far, or out of it.
+pub record AsRead (level : ℕ) (i : Reader) (v : Tree) (j : Reader) (w : Tree) : Type 0 where
   pub goes : (n : Next) (t : List ℕ) (outer : List OpenFrame) → IsAt level outer
-      → HasTakenIn n (document i (filled outer v)) t → HasReadIn n (document j (filled outer w)) t
-
-pub record Hides (level : ℕ) (i : Reader) (v : Tree) (j : Reader) (w : Tree) : Type 0 where
-  pub goes : (n : Next) (t : List ℕ) (outer : List OpenFrame) → IsAt level outer
-      → HasReadIn n (document i (filled outer v)) t → HasTakenIn n (document j (filled outer w)) t
+      → HasReadIn n (document i (filled outer v)) t → HasReadIn n (document j (filled outer w)) t
 
 -- the same reader, with these parts
 abbrev pub with_shown : Reader → Bool → PartialNumber → PartialString → CowStr Global → Reader
@@ -158,22 +150,13 @@ refused r k i = record r { fault = Some (record { kind = k; index = i }); first 
 abbrev pub noted : Reader → FaultKind → ℕ → Reader
 noted r k i = record r { first = noted_in r.first k i }
 
--- the slot is the innermost open container, with an unfinished scalar or key that is moved out of it
-pub record IsApart (level : ℕ) (chunk : List ℕ) (i : Reader) (v : Tree) : Type 0 where
-  pub here : i.depth ≡ level
-  pub low : level ≤ nesting_limit + 1
-  pub inside : i.at < length chunk
-  pub room : i.base + length chunk < 2 ^ 64
-  pub unset : i.fault ≡ None
-  pub hidden : i.shown ≡ false
-  pub read : (t : List ℕ) × (outer : List OpenFrame) × IsAt level outer × HasTakenTo i (filled outer v) t
-
 -- A reader goes on in a container at this level or inside it.
 pub record Ready (level : ℕ) (chunk : List ℕ) (i : Reader) (v : Tree) : Type 0 where
   pub above : level ≤ i.depth
   pub low : i.depth ≤ nesting_limit + 1
   pub within : i.at ≤ length chunk
   pub room : i.base + length chunk < 2 ^ 64
+  pub complete : IsComplete i
   pub read : (t : List ℕ) × (outer : List OpenFrame) × IsAt level outer × HasReadTo chunk i (filled outer v) (t ++ take i.at chunk)
 
 -- What it has read of the chunk leads from the one to the other, whatever the container is in and whatever came before.
@@ -188,6 +171,7 @@ pub record Went (level : ℕ) (chunk : List ℕ) (i : Reader) (v : Tree) (j : Re
   pub same : (j.settings ≡ i.settings) × (j.base ≡ i.base)
   pub depth : level ≤ j.depth + 1
   pub low : j.depth ≤ nesting_limit + 1
+  pub complete : IsComplete j
   pub reads : Leads level chunk i v j w
 
 -- An allocation failed before a byte of the chunk, and not before the first that is no blank.

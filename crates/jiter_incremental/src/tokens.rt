@@ -5,7 +5,8 @@ ghost use Rattle.std.specs.Prelude.{Some, string_bytes, false, true, ℕ};
 ghost use Rattle.jiter_incremental.specs.Between.{text_of};
 ghost use Rattle.jiter_incremental.specs.Document.{Next, HasMoved, HasReadIn, bytes_in, is_shown, token_tree};
 ghost use Rattle.jiter_incremental.specs.Names.{name_word};
-ghost use Rattle.jiter_incremental.specs.Reader.{Hides, IsApart, IsAt, IsGrowing, IsHere, IsPlainRun, Shows, Stays, Steps, StepsFrom, after_level};
+ghost use Rattle.jiter_incremental.specs.Reader.{AsRead, IsAt, IsComplete, IsGrowing, IsHere, IsPlainRun, Stays, Steps, after_level};
+ghost use Rattle.jiter_incremental.specs.Strings.{IsOfString};
 ghost use Rattle.jiter_incremental.specs.Reader.{document, with_shown};
 ghost use Rattle.jiter_incremental.specs.Slot.{HasRoomAt, IsPut, OpenFrame, filled};
 ghost use Rattle.jiter_incremental.specs.declared.reader.Token.TheVariants as token_kind;
@@ -144,7 +145,8 @@ impl Reader {
         requires room { HasRoomAt level slot.old }
         requires begun { self.old.token ≡ token_kind.Number
             → IsBegun (string_bytes self.old.number.text) self.old.number.stage }
-        ensures shows { Shows level self.old (view slot.old) self.new (view slot.new) }
+        ensures shows { AsRead level self.old (view slot.old) self.new (view slot.new) }
+        ensures complete { IsComplete self.new }
         ensures same { self.new
             ≡ with_shown self.old self.new.shown self.new.number self.new.string self.new.key }
     {
@@ -161,7 +163,7 @@ impl Reader {
         requires unset { self.old.fault ≡ None }
         requires read { (n : Next) × (t : List ℕ) × (outer : List OpenFrame) × IsAt level outer
             × HasReadIn n (document self.old (filled outer (view slot.old))) t }
-        ensures hides { Hides level self.old (view slot.old) self.new (view slot.new) }
+        ensures hides { AsRead level self.old (view slot.old) self.new (view slot.new) }
         ensures hidden { self.new.shown ≡ false }
         ensures room { HasRoomAt level slot.old → HasRoomAt level slot.new }
         ensures same { self.new ≡ with_shown self.old false self.new.number self.new.string self.new.key }
@@ -199,11 +201,12 @@ impl Reader {
 
     // The byte is the `I` of `-Infinity`.
     fn take_name(&mut self, slot: &JsonValue<'static>, level: usize, chunk: &[u8]) -> usize
-        requires here { IsApart level chunk.now self.old (view slot.now) }
+        requires here { IsHere level chunk.now self.old (view slot.now) }
+        requires hidden { self.old.shown ≡ false }
         requires token { self.old.token ≡ token_kind.Number }
         requires leads { Leads self.old.number.stage (slice_index chunk.now self.old.at) number_went.Named }
         requires fits { Fits self.old.number.stage (slice_index chunk.now self.old.at) number_went.Named }
-        ensures { StepsFrom level chunk.now self.old (view slot.now) self.new (view slot.now) result }
+        ensures { Steps level chunk.now self.old (view slot.now) self.new (view slot.now) result }
     {
         if self.settings.allow_inf_nan {
             self.name = Name::MinusInfinity;
@@ -217,12 +220,13 @@ impl Reader {
 
     // The byte isn't part of the number, which ends before it. Takes the byte too.
     fn end_number(&mut self, slot: &mut JsonValue<'static>, level: usize, chunk: &[u8]) -> usize
-        requires here { IsApart level chunk.now self.old (view slot.old) }
+        requires here { IsHere level chunk.now self.old (view slot.old) }
+        requires hidden { self.old.shown ≡ false }
         requires token { self.old.token ≡ token_kind.Number }
         requires leads { Leads self.old.number.stage (slice_index chunk.now self.old.at) number_went.Over }
         requires fits { Fits self.old.number.stage (slice_index chunk.now self.old.at) number_went.Over }
         requires space { HasRoomAt level slot.old }
-        ensures { StepsFrom level chunk.now self.old (view slot.old) self.new (view slot.new) result }
+        ensures { Steps level chunk.now self.old (view slot.old) self.new (view slot.new) result }
     {
         let value = number_value(self.number.take_value());
         self.put(slot, level, value);
@@ -240,12 +244,13 @@ impl Reader {
         chunk: &[u8],
         went: NumberWent,
     ) -> usize
-        requires here { IsApart level chunk.now self.old (view slot.now) }
+        requires here { IsHere level chunk.now self.old (view slot.now) }
+        requires hidden { self.old.shown ≡ false }
         requires token { self.old.token ≡ token_kind.Number }
         requires leads { Leads self.old.number.stage (slice_index chunk.now self.old.at) went }
         requires fits { Fits self.old.number.stage (slice_index chunk.now self.old.at) went }
         requires wrong { (went ≡ number_went.Invalid) ⊎ (went ≡ number_went.TooLong) }
-        ensures { StepsFrom level chunk.now self.old (view slot.now) self.new (view slot.now) result }
+        ensures { Steps level chunk.now self.old (view slot.now) self.new (view slot.now) result }
     {
         match went {
             NumberWent::TooLong => self.refuse(FaultKind::NumberOutOfRange, self.position() + 1),
@@ -263,12 +268,12 @@ impl Reader {
         chunk: &[u8],
     ) -> Result<usize, AllocFailed>
         requires here { IsHere level chunk.now self.old (view slot.old) }
+        requires hidden { self.old.shown ≡ false }
         requires token { self.old.token ≡ token_kind.Number }
+        requires space { HasRoomAt level slot.old }
         ensures steps { IfOk result (λ n. Steps level chunk.now self.old (view slot.old) self.new (view slot.new) n) }
         ensures stays { OnErr result (Stays level chunk.now self.old (view slot.old) self.new (view slot.new)) }
     {
-        reserve_in(slot)?;
-        self.hide(slot, level);
         match self.number.next(chunk[self.at]) {
             NumberWent::Taken(stage) => {
                 let taken = self.number.more(stage, chunk, self.at);
@@ -307,12 +312,13 @@ impl Reader {
     // `TrailingStrings` drops an incomplete character before the closing quote. With partial reading off that is an
     // error.
     fn close_string(&mut self, slot: &mut JsonValue<'static>, level: usize, chunk: &[u8]) -> usize
-        requires here { IsApart level chunk.now self.old (view slot.old) }
+        requires here { IsHere level chunk.now self.old (view slot.old) }
+        requires hidden { self.old.shown ≡ false }
         requires token { (self.old.token ≡ token_kind.Text) ⊎ (self.old.token ≡ token_kind.Key) }
         requires quote { slice_get chunk.now self.old.at ≡ Some ascii.quote }
         requires whole { self.old.string.escape ≡ None }
         requires space { HasRoomAt level slot.old }
-        ensures { StepsFrom level chunk.now self.old (view slot.old) self.new (view slot.new) result }
+        ensures { Steps level chunk.now self.old (view slot.old) self.new (view slot.new) result }
     {
         let index = self.begin + 1 + self.string.text().len();
         let kind = FaultKind::InvalidUnicodeCodePoint;
@@ -343,7 +349,6 @@ impl Reader {
     }
 
     // A wrong byte counts as taken: the error is final.
-    #[inline(never)]
     fn move_string(
         &mut self,
         slot: &mut JsonValue<'static>,
@@ -351,12 +356,12 @@ impl Reader {
         chunk: &[u8],
     ) -> Result<usize, AllocFailed>
         requires here { IsHere level chunk.now self.old (view slot.old) }
+        requires hidden { self.old.shown ≡ false }
         requires token { (self.old.token ≡ token_kind.Text) ⊎ (self.old.token ≡ token_kind.Key) }
+        requires space { HasRoomAt level slot.old }
         ensures steps { IfOk result (λ n. Steps level chunk.now self.old (view slot.old) self.new (view slot.new) n) }
         ensures stays { OnErr result (Stays level chunk.now self.old (view slot.old) self.new (view slot.new)) }
     {
-        reserve_in(slot)?;
-        self.hide(slot, level);
         match self.string.next(chunk, self.at) {
             Ok(StringWent::Taken(count)) => {
                 self.show(slot, level);
@@ -374,7 +379,29 @@ impl Reader {
         }
     }
 
-    #[inline(always)]
+    // The number or the string is moved out of the value. If it goes on after the chunk, it is moved in again.
+    #[inline(never)]
+    fn move_on(
+        &mut self,
+        slot: &mut JsonValue<'static>,
+        level: usize,
+        chunk: &[u8],
+    ) -> Result<usize, AllocFailed>
+        requires here { IsHere level chunk.now self.old (view slot.old) }
+        requires token { (self.old.token ≡ token_kind.Number) ⊎ IsOfString self.old.token }
+        requires complete { IsComplete self.old }
+        ensures steps { IfOk result (λ n. Steps level chunk.now self.old (view slot.old) self.new (view slot.new) n) }
+        ensures stays { OnErr result (Stays level chunk.now self.old (view slot.old) self.new (view slot.new)) }
+    {
+        reserve_in(slot)?;
+        self.hide(slot, level);
+        if matches!(self.token, Token::Number) {
+            self.take_number(slot, level, chunk)
+        } else {
+            self.move_string(slot, level, chunk)
+        }
+    }
+
     fn take_string(
         &mut self,
         slot: &mut JsonValue<'static>,
@@ -383,12 +410,13 @@ impl Reader {
     ) -> Result<usize, AllocFailed>
         requires here { IsHere level chunk.now self.old (view slot.old) }
         requires token { (self.old.token ≡ token_kind.Text) ⊎ (self.old.token ≡ token_kind.Key) }
+        requires complete { IsComplete self.old }
         ensures steps { IfOk result (λ n. Steps level chunk.now self.old (view slot.old) self.new (view slot.new) n) }
         ensures stays { OnErr result (Stays level chunk.now self.old (view slot.old) self.new (view slot.new)) }
     {
         let count = self.growth(chunk);
         if count == 0 {
-            return self.move_string(slot, level, chunk);
+            return self.move_on(slot, level, chunk);
         }
         append_in(slot, level, &chunk[self.at..self.at + count])?;
         Ok(count)
@@ -404,12 +432,13 @@ impl Reader {
     ) -> Result<usize, AllocFailed>
         requires here { IsHere level chunk.now self.old (view slot.old) }
         requires token { ¬ (self.old.token ≡ token_kind.Nothing) }
+        requires complete { IsComplete self.old }
         ensures steps { IfOk result (λ n. Steps level chunk.now self.old (view slot.old) self.new (view slot.new) n) }
         ensures stays { OnErr result (Stays level chunk.now self.old (view slot.old) self.new (view slot.new)) }
     {
         match self.token {
             Token::Word => self.take_word(slot, level, chunk),
-            Token::Number => self.take_number(slot, level, chunk),
+            Token::Number => self.move_on(slot, level, chunk),
             _ => self.take_string(slot, level, chunk),
         }
     }

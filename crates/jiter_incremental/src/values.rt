@@ -164,7 +164,7 @@ impl Reader {
         Ok(end - self.at)
     }
 
-    #[inline(always)]
+    #[inline(never)]
     fn number(
         &mut self,
         slot: &mut JsonValue<'static>,

@@ -23,7 +23,6 @@ fn ends_number(piece: &[u8], end: usize) -> bool
 /// Returns the number at `at` and the index after it, if the chunk also has the byte that ends it.
 ///
 /// Returns `None` if the number may go on in the next chunk, has an error, or if no number begins at `at`.
-#[inline(always)]
 pub fn number_within(piece: &[u8], at: usize) -> Option<(NumberAny<'_>, usize)>
     requires { at < length piece.now }
     ensures { IfSome result (λ found. EndsWithin piece.now at (number_view found.0) found.1) }

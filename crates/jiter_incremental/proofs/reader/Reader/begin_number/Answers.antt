@@ -1,6 +1,6 @@
 use Rattle.std.proofs.Common.{◌-◌, ap, subst, sym, ◌∙◌}
 use Rattle.jiter_value.specs.Value.{view}
-use Rattle.jiter_incremental.specs.Reader.{Shows, Steps, with_shown}
+use Rattle.jiter_incremental.specs.Reader.{AsRead, Steps, with_shown}
 use Rattle.jiter_incremental.specs.declared.reader.Awaits.TheVariants as awaits
 use Rattle.jiter_incremental.specs.declared.reader.Reader.{Reader}
 use Rattle.jiter_incremental.proofs.Documents.Blanks.{if-refused}
@@ -28,7 +28,7 @@ returns-clause-steps c =
     let is = c.begin_token.ensures in
     let same = c.show.ensures.same ∙ ap (λ r. with_shown (begun r) j.shown j.number j.string j.key) is in
     let place = ap (λ (r : Reader). r.at) same in
-    let shows = subst (λ r. Shows level (begun r) v j w) is c.show.ensures.shows in
+    let shows = subst (λ r. AsRead level (begun r) v j w) is c.show.ensures.shows in
     subst (λ n. Steps level chunk i v j w (e - n)) (sym place)
     (number-kept level chunk i v c.requires.here c.requires.token c.requires.awaited c.requires.other c.requires.low
-    c.requires.begins c.begin.new.self e there.ahead there.within c.in_ok-begin.ensures.held j w shows same)
+    c.requires.begins c.begin.new.self e there.ahead there.within c.in_ok-begin.ensures.held j w shows c.show.ensures.complete same)

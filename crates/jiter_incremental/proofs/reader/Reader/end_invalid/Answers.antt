@@ -4,7 +4,7 @@ use Rattle.jiter_scan.specs.PartialNumber.{Leads}
 use Rattle.jiter_scan.specs.declared.errors.FaultKind.TheVariants as fault_of
 use Rattle.jiter_scan.specs.declared.partial_number.Went.TheVariants as went
 use Rattle.jiter_value.specs.Value.{view}
-use Rattle.jiter_incremental.specs.Reader.{StepsFrom, refused}
+use Rattle.jiter_incremental.specs.Reader.{Steps, refused}
 use Rattle.jiter_incremental.specs.declared.reader.Reader.{Reader}
 use Rattle.jiter_incremental.proofs.NumberSteps.{invalid-only, number-wrong}
 use Rattle.jiter_incremental.proofs.reader.Reader.end_invalid.Goals as goal
@@ -16,8 +16,8 @@ returns-in-TooLong c =
     let v = view c.args.slot.now in
     let kind = fault_of.NumberOutOfRange in
     let is = c.refuse.ensures ∙ ap (λ n. refused i kind (n + 1)) c.position.ensures in
-    subst (λ (j : Reader). StepsFrom c.args.level chunk i v j v 1) (sym is)
-    (number-wrong c.args.level chunk i v c.requires.here c.requires.token kind went.TooLong (i.base + i.at + 1) refl
+    subst (λ (j : Reader). Steps c.args.level chunk i v j v 1) (sym is)
+    (number-wrong c.args.level chunk i v c.requires.here c.requires.hidden c.requires.token kind went.TooLong (i.base + i.at + 1) refl
     (subst (Leads i.number.stage (slice_index chunk i.at)) c.in-TooLong.is c.requires.leads) (λ names u. refl))
 
 pub returns-in_default : goal.returns-in_default
@@ -28,6 +28,6 @@ returns-in_default c =
     let kind = fault_of.InvalidNumber in
     let is = c.refuse-in_default.ensures ∙ ap (refused i kind) c.position-in_default.ensures in
     let invalid = invalid-only c.args.went c.requires.wrong c.in_default.not-TooLong in
-    subst (λ (j : Reader). StepsFrom c.args.level chunk i v j v 1) (sym is)
-    (number-wrong c.args.level chunk i v c.requires.here c.requires.token kind went.Invalid (i.base + i.at) refl
+    subst (λ (j : Reader). Steps c.args.level chunk i v j v 1) (sym is)
+    (number-wrong c.args.level chunk i v c.requires.here c.requires.hidden c.requires.token kind went.Invalid (i.base + i.at) refl
     (subst (Leads i.number.stage (slice_index chunk i.at)) invalid c.requires.leads) (λ names u. refl))

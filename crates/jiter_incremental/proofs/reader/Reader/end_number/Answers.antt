@@ -7,7 +7,7 @@ use Rattle.jiter_steps.specs.StringDecoder.{text_view}
 use Rattle.jiter_steps.specs.Tree.{Tree}
 use Rattle.jiter_value.specs.Owned.{owned_text, tree_as}
 use Rattle.jiter_value.specs.Value.{view}
-use Rattle.jiter_incremental.specs.Reader.{IsHere, Steps, StepsFrom}
+use Rattle.jiter_incremental.specs.Reader.{IsHere, Steps}
 use Rattle.jiter_incremental.specs.Slot.{IsPut}
 use Rattle.jiter_incremental.specs.declared.reader.Reader.{Reader}
 use Rattle.jiter_incremental.proofs.NumberSteps.{ended-blank, ended-here, ended-then}
@@ -24,8 +24,8 @@ returns-then-is_blank c =
     let tree = c.number_value-value.ensures.value
     ∙ ap (λ (x : Number). tree_as owned_text (number_tree x)) c.take_value.ensures.value in
     let put = subst (λ (x : Tree). IsPut level v (text_view i.key) x w) tree c.put.ensures.put in
-    subst (λ (j : Reader). StepsFrom level chunk i v j w 1) (sym c.put.ensures.is)
-    (ended-blank level chunk i v r.here r.token r.leads c.take_value.new.self c.put.new.self.key w put
+    subst (λ (j : Reader). Steps level chunk i v j w 1) (sym c.put.ensures.is)
+    (ended-blank level chunk i v r.here r.hidden r.token r.leads c.take_value.new.self c.put.new.self.key w put
     (subst (λ (j : Reader). is_blank (slice_index chunk j.at) ≡ true) c.put.ensures.is
     (sym c.is_blank.ensures ∙ c.if-is_blank.true)))
 
@@ -41,7 +41,7 @@ after-requires-clause-here c =
     ∙ ap (λ (x : Number). tree_as owned_text (number_tree x)) c.take_value.ensures.value in
     let put = subst (λ (x : Tree). IsPut level v (text_view i.key) x w) tree c.put.ensures.put in
     subst (λ (j : Reader). IsHere level chunk j w) (sym c.put.ensures.is)
-    (ended-here level chunk i v r.here r.token r.leads c.take_value.new.self c.put.new.self.key w put)
+    (ended-here level chunk i v r.here r.hidden r.token r.leads c.take_value.new.self c.put.new.self.key w put)
 
 pub returns : goal.returns
 returns c =
@@ -56,5 +56,5 @@ returns c =
     let put = subst (λ (x : Tree). IsPut level v (text_view i.key) x w) tree c.put.ensures.put in
     let j = c.after.new.self in
     let n = c.after.result in
-    ended-then level chunk i v r.here r.token r.leads c.take_value.new.self c.put.new.self.key w put j w n
+    ended-then level chunk i v r.here r.hidden r.token r.leads c.take_value.new.self c.put.new.self.key w put j w n
     (subst (λ (m : Reader). Steps level chunk m w j w n) c.put.ensures.is c.after.ensures)

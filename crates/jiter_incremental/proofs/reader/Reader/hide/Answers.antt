@@ -1,6 +1,6 @@
 use Rattle.std.proofs.Common.{ap, false, subst, sym}
 use Rattle.jiter_value.specs.Value.{view}
-use Rattle.jiter_incremental.specs.Reader.{Hides, with_shown}
+use Rattle.jiter_incremental.specs.Reader.{AsRead, with_shown}
 use Rattle.jiter_incremental.specs.declared.reader.Reader.{Reader}
 use Rattle.jiter_incremental.proofs.Showing.{hides-moved, shown-part}
 use Rattle.jiter_incremental.proofs.reader.Reader.hide.Goals as goal
@@ -18,7 +18,7 @@ returns-then-self-clause-hides c =
     let v = view c.args.slot.now in
     let w = view c.take_from-value.new.slot in
     let m = c.give_back.new.self in
-    subst (λ (j : Reader). Hides level i v j w)
+    subst (λ (j : Reader). AsRead level i v j w)
     (sym (ap (λ (r : Reader). with_shown r false m.number m.string r.key) c.give_back.ensures.same))
     (hides-moved level i v w (view c.take_from-value.result) m.number m.string c.take_from-value.new.key c.requires.here
     c.requires.unset c.if-self.true c.take_from-value.ensures.taken c.give_back.ensures.number c.give_back.ensures.text)

@@ -8,4 +8,4 @@ use Rattle.jiter_incremental.proofs.reader.Reader.new.Goals as goal
 pub returns-clause-arrived : goal.returns-clause-arrived
 returns-clause-arrived c =
     let h = new-arrived _ refl refl refl refl (refl, tt, refl, tt) none-read in
-    record { read = reads-apart anything _ [] h.read refl (λ _. refl); position = h.position }
+    record { read = reads-apart anything _ [] h.read refl; position = h.position; full = λ _ _. refl }

@@ -9,6 +9,7 @@ use Rattle.jiter_incremental.proofs.Answering.{keeps-shown, none-told, value-tol
 use Rattle.jiter_incremental.proofs.reader.Reader.partial_fault.Goals.{else-keeps-via-then-keeps+else-not-self}
 use Rattle.jiter_incremental.proofs.reader.Reader.partial_fault.Goals.{else-keeps-via-else-keeps}
 use Rattle.jiter_incremental.proofs.reader.Reader.partial_fault.Goals as goal
+use Rattle.jiter_incremental.proofs.Settling.{settled-so}
 
 pub overflow_add-index-then-not-self : goal.overflow_add-index-then-not-self
 overflow_add-index-then-not-self c =
@@ -17,14 +18,14 @@ overflow_add-index-then-not-self c =
     let unset = c.requires.unset in
     let is = c.keeps.ensures.only c.if-keeps.true in
     let on = sym (c.keeps.ensures.text is) ∙ c.if-keeps.true in
-    let bad = broken-so d a.0 a.1.read.opened (a.1.read.held unset) is on c.if-not-self.true in
+    let bad = broken-so d a.0 a.1.read.opened (settled-so d a.0 a.1 unset) is on c.if-not-self.true in
     omega (arith, broken-index d a.0 a.1 unset c.if-not-self.true bad, ap length c.text.ensures, c.requires.room)
 
 pub returns-then-not-self : goal.returns-then-not-self
 returns-then-not-self c = λ t h.
     let d = document c.args.self.now (view c.args.root.now) in
     let unset = c.requires.unset in
-    let s = h.read.held unset in
+    let s = settled-so d t h unset in
     let is = c.keeps.ensures.only c.if-keeps.true in
     let on = sym (c.keeps.ensures.text is) ∙ c.if-keeps.true in
     let hidden = c.if-not-self.true in
@@ -41,7 +42,7 @@ returns-then-has_value c = λ t h.
     let d = document c.args.self.now (view v) in
     let unset = c.requires.unset in
     let o = h.read.opened in
-    let s = h.read.held unset in
+    let s = settled-so d t h unset in
     let shows : ShowsText d = λ is on. elim c.else-keeps.branch [
       | else-keeps-via-then-keeps+else-not-self w ↦ w.if-not-self.false
       | else-keeps-via-else-keeps w ↦
@@ -56,7 +57,7 @@ returns c = λ t h.
     let d = document c.args.self.now (view v) in
     let unset = c.requires.unset in
     let o = h.read.opened in
-    let s = h.read.held unset in
+    let s = settled-so d t h unset in
     let shows : ShowsText d = λ is on. elim c.else-keeps.branch [
       | else-keeps-via-then-keeps+else-not-self w ↦ w.if-not-self.false
       | else-keeps-via-else-keeps w ↦
@@ -65,3 +66,9 @@ returns c = λ t h.
     none-told d t h unset c.requires.active c.end_fault.result (keeps-shown d t o s v refl shows)
     (good-so d t o s shows)
     (sym (c.has_value.ensures (view v) t o s) ∙ c.if-has_value.false) (c.end_fault.ensures t o s)
+
+pub end_fault-requires-clause-settled : goal.end_fault-requires-clause-settled
+end_fault-requires-clause-settled c =
+    let d = document c.args.self.now (view c.args.root.now) in
+    let a = c.requires.arrived in
+    (a.0, a.1.read.opened, settled-so d a.0 a.1 c.requires.unset)

@@ -33,7 +33,7 @@ loop-self-preserved-then-is_over c =
     let j = c.loop-self.self in
     let w = view c.loop-self.root in
     let went = c.loop-self.invariant.went in
-    let over = over-went chunk j w c.loop-self-test.true went.low (λ x. c.is_over.ensures.over x c.if-is_over.true) in
+    let over = over-went chunk j w went.complete c.loop-self-test.true went.low (λ x. c.is_over.ensures.over x c.if-is_over.true) in
     record { went = went-then 0 chunk i v j w _ w went over }
 
 pub part-requires-clause-ready : goal.part-requires-clause-ready
@@ -73,7 +73,7 @@ returns-in_err-part-clause-refused c =
     let all = went-then 0 chunk i v j w k x went c.in_err-part.ensures.went in
     λ t h.
     if-refused c.from_residual.result
-    (arrived-free chunk k x _ c.in_err-part.ensures.wanted.free (went-from chunk i v k x all c.requires.start t h))
+    (arrived-free chunk k x _ c.in_err-part.ensures.wanted.free all.complete (went-from chunk i v k x all c.requires.start t h))
 
 pub returns-in_err-part-clause-wanted : goal.returns-in_err-part-clause-wanted
 returns-in_err-part-clause-wanted c =
@@ -102,7 +102,7 @@ returns-in_err-resume-clause-refused c =
     let all = went-then 0 chunk i v j w k x went (outermost chunk j w k x c.in_err-resume.ensures.went) in
     λ t h.
     if-refused c.from_residual-in_err-resume.result
-    (arrived-free chunk k x _ (outermost-refuses chunk j w k c.in_err-resume.ensures.wanted).free (went-from chunk i v k x all c.requires.start t h))
+    (arrived-free chunk k x _ (outermost-refuses chunk j w k c.in_err-resume.ensures.wanted).free all.complete (went-from chunk i v k x all c.requires.start t h))
 
 pub returns-in_err-resume-clause-wanted : goal.returns-in_err-resume-clause-wanted
 returns-in_err-resume-clause-wanted c =
@@ -127,5 +127,5 @@ returns-clause-taken c =
     let w = view c.loop-self.root in
     let went = c.loop-self.invariant.went in
     λ t h.
-    arrived-all chunk j w t (omega (arith, c.loop-self-test.false)) went.within
+    arrived-all chunk j w t went.complete (omega (arith, c.loop-self-test.false)) went.within
     (went-from chunk i v j w went c.requires.start t h)

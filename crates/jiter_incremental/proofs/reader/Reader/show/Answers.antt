@@ -1,11 +1,12 @@
 use Rattle.std.proofs.Common.{◌∙◌, ap, subst, sym, true}
 use Rattle.jiter_steps.specs.StringDecoder.{text_view}
 use Rattle.jiter_value.specs.Value.{view}
-use Rattle.jiter_incremental.specs.Reader.{Shows, with_shown}
+use Rattle.jiter_incremental.specs.Reader.{AsRead, with_shown}
 use Rattle.jiter_incremental.specs.Slot.{IsPut}
 use Rattle.jiter_incremental.specs.declared.reader.Reader.{Reader}
-use Rattle.jiter_incremental.proofs.Showing.{shows-moved, shows-none}
+use Rattle.jiter_incremental.proofs.Showing.{shows-moved}
 use Rattle.jiter_incremental.proofs.reader.Reader.show.Goals as goal
+use Rattle.jiter_steps.specs.Tree.{null}
 
 pub returns-then-is_showable-clause-shows : goal.returns-then-is_showable-clause-shows
 returns-then-is_showable-clause-shows c =
@@ -18,12 +19,14 @@ returns-then-is_showable-clause-shows c =
     let k = c.put_in.new.key in
     let same = c.shown_value-value.ensures.same in
     let put = subst (λ (r : Reader). IsPut level v (text_view r.key) x w) same c.put_in.ensures in
-    subst (λ (j : Reader). Shows level i v j w) (sym (ap (λ (r : Reader). with_shown r true m.number m.string k) same))
-    (shows-moved level i v w x m.number m.string k c.requires.here
+    subst (λ (j : Reader). AsRead level i v j w) (sym (ap (λ (r : Reader). with_shown r true m.number m.string k) same))
+    (shows-moved level i v w x m.number m.string k c.requires.here c.requires.hidden
     (λ y. sym (c.is_showable.ensures y) ∙ c.if-is_showable.true) c.shown_value-value.ensures.value
     c.shown_value-value.ensures.moved put)
 
-pub returns-else-is_showable-clause-shows : goal.returns-else-is_showable-clause-shows
-returns-else-is_showable-clause-shows c =
-    shows-none c.args.level c.args.self.now (view c.args.slot.now) c.requires.hidden
-    (λ y. sym (c.is_showable.ensures y) ∙ c.if-is_showable.false)
+pub shown_value-value-requires-clause-shown : goal.shown_value-value-requires-clause-shown
+shown_value-value-requires-clause-shown c = sym (c.is_showable.ensures null) ∙ c.if-is_showable.true
+
+pub returns-else-is_showable-clause-complete : goal.returns-else-is_showable-clause-complete
+returns-else-is_showable-clause-complete c = λ unset hidden.
+    sym (c.is_showable.ensures null) ∙ c.if-is_showable.false

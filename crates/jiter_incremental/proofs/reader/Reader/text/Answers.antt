@@ -2,7 +2,7 @@ use Rattle.std.proofs.Common.{◌-◌, ◌∙◌, ap, subst, sym, string_bytes}
 use Rattle.jiter_steps.specs.StringDecoder.{text_view}
 use Rattle.jiter_steps.specs.Tree.{Tree}
 use Rattle.jiter_value.specs.Value.{view}
-use Rattle.jiter_incremental.specs.Reader.{Shows, Steps, with_shown}
+use Rattle.jiter_incremental.specs.Reader.{AsRead, Steps, with_shown}
 use Rattle.jiter_incremental.specs.Slot.{IsPut}
 use Rattle.jiter_incremental.specs.declared.reader.Awaits.TheVariants as awaits
 use Rattle.jiter_incremental.specs.declared.reader.Reader.{Reader}
@@ -46,6 +46,6 @@ returns-in-None-clause-steps c =
     let begun = λ (r : Reader). record r { awaits = awaits.Value } in
     let is = c.begin_string.ensures.is in
     let same = c.show.ensures.same ∙ ap (λ r. with_shown (begun r) j.shown j.number j.string j.key) is in
-    let shows = subst (λ r. Shows level (begun r) v j w) is c.show.ensures.shows in
+    let shows = subst (λ r. AsRead level (begun r) v j w) is c.show.ensures.shows in
     text-kept level chunk i v c.requires.here c.requires.token c.requires.awaited c.requires.other c.requires.low
-    c.requires.quote c.begin_string.new.self.string c.text_within.new.tape c.begin_string.ensures.string j w shows same
+    c.requires.quote c.begin_string.new.self.string c.text_within.new.tape c.begin_string.ensures.string j w shows c.show.ensures.complete same
