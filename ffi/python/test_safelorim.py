@@ -123,6 +123,12 @@ class Loads(unittest.TestCase):
             with self.assertRaises(TypeError, msg=data):
                 safelorim.Parser().push(data)
 
+    def test_takes_subclasses(self):
+        text = type("Text", (str,), {})('["é", "a"]')
+        for data in (text, type("Bytes", (bytes,), {})(text.encode())):
+            for partial in (None, "on"):
+                self.assertEqual(safelorim.loads(data, partial=partial), ["é", "a"])
+
     def test_takes_what_bytes_takes_of_a_memoryview(self):
         self.assertEqual(safelorim.loads(memoryview(b"[x1x]x")[::2]), [1])
 
