@@ -123,6 +123,12 @@ class Loads(unittest.TestCase):
             with self.assertRaises(TypeError, msg=data):
                 safelorim.Parser().push(data)
 
+    def test_takes_subclasses(self):
+        text = type("Text", (str,), {})('["é", "a"]')
+        for data in (text, type("Bytes", (bytes,), {})(text.encode())):
+            for partial in (None, "on"):
+                self.assertEqual(safelorim.loads(data, partial=partial), ["é", "a"])
+
     def test_takes_what_bytes_takes_of_a_memoryview(self):
         self.assertEqual(safelorim.loads(memoryview(b"[x1x]x")[::2]), [1])
 
@@ -539,19 +545,26 @@ class Memory(unittest.TestCase):
             self.assertLess(abs(sys.getrefcount(it) - before), 500, it)
 
     def test_cycles_are_collected(self):
-        class Float:
-            def __init__(self, text):
-                self.parser = parser
+        class Make:
+            """Holds the parser; so do the floats that it makes, if they are asked for."""
 
-        gc.collect()
-        before = len(gc.get_objects())
-        for _ in range(50):
-            parser = safelorim.Parser(float=Float)
-            parser.push("[[1.5], 2.5")
-            parser.value()
-        del parser
-        gc.collect()
-        self.assertLess(len(gc.get_objects()) - before, 100)
+            def __call__(self, text):
+                made = Make()
+                made.parser = self.parser
+                return made
+
+        for text in ("[[1.5], 2.5", "[[1.5], 2.5]", ""):
+            gc.collect()
+            before = len(gc.get_objects())
+            for _ in range(100):
+                make = Make()
+                make.parser = safelorim.Parser(float=make)
+                if text:
+                    make.parser.push(text)
+                    make.parser.value()
+            del make
+            gc.collect()
+            self.assertLess(len(gc.get_objects()) - before, 100, text)
 
 
 def without_memory(call):

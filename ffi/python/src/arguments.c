@@ -25,7 +25,9 @@ static PyObject *bytes_of(PyObject *object) {
   return NULL;
 }
 
-bool is_wide_text(PyObject *object) { return PyUnicode_Check(object) && !PyUnicode_IS_ASCII(object); }
+bool is_wide_text(PyObject *object) {
+  return PyUnicode_Check(object) && PyUnicode_IS_COMPACT(object) && !PyUnicode_IS_ASCII(object);
+}
 
 bool data_of(PyObject *object, Data *data) {
   if (PyUnicode_Check(object) && PyUnicode_IS_COMPACT_ASCII(object)) {

@@ -150,6 +150,7 @@ typedef struct {
 } Settings;
 #define DEFAULT_SETTINGS {NULL, 0, 0, (PyObject *)&PyFloat_Type}
 
+/* Whether it is a str with other characters than ASCII, in the form of a new str. */
 bool is_wide_text(PyObject *object);
 bool data_of(PyObject *object, Data *data);
 void data_release(Data *data);
