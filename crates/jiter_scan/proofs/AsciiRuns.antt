@@ -85,9 +85,6 @@ module _ (t : List ℕ) (i : ℕ) where
       sym (run_end-on is_plain t i (to - i) (omega (arith, place)) (omega (arith, place, within)))
       ∙ ap (scan_stop t) place
 
-  pub stop-again : (to : ℕ) → i ≤ length t → to ≡ scan_stop t i → scan_stop t i ≡ scan_stop t to
-  stop-again to inside stop = scan-on to (omega (arith, run_end-ahead is_plain t i)) (omega arith) inside
-
   pub ascii-again : (to : ℕ) → i ≤ length t → run_end is_plain_ascii t i ≡ to → scan_stop t i ≡ scan_stop t to
   ascii-again to inside h =
       let before = shorter is_plain_ascii is_plain plain-of (drop i t) in
