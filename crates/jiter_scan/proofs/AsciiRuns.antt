@@ -12,7 +12,7 @@ use Rattle.jiter_scan.specs.Scan.{is_plain, is_ascii, is_plain_ascii, run_end, s
 use Rattle.jiter_scan.specs.Simd.{failing, ascii_from}
 use Rattle.jiter_scan.proofs.Chunks.{list_all-failing, none_fails, run_end-on, run_end-through}
 use Rattle.jiter_scan.proofs.PlainRuns.{ascii_from-clear, IsAsciiTo-iff}
-use Rattle.jiter_scan.proofs.Runs.{run_end-ahead, run_end-stops, run_end-within}
+use Rattle.jiter_scan.proofs.Runs.{run_end-stops, run_end-within}
 
 and-left : (a b : Bool) → (a && b) ≡ true → a ≡ true
 and-left true b h = refl

@@ -1,5 +1,5 @@
 -- Runs of bytes, and where they end.
-use Rattle.std.specs.Prelude.{◌≡◌, ℕ, ◌+◌, ◌<◌, ◌==◌, ◌||◌, ◌&&◌, Bool, true, not, List, [], ◌∷◌, drop, length, nat_lt}
+use Rattle.std.specs.Prelude.{◌≡◌, ℕ, ◌+◌, ◌<◌, ◌==◌, ◌||◌, ◌&&◌, Bool, true, not, List, [], ◌∷◌, drop, nat_lt}
 use Rattle.std.specs.Prelude.{slice_get, slice_range, IsTrue, Option, Some, None}
 use Rattle.std.specs.List.{prefix_len, AllPass}
 use Rattle.jiter_scan.specs.Ascii as ascii
