@@ -12,7 +12,7 @@ use Rattle.jiter_scan.specs.Scan.{is_plain, is_ascii, is_plain_ascii, run_end, s
 use Rattle.jiter_scan.specs.Simd.{failing, ascii_from}
 use Rattle.jiter_scan.proofs.Chunks.{list_all-failing, none_fails, run_end-on, run_end-through}
 use Rattle.jiter_scan.proofs.PlainRuns.{ascii_from-clear, IsAsciiTo-iff}
-use Rattle.jiter_scan.proofs.Runs.{run_end-ahead, run_end-stops, run_end-within}
+use Rattle.jiter_scan.proofs.Runs.{run_end-stops, run_end-within}
 
 and-left : (a b : Bool) → (a && b) ≡ true → a ≡ true
 and-left true b h = refl
@@ -84,9 +84,6 @@ module _ (t : List ℕ) (i : ℕ) where
       let within = run_end-within is_plain t i inside in
       sym (run_end-on is_plain t i (to - i) (omega (arith, place)) (omega (arith, place, within)))
       ∙ ap (scan_stop t) place
-
-  pub stop-again : (to : ℕ) → i ≤ length t → to ≡ scan_stop t i → scan_stop t i ≡ scan_stop t to
-  stop-again to inside stop = scan-on to (omega (arith, run_end-ahead is_plain t i)) (omega arith) inside
 
   pub ascii-again : (to : ℕ) → i ≤ length t → run_end is_plain_ascii t i ≡ to → scan_stop t i ≡ scan_stop t to
   ascii-again to inside h =

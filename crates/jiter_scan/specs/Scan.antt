@@ -1,6 +1,6 @@
 -- Runs of bytes, and where they end.
-use Rattle.std.specs.Prelude.{◌≡◌, ℕ, ◌+◌, ◌<◌, ◌≤◌, ◌==◌, ◌||◌, ◌&&◌, Bool, true, not, List, [], ◌∷◌, drop, length, nat_lt}
-use Rattle.std.specs.Prelude.{slice_get, slice_range, IsTrue, Option, Result, Ok, Err, Some, None}
+use Rattle.std.specs.Prelude.{◌≡◌, ℕ, ◌+◌, ◌<◌, ◌==◌, ◌||◌, ◌&&◌, Bool, true, not, List, [], ◌∷◌, drop, nat_lt}
+use Rattle.std.specs.Prelude.{slice_get, slice_range, IsTrue, Option, Some, None}
 use Rattle.std.specs.List.{prefix_len, AllPass}
 use Rattle.jiter_scan.specs.Ascii as ascii
 use Rattle.jiter_scan.specs.declared.errors.FaultKind.{FaultKind}
@@ -40,22 +40,6 @@ is_plain_ascii c = is_plain c && is_ascii c
 -- every byte from i to before j is below 80 hex
 abbrev pub IsAsciiTo : List ℕ → ℕ → ℕ → Type 0
 IsAsciiTo t i j = AllPass is_ascii (slice_range t i j)
-
--- a quote at e ends plain bytes of ASCII that begin at i
-pub record IsQuoteAfter (t : List ℕ) (i e : ℕ) : Type 0 where
-  pub stop : e ≡ scan_stop t i
-  pub quote : slice_get t e ≡ Some ascii.quote
-  pub ascii : IsAsciiTo t i e
-
--- a scan for the first stop from i on may go on at j
-pub record GoesOnAt (t : List ℕ) (i j : ℕ) : Type 0 where
-  pub stop : scan_stop t i ≡ scan_stop t j
-  pub within : (i ≤ j) × (j ≤ length t)
-
--- what a look for such a quote found
-abbrev pub FindsQuote : List ℕ → ℕ → Result ℕ ℕ → Type 0
-FindsQuote t i (Ok e) = IsQuoteAfter t i e
-FindsQuote t i (Err j) = GoesOnAt t i j
 
 -- the error of a string that goes on with this byte, which is no plain one, or ends with the input
 abbrev pub IsFaultOf : Option ℕ → FaultKind → Type 0

@@ -1,47 +1,10 @@
-//! The fast path of strings and literals. It works on the bytes and an index, and its results are returned in registers.
-//! Only the slow path says which error there is.
-ghost use Rattle.std.specs.Prelude.{◌≡◌, ◌≢◌, ◌+◌, ◌≤◌, ◌<◌, Bool, IfErr, IfOk, IfSome, IsTrue, length, slice_get, slice_range};
-ghost use Rattle.std.specs.Prelude.{Some, true};
-ghost use Rattle.std.specs.Str.{IsAscii};
-ghost use Rattle.jiter_scan.specs.Ascii as ascii;
-ghost use Rattle.jiter_scan.specs.Scan.{scan_stop, GoesOnAt};
+//! The fast path of literals. It works on the bytes and an index, and its results are returned in registers. Only the
+//! slow path says which error there is.
+ghost use Rattle.std.specs.Prelude.{◌≡◌, ◌+◌, ◌≤◌, ◌<◌, IfSome, IsTrue, length, slice_get, Some};
 ghost use Rattle.jiter_scan.specs.Scanned.{taken};
 ghost use Rattle.jiter_steps.specs.Literal.{literal_at};
-ghost use Rattle.jiter_steps.specs.StringReading.{string_at, text_form, between};
 
 use crate::parse::Literal;
-use jiter_scan::short_scan::ascii_quote;
-
-/// Returns the index of the closing quote of the string at `at` (RFC 8259, 7), if all bytes between the quotes are
-/// plain and below 80 hex. Otherwise returns the index from which to look for the first byte that is not plain: all
-/// bytes of the string before it are plain.
-#[inline(always)]
-pub fn fast_string_end(bytes: &[u8], at: usize) -> Result<usize, usize>
-    requires { at < length bytes.now }
-    ensures value { IfOk result (λ to. (keep : Bool)
-        → string_at (text_form keep) bytes.now at ≡ taken (between bytes.now (at + 1) to) (to + 1)) }
-    ensures ascii { IfOk result (λ to. IsAscii (slice_range bytes.now (at + 1) to)) }
-    ensures within { IfOk result (λ to. (at < to) × (to < length bytes.now)) }
-    ensures rest { IfErr result (λ i. GoesOnAt bytes.now (at + 1) i) }
-{
-    ascii_quote(bytes, at + 1)
-}
-
-/// Returns the string between the quotes at `at` and `to`, if it is UTF-8 (RFC 8259, 8.1).
-#[inline(always)]
-pub fn text_between(bytes: &[u8], at: usize, to: usize) -> Option<&str>
-    requires within { (at < to) × (to < length bytes.now) }
-    requires stop { to ≡ scan_stop bytes.now (at + 1) }
-    requires quote { slice_get bytes.now to ≡ Some ascii.quote }
-    ensures text { IfSome result (λ text. text.now ≡ slice_range bytes.now (at + 1) to) }
-    ensures value { IfSome result (λ _. (keep : Bool)
-        → string_at (text_form keep) bytes.now at ≡ taken (between bytes.now (at + 1) to) (to + 1)) }
-{
-    match simdutf8::compat::from_utf8(&bytes[at + 1..to]) {
-        Ok(text) => Some(text),
-        Err(_) => None,
-    }
-}
 
 #[inline(always)]
 fn has_four(bytes: &[u8], at: usize, a: u8, b: u8, c: u8, d: u8) -> bool

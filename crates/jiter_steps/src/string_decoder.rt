@@ -16,7 +16,7 @@ use crate::read_error::ReadError;
 use jiter_scan::errors::{Fault, FaultKind, fault_at};
 use jiter_scan::memory::{AllocFailed, copy_text};
 use jiter_scan::short_scan::{Look, look_at};
-use jiter_scan::simd::{both, copy_plain, scan_string};
+use jiter_scan::simd::{both, copy_plain};
 use jiter_scan::tape::{put_char, put_first};
 use jiter_scan::text::utf8_text;
 use std::alloc::Global;
@@ -243,37 +243,6 @@ pub fn decode(
     ensures { Decodes bytes.now at keep tape.new.items (vec_len tape.new) result }
 {
     decode_inline(tape, bytes, at, stop, ascii, keep)
-}
-
-/// Does what [`decode_inline`] does, and finds the backslash itself.
-#[inline(always)]
-pub fn decode_here(
-    tape: &mut Vec<u8>,
-    bytes: &[u8],
-    at: usize,
-    keep: bool,
-) -> Result<(usize, usize), ReadError>
-    requires within { at < length bytes.now }
-    requires backslash { WantsMemory bytes.now at }
-    ensures { Decodes bytes.now at keep tape.new.items (vec_len tape.new) result }
-{
-    let found = scan_string(bytes, at + 1);
-    decode_inline(tape, bytes, at, found.0, found.1, keep)
-}
-
-/// Does what [`decode`] does, and finds the backslash itself.
-#[inline(never)]
-pub fn decode_to(
-    tape: &mut Vec<u8>,
-    bytes: &[u8],
-    at: usize,
-    keep: bool,
-) -> Result<(usize, usize), ReadError>
-    requires within { at < length bytes.now }
-    requires backslash { WantsMemory bytes.now at }
-    ensures { Decodes bytes.now at keep tape.new.items (vec_len tape.new) result }
-{
-    decode_here(tape, bytes, at, keep)
 }
 
 // For a string with a backslash.
