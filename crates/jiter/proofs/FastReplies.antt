@@ -19,10 +19,12 @@ use Rattle.jiter_steps.specs.declared.read_error.ReadError.TheVariants as error
 use Rattle.jiter_steps.specs.ReadError.{UnlessRefused}
 use Rattle.jiter_steps.specs.Step.{colon, more, step}
 use Rattle.jiter_steps.specs.StringDecoder.{WantsMemory}
-use Rattle.jiter_steps.specs.StringReading.{Form, string_at, text_form, whole}
+use Rattle.jiter_steps.specs.StringReading.{between, Form, string_at, text_form, whole}
 use Rattle.jiter_steps.specs.Tree.{Text}
 use Rattle.jiter_steps.proofs.Grammar.Blanks.{past_blanks-after}
 use Rattle.jiter_steps.proofs.Grammar.StringLaws.{string_at-within}
+use Rattle.jiter_steps.proofs.OpenStrings.{range-length}
+use Rattle.std.proofs.Common.{ap₂, false, ◌-◌}
 use Rattle.jiter.specs.Jiter.{BeginsAt, IsErrorAt, MovesOn, key_bytes, reply_seen, text_bytes}
 use Rattle.jiter.specs.Reader.{ReaderState, Refusal, Reply, gave, refused, scalar_reply, colon_reply, key_reply, with_position}
 use Rattle.jiter.specs.Reader.{value_place, next, if_byte, member_reply, number_bytes_read, str_read}
@@ -255,3 +257,17 @@ number-given view a reply v s i j e is here start some within value = subst P is
     index = tt;
     memory = tt;
   }
+
+-- A string whose closing quote is at e, as it is in the document, ends where its bytes and both quotes do.
+pub plain-closed : (t : List ℕ) (i e : ℕ) (text : List ℕ) → i < e → e < length t → text ≡ slice_range t (i + 1) e
+    → ((keep : Bool) → string_at (text_form keep) t i ≡ taken (between t (i + 1) e) (e + 1))
+    → ((keep : Bool) → string_at (text_form keep) t i
+    ≡ taken (record { owned = false; bytes = text }) (i + length text + 2))
+    × (i + length text + 2 ≤ length t)
+plain-closed t i e text ahead inside is read =
+    let long : length text ≡ e - (i + 1) = ap length is ∙ range-length t (i + 1) e (omega arith) (omega arith) in
+    let end : i + length text + 2 ≡ e + 1 = omega (arith, long, ahead) in (
+      λ keep. read keep
+          ∙ ap₂ (λ (w : List ℕ) (k : ℕ). taken (record { owned = false; bytes = w }) k) (sym is) (sym end),
+      omega (arith, end, inside),
+    )

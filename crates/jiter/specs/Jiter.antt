@@ -1,11 +1,13 @@
 -- What the calls of the pull reader return, and where they leave it.
 use Rattle.std.specs.Prelude.{◌≡◌, ◌≢◌, ◌<◌, ◌≤◌, ◌+◌, ℕ, false, List, length, Result, Ok, Err, IfOk, IfErr, IfSome}
-use Rattle.std.specs.Prelude.{slice_get, slice_index, Option, Some, None, option_map, [], take, Vec}
+use Rattle.std.specs.Prelude.{slice_get, slice_index, Bool, Option, Some, None, option_map, [], take, Vec}
 use Rattle.std.specs.Cow.{cow_str_bytes}
 use Rattle.std.specs.declared.alloc.Global.{Global}
 use Rattle.std.specs.declared.borrow.CowStr.{CowStr}
 use Rattle.jiter_scan.specs.Ascii as ascii
 use Rattle.jiter_scan.specs.Kind.{fault_kind, out_of_memory}
+use Rattle.jiter_scan.specs.Scan.{IsLook, scan_stop}
+use Rattle.jiter_scan.specs.declared.short_scan.Look.TheVariants as look
 use Rattle.jiter_steps.specs.Literal.{start_of}
 use Rattle.jiter_steps.specs.Step.{Step, more}
 use Rattle.jiter_steps.specs.StringDecoder.{text_view}
@@ -77,6 +79,10 @@ reply_seen f (refused c i stop) = refused c i stop
 -- the bytes of a text
 abbrev pub text_bytes : Text → List ℕ
 text_bytes x = x.bytes
+
+-- The string at i has its first backslash at e.0, and if e.1 is true all bytes before it are below 80 hex.
+abbrev pub IsEscapedAt : List ℕ → ℕ → ℕ × Bool → Type 0
+IsEscapedAt t i e = (e.0 ≡ scan_stop t (i + 1)) × IsLook t (i + 1) e.0 (look.Escaped e.1)
 
 -- the bytes of a key, if there is one
 abbrev pub key_bytes : Option Text → Option (List ℕ)

@@ -18,7 +18,7 @@ ghost use Rattle.jiter.specs.Lending.{LeavesReader};
 
 use crate::errors::{JiterResult, JsonType};
 use crate::jiter::Jiter;
-use crate::jiter::texts::fast_text;
+use crate::jiter::texts::plain_text;
 use jiter_steps::parse::ContainerKind;
 use jiter_steps::step::{Step, colon, first, known_next, peek_for};
 use std::alloc::Global;
@@ -79,7 +79,7 @@ impl<'j> Jiter<'j> {
     {
         match found {
             (at, Step::Part) => {
-                let Ok(key) = fast_text(self.parser.bytes, at) else {
+                let Ok(key) = plain_text(self.parser.bytes, at) else {
                     return None;
                 };
                 match colon(self.parser.bytes, at + key.len() + 2) {

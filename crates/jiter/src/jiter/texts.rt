@@ -6,45 +6,42 @@ ghost use Rattle.std.specs.Str.{IsUtf8};
 ghost use Rattle.jiter_scan.specs.Ascii as ascii;
 ghost use Rattle.jiter_scan.specs.Scanned.{taken};
 ghost use Rattle.jiter_steps.specs.RawString.{raw_view};
-ghost use Rattle.jiter_steps.specs.StringDecoder.{text_view, WantsMemory};
+ghost use Rattle.jiter_steps.specs.StringDecoder.{text_view};
 ghost use Rattle.jiter_steps.specs.StringReading.{string_at, text_form, whole, kept, raw, raw_kept};
 ghost use Rattle.jiter.specs.Reader.{value_place, next, known, scalar_reply, str_read, bytes_read};
-ghost use Rattle.jiter.specs.Jiter.{prefix, reply_seen, text_bytes, StandsAt};
+ghost use Rattle.jiter.specs.Jiter.{prefix, reply_seen, text_bytes, IsEscapedAt, StandsAt};
 ghost use Rattle.jiter.specs.Reads.{Lends, Reads, never, escape_memory, string_memory};
 ghost use Rattle.jiter.specs.Lending.{LeavesReader};
 
 use crate::errors::{JiterResult, JsonType};
 use crate::jiter::{Jiter, refusal, refusal_at};
-use jiter_scan::simd::near_stop;
+use jiter_scan::short_scan::{Look, look_at};
 use jiter_scan::text::{ascii_text, utf8_text};
-use jiter_scan::word::byte_at;
-use jiter_steps::fast::{fast_string_end, text_between};
 use jiter_steps::parse::Start;
 use jiter_steps::step::peek_for;
-use jiter_steps::string_decoder::decode_to;
+use jiter_steps::string_decoder::{checked_text, decode};
 use std::alloc::Global;
 use std::borrow::CowStr;
 
-// Returns the string at `at`, if it is in the document as it is. `Err(true)`: a backslash is the first byte of the
-// string that is not plain.
+// Returns the string at `at`, if it is in the document as it is. Otherwise returns its first backslash, and whether all
+// bytes before it are below 80 hex, or `None` if it has none or an error is before it.
 #[inline(always)]
-pub(super) fn fast_text<'j>(bytes: &'j [u8], at: usize) -> Result<&'j str, bool>
+pub(super) fn plain_text<'j>(bytes: &'j [u8], at: usize) -> Result<&'j str, Option<(usize, bool)>>
     requires { at < length bytes.now }
     ensures value { IfOk result (λ text. (keep : Bool) → string_at (text_form keep) bytes.now at
         ≡ taken (record { owned = false; bytes = text.now }) (at + length text.now + 2)) }
     ensures within { IfOk result (λ text. at + length text.now + 2 ≤ length bytes.now) }
-    ensures escaped { IfErr result (λ e. e ≡ true → WantsMemory bytes.now at) }
+    ensures escaped { IfErr result (λ e. IfSome e (IsEscapedAt bytes.now at)) }
 {
-    match fast_string_end(bytes, at) {
-        Ok(to) => Ok(ascii_text(&bytes[at + 1..to])),
-        Err(from) => {
-            let to = near_stop(bytes, from);
-            match byte_at(bytes, to) {
-                Some(b'"') => text_between(bytes, at, to).ok_or(false),
-                Some(b'\\') => Err(true),
-                _ => Err(false),
-            }
-        }
+    let (to, look) = look_at(bytes, at + 1);
+    match look {
+        Look::Plain => Ok(ascii_text(&bytes[at + 1..to])),
+        Look::Utf8 => match checked_text(bytes, at + 1, to, false) {
+            Ok(text) => Ok(text),
+            Err(_) => Err(None),
+        },
+        Look::Escaped(ascii) => Err(Some((to, ascii))),
+        Look::Fault(_) => Err(None),
     }
 }
 
@@ -109,19 +106,27 @@ impl<'j> Jiter<'j> {
         Ok(self.text.as_str())
     }
 
-    // Decodes the string at `at`, which has a backslash, to the tape, and borrows it from there.
+    // Decodes the string at `at`, whose first backslash is `escape`, to the tape, and borrows it from there.
     #[inline(always)]
-    fn escaped_str(&mut self, alloc: Global, at: usize) -> JiterResult<&str>
+    fn escaped_str(&mut self, alloc: Global, at: usize, escape: (usize, bool)) -> JiterResult<&str>
         requires place { at ≡ value_place self.old }
         requires quote { slice_get self.old.text at ≡ Some ascii.quote }
-        requires backslash { WantsMemory self.old.text at }
+        requires escape { IsEscapedAt self.old.text at escape }
         ensures reads { Lends (string_memory self.old.text (value_place self.old)) (λ x. x.now)
             (reply_seen text_bytes (next self.old (str_read self.old))) result self.old }
         ensures* after { sem 𝓛 (LeavesReader (string_memory self.old.text (value_place self.old)) (λ x. x.now)
             (reply_seen text_bytes (next self.old (str_read self.old))) result self.entry) }
     {
         let mut tape = self.take_tape(alloc);
-        let read = decode_to(&mut tape, self.parser.bytes, at, self.allow_partial_strings);
+        let (stop, ascii) = escape;
+        let read = decode(
+            &mut tape,
+            self.parser.bytes,
+            at,
+            stop,
+            ascii,
+            self.allow_partial_strings,
+        );
         self.tape = Some(tape);
         match read {
             Ok((count, end)) => {
@@ -161,13 +166,13 @@ impl<'j> Jiter<'j> {
             (reply_seen text_bytes (next self.old (str_read self.old))) result self.entry) }
     {
         if let (at, Some(b'"')) = peek_for(self.parser.bytes, self.parser.index, b'"') {
-            match fast_text(self.parser.bytes, at) {
+            match plain_text(self.parser.bytes, at) {
                 Ok(text) => {
                     self.parser.index = at + text.len() + 2;
                     return Ok(text);
                 }
-                Err(true) => return self.escaped_str(alloc, at),
-                Err(false) => {}
+                Err(Some(escape)) => return self.escaped_str(alloc, at, escape),
+                Err(None) => {}
             }
         }
         self.slow_str(alloc)
@@ -198,7 +203,7 @@ impl<'j> Jiter<'j> {
             (next self.old (str_read self.old)) result self.old self.new }
     {
         if let (at, Some(b'"')) = peek_for(self.parser.bytes, self.parser.index, b'"') {
-            if let Ok(plain) = fast_text(self.parser.bytes, at) {
+            if let Ok(plain) = plain_text(self.parser.bytes, at) {
                 self.parser.index = at + plain.len() + 2;
                 return Ok(CowStr::Borrowed(plain));
             }

@@ -2,6 +2,7 @@ use Rattle.std.proofs.Common.{◌∙◌, ◌<◌, refl, sym, subst, length, arit
 use Rattle.std.proofs.lemmas.Option.{slice_get_within}
 use Rattle.jiter_scan.proofs.Scanning.{ScalarWithin}
 use Rattle.jiter_steps.specs.StringReading.{text_form}
+use Rattle.jiter_steps.proofs.Calls.Looks.{look-escaped}
 use Rattle.jiter_steps.proofs.Grammar.StringLaws.{string_at-within}
 use Rattle.jiter.proofs.FastReplies.{decoded, undecoded}
 use Rattle.jiter.proofs.jiter.Jiter.escaped_str.Goals as goal
@@ -30,6 +31,8 @@ returns-in-Ok c =
 pub returns-in-Err : goal.returns-in-Err
 returns-in-Err c =
     let reads = undecoded _ _ _ c.args.self.now c.args.at c.in-Err.error c.refusal_at.result
-    (c.self.view_is ∙ c.take_tape-tape.ensures) c.requires.place c.requires.quote c.requires.backslash c.refusal_at.ensures
+    (c.self.view_is ∙ c.take_tape-tape.ensures) c.requires.place c.requires.quote (look-escaped _ c.args.at c.args.escape.0 (slice_get_within _ c.args.at 34 c.requires.quote) c.requires.escape.0
+    c.args.escape.1 c.requires.escape.1)
+    c.refusal_at.ensures
     c.in-Err.ensures.value in
     ((refl, (λ _. tt), reads), record { reads = (_, reads); after = tt })

@@ -1,0 +1,41 @@
+use Rattle.std.proofs.Common.{arith}
+use Rattle.std.proofs.lemmas.Option.{slice_get_within}
+use Rattle.jiter_steps.proofs.Calls.Looks.{look-plain, look-text}
+use Rattle.jiter.proofs.FastReplies.{plain-closed}
+use Rattle.jiter.proofs.jiter.texts.plain_text.Goals as goal
+
+pub returns-in-Plain-clause-value : goal.returns-in-Plain-clause-value
+returns-in-Plain-clause-value c =
+    let t = c.args.bytes.now in
+    let i = c.args.at in
+    let to = c.look_at-to.result.0 in
+    let found = rw c.in-Plain.is at c.look_at-to.ensures.means in
+    (plain-closed t i to _ (omega (arith, c.look_at-to.ensures.within.0)) (slice_get_within t to 34 found.0)
+    c.ascii_text.ensures (look-plain t i to c.requires c.look_at-to.ensures.stop found)).0
+
+pub returns-in-Plain-clause-within : goal.returns-in-Plain-clause-within
+returns-in-Plain-clause-within c =
+    let t = c.args.bytes.now in
+    let i = c.args.at in
+    let to = c.look_at-to.result.0 in
+    let found = rw c.in-Plain.is at c.look_at-to.ensures.means in
+    (plain-closed t i to _ (omega (arith, c.look_at-to.ensures.within.0)) (slice_get_within t to 34 found.0)
+    c.ascii_text.ensures (look-plain t i to c.requires c.look_at-to.ensures.stop found)).1
+
+pub returns-in-Ok-clause-value : goal.returns-in-Ok-clause-value
+returns-in-Ok-clause-value c =
+    let t = c.args.bytes.now in
+    let i = c.args.at in
+    let to = c.look_at-to.result.0 in
+    let found = rw c.in-Utf8.is at c.look_at-to.ensures.means in
+    let read = look-text t i to c.requires c.look_at-to.ensures.stop found c.in-Ok.text.now c.in-Ok.ensures.value in
+    (plain-closed t i to _ (omega (arith, c.look_at-to.ensures.within.0)) (slice_get_within t to 34 found) read.0 read.1).0
+
+pub returns-in-Ok-clause-within : goal.returns-in-Ok-clause-within
+returns-in-Ok-clause-within c =
+    let t = c.args.bytes.now in
+    let i = c.args.at in
+    let to = c.look_at-to.result.0 in
+    let found = rw c.in-Utf8.is at c.look_at-to.ensures.means in
+    let read = look-text t i to c.requires c.look_at-to.ensures.stop found c.in-Ok.text.now c.in-Ok.ensures.value in
+    (plain-closed t i to _ (omega (arith, c.look_at-to.ensures.within.0)) (slice_get_within t to 34 found) read.0 read.1).1
