@@ -277,6 +277,7 @@ pub fn slow_number_at<'j>(
 ///
 /// Fails as [`NumberAny::from_bytes`] does, except that any byte may follow the number. Indices count from the start of
 /// `bytes`.
+#[inline(always)]
 pub fn number_at<'j>(
     bytes: &'j [u8],
     at: usize,
@@ -329,6 +330,7 @@ fn slow_int_at<'j>(bytes: &'j [u8], at: usize) -> Result<(Integer<'j>, usize), F
 /// that only a float has. That is the point, the exponent's letter, or the first letter of `NaN` or `Infinity`.
 ///
 /// Fails as [`NumberInt::from_bytes`] does, except that a float is no error and any byte may follow the integer.
+#[inline(always)]
 pub fn int_at<'j>(bytes: &'j [u8], at: usize) -> Result<(Integer<'j>, usize), Fault>
     requires { at < length bytes.now }
     ensures value { Scans (with_end integer_view) result (int_at bytes.now at) }

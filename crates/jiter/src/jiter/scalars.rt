@@ -2,21 +2,19 @@
 ghost use Rattle.std.specs.Prelude.{◌≡◌, ◌<◌, ◌≤◌, length, true, false};
 ghost use Rattle.jiter_scan.specs.Ascii as ascii;
 ghost use Rattle.jiter_scan.specs.NumberDecoder.{number_view, int_view};
-ghost use Rattle.jiter_scan.specs.NumberReading.{number_at, int_at};
+ghost use Rattle.jiter_scan.specs.NumberReading.{number_at};
 ghost use Rattle.jiter_scan.specs.Scanned.{taken};
 ghost use Rattle.jiter_steps.specs.Literal.{literal_at};
 ghost use Rattle.jiter.specs.Reader.{next, known, scalar_reply, null_read, bool_read, number_read};
-ghost use Rattle.jiter.specs.Reader.{int_read, integer_reply, number_bytes_read};
+ghost use Rattle.jiter.specs.Reader.{int_read, number_bytes_read};
 ghost use Rattle.jiter.specs.Jiter.{MovesOn, StandsAt, byte_of};
 ghost use Rattle.jiter.specs.Reads.{Reads, never};
 
 use crate::errors::{JiterResult, JsonType};
 use crate::jiter::{Jiter, refusal, wrong_type};
 use crate::peek::Peek;
-use jiter_scan::fast_number::{FastNumber, fast_number_at, signed};
-use jiter_scan::number_decoder::{Integer, int_at, slow_number_at};
-use jiter_scan::number_extent::{fast_number_end, minus_end};
-use jiter_scan::text::ascii_text;
+use jiter_scan::number_decoder::{Integer, int_at};
+use jiter_scan::number_extent::fast_number_end;
 use jiter_scan::{NumberAny, NumberInt};
 use jiter_steps::fast::fast_literal_end;
 use jiter_steps::parse::{Literal, Start, start_of};
@@ -31,35 +29,6 @@ impl<'j> Jiter<'j> {
         self.parser.literal(literal).map_err(refusal)
     }
 
-    // Reads what the fast path can't, and finds the error.
-    #[cold]
-    #[inline(never)]
-    fn cold_number(&mut self) -> JiterResult<NumberAny<'j>>
-        requires within { self.old.position < length self.old.text }
-        ensures reads { Reads never number_view
-            (scalar_reply self.old.position (number_at self.old.names self.old.text self.old.position))
-            result self.old self.new }
-    {
-        match slow_number_at(self.parser.bytes, self.parser.index, self.allow_inf_nan) {
-            Ok((number, end)) => {
-                self.parser.index = end;
-                Ok(number)
-            }
-            Err(fault) => Err(refusal(fault)),
-        }
-    }
-
-    // A function of its own: otherwise the fast path would reserve stack space for the result of this call.
-    #[inline(always)]
-    fn slow_number(&mut self) -> JiterResult<NumberAny<'j>>
-        requires within { self.old.position < length self.old.text }
-        ensures reads { Reads never number_view
-            (scalar_reply self.old.position (number_at self.old.names self.old.text self.old.position))
-            result self.old self.new }
-    {
-        self.cold_number()
-    }
-
     #[inline(always)]
     fn number(&mut self) -> JiterResult<NumberAny<'j>>
         requires within { self.old.position < length self.old.text }
@@ -67,68 +36,7 @@ impl<'j> Jiter<'j> {
             (scalar_reply self.old.position (number_at self.old.names self.old.text self.old.position))
             result self.old self.new }
     {
-        let at = self.parser.index;
-        let digits = minus_end(self.parser.bytes, at);
-        match fast_number_at(self.parser.bytes, digits) {
-            FastNumber::Int(magnitude, end) => {
-                self.parser.index = end;
-                Ok(NumberAny::Int(NumberInt::Int(signed(magnitude, digits > at))))
-            }
-            FastNumber::Float(end) => {
-                self.parser.index = end;
-                Ok(NumberAny::Float(ascii_text(&self.parser.bytes[at..end])))
-            }
-            FastNumber::Other => self.slow_number(),
-        }
-    }
-
-    // Reads what the fast path can't, and finds the error.
-    #[cold]
-    #[inline(never)]
-    fn cold_int(&mut self) -> JiterResult<NumberInt<'j>>
-        requires within { self.old.position < length self.old.text }
-        ensures reads { Reads never int_view
-            (integer_reply self.old.position (int_at self.old.text self.old.position))
-            result self.old self.new }
-    {
-        let index = self.parser.index;
-        match int_at(self.parser.bytes, index) {
-            Ok((Integer::Whole(number), end)) => {
-                self.parser.index = end;
-                Ok(number)
-            }
-            Ok((Integer::FloatSeen, _)) => Err(wrong_type(JsonType::Int, JsonType::Float, index)),
-            Err(fault) => Err(refusal(fault)),
-        }
-    }
-
-    // A function of its own: otherwise the fast path would reserve stack space for the result of this call.
-    #[inline(always)]
-    fn slow_int(&mut self) -> JiterResult<NumberInt<'j>>
-        requires within { self.old.position < length self.old.text }
-        ensures reads { Reads never int_view
-            (integer_reply self.old.position (int_at self.old.text self.old.position))
-            result self.old self.new }
-    {
-        self.cold_int()
-    }
-
-    #[inline(always)]
-    fn int(&mut self) -> JiterResult<NumberInt<'j>>
-        requires within { self.old.position < length self.old.text }
-        ensures reads { Reads never int_view
-            (integer_reply self.old.position (int_at self.old.text self.old.position))
-            result self.old self.new }
-    {
-        let at = self.parser.index;
-        let digits = minus_end(self.parser.bytes, at);
-        match fast_number_at(self.parser.bytes, digits) {
-            FastNumber::Int(magnitude, end) => {
-                self.parser.index = end;
-                Ok(NumberInt::Int(signed(magnitude, digits > at)))
-            }
-            _ => self.slow_int(),
-        }
+        self.parser.number(self.allow_inf_nan).map_err(refusal)
     }
 
     // Reads the literal at `at` if it is there and more bytes follow. Otherwise the reader stays where it is.
@@ -350,9 +258,19 @@ impl<'j> Jiter<'j> {
         requires { StandsAt self.old (byte_of peek) }
         ensures reads { Reads never int_view (known self.old (int_read self.old)) result self.old self.new }
     {
+        let index = self.parser.index;
         let start = start_of(peek.into_inner());
         match start {
-            Start::Number => self.int(),
+            Start::Number => match int_at(self.parser.bytes, index) {
+                Ok((Integer::Whole(number), end)) => {
+                    self.parser.index = end;
+                    Ok(number)
+                }
+                Ok((Integer::FloatSeen, _)) => {
+                    Err(wrong_type(JsonType::Int, JsonType::Float, index))
+                }
+                Err(fault) => Err(refusal(fault)),
+            },
             _ => Err(self.refused_as(JsonType::Int, start)),
         }
     }
@@ -368,7 +286,7 @@ impl<'j> Jiter<'j> {
         let index = self.parser.index;
         match start {
             Start::Number => {
-                self.cold_number()?;
+                self.number()?;
                 Ok(self.slice_to_current(index))
             }
             _ => Err(self.refused_as(JsonType::Float, start)),
