@@ -20,7 +20,8 @@ import zipfile
 HERE = os.path.dirname(os.path.abspath(__file__))
 FILES = ("__init__.py", "__init__.pyi", "_error.py", "py.typed")
 LIBRARIES = [os.environ["JITER_LIB_DIR"]] if os.environ.get("JITER_LIB_DIR") else [f"{HERE}/../build", f"{HERE}/../lib"]
-FLAGS = ["-std=c11", "-DNDEBUG", "-O3", "-fPIC", "-shared", "-fvisibility=hidden", "-Wl,--exclude-libs,ALL", "-Wl,-z,relro,-z,now"]
+FLAGS = ["-std=c11", "-DNDEBUG", "-O3", "-fPIC", "-fno-plt", "-fvisibility=hidden"]
+LINKED = ["-shared", "-Wl,--exclude-libs,ALL", "-Wl,-z,relro,-z,now"]
 
 
 def read(path):
@@ -46,7 +47,7 @@ def compile_module(path):
     library = first_of("libjiter.a", LIBRARIES)
     header = first_of("jiter_c.h", [f"{HERE}/..", f"{library}/../include"])
     compiler = shlex.split(os.environ.get("CC") or sysconfig.get_config_var("CC") or "cc")
-    words = [*compiler, *FLAGS, f"-I{header}", f"-I{sysconfig.get_paths()['include']}", *shlex.split(os.environ.get("CFLAGS", ""))]
+    words = [*compiler, *FLAGS, *LINKED, f"-I{header}", f"-I{sysconfig.get_paths()['include']}", *shlex.split(os.environ.get("CFLAGS", ""))]
     subprocess.run([*words, "-o", path, *sorted(glob.glob(f"{HERE}/src/*.c")), f"{library}/libjiter.a"], check=True)
 
 

@@ -4,15 +4,29 @@
 #define EACH_BYTE UINT64_C(0x0101010101010101)
 #define HIGH_BITS (EACH_BYTE * 0x80)
 
-static bool is_ascii(const char *bytes, size_t length) {
-  uint64_t seen = 0, word = 0;
-  size_t i = 0;
-  for (; i + sizeof word <= length; i += sizeof word) {
-    memcpy(&word, bytes + i, sizeof word);
-    seen |= word;
+/* The bytes, eight at most, as one number. */
+static inline uint64_t word_of(const char *bytes, size_t length) {
+  uint64_t word = 0;
+  uint32_t low = 0, high = 0;
+  if (length >= 8) {
+    memcpy(&word, bytes, 8);
+    return word;
   }
-  for (; i < length; i++)
-    seen |= (unsigned char)bytes[i];
+  if (length >= 4) {
+    memcpy(&low, bytes, 4);
+    memcpy(&high, bytes + length - 4, 4);
+    return (uint64_t)high << 32 | low;
+  }
+  for (size_t i = 0; i < length; i++)
+    word = word << 8 | (unsigned char)bytes[i];
+  return word;
+}
+
+static inline bool is_ascii(const char *bytes, size_t length) {
+  /* The last word overlaps the one before. */
+  uint64_t seen = word_of(bytes + (length < 8 ? 0 : length - 8), length < 8 ? length : 8);
+  for (size_t i = 0; i + 8 < length; i += 8)
+    seen |= word_of(bytes + i, 8);
   return (seen & HIGH_BITS) == 0;
 }
 
@@ -79,24 +93,6 @@ PyObject *text_of(const char *bytes, size_t length) {
   return text;
 }
 
-/* The bytes, eight at most, as one number. */
-static inline uint64_t word_of(const char *bytes, size_t length) {
-  uint64_t word = 0;
-  uint32_t low = 0, high = 0;
-  if (length >= 8) {
-    memcpy(&word, bytes, 8);
-    return word;
-  }
-  if (length >= 4) {
-    memcpy(&low, bytes, 4);
-    memcpy(&high, bytes + length - 4, 4);
-    return (uint64_t)high << 32 | low;
-  }
-  for (size_t i = 0; i < length; i++)
-    word = word << 8 | (unsigned char)bytes[i];
-  return word;
-}
-
 static inline bool needs_decoding(uint64_t word) {
   uint64_t other = word ^ (EACH_BYTE * '\\'); /* a zero byte for each backslash */
   return ((word | ((other - EACH_BYTE) & ~other)) & HIGH_BITS) != 0;
@@ -108,7 +104,7 @@ static size_t slot_of(const char *bytes, size_t length) {
   if (length > 64)
     return KEY_SLOTS;
   for (size_t i = 0; i < length; i += 8) {
-    /* The last word overlaps the one before. */
+    /* The same overlap. */
     size_t from = i + 8 > length && length >= 8 ? length - 8 : i;
     uint64_t word = word_of(bytes + from, length - from);
     if (needs_decoding(word))
