@@ -20,7 +20,8 @@ ghost use Rattle.jiter_value.specs.declared.stacks.Stacks.{Stacks as StacksView}
 use crate::settings::Settings;
 use crate::stacks::{Slot, Stacks, State, no_error, take_error, take_root};
 use crate::texts::StringStorage;
-use crate::turns::scalars::{key_turn, turn_into};
+use crate::turns::key_turns::key_turn;
+use crate::turns::scalars::turn_into;
 use crate::value::JsonValue;
 use jiter_steps::parse::Parser;
 use jiter_steps::read_error::ReadError;
@@ -30,6 +31,7 @@ use std::borrow::CowStr;
 
 pub(crate) mod containers;
 pub(crate) mod duplicate_keys;
+pub(crate) mod key_turns;
 pub(crate) mod scalars;
 pub(crate) mod unique;
 

@@ -1,32 +1,28 @@
-//! Scalars and keys. What is short and right is read in place. Any other outcome is a call that takes over the turn.
-ghost use Rattle.std.specs.Prelude.{◌≡◌, ◌≢◌, ◌+◌, ◌^◌, ◌≤◌, ◌<◌, ◌++◌, ◌∷◌, ℕ, List, [], IfOk, OnErr, if◌then◌else◌};
-ghost use Rattle.std.specs.Prelude.{false, length, pos, slice_index, true, vec_capacity, vec_len};
+//! Turns at scalars. What is short and right is read in place. Any other outcome is a call that takes over the turn.
+ghost use Rattle.std.specs.Prelude.{◌≡◌, ◌≢◌, ◌+◌, ◌≤◌, ◌<◌, ℕ, IfOk, OnErr};
+ghost use Rattle.std.specs.Prelude.{false, length, slice_index, true};
 ghost use Rattle.jiter_scan.specs.Kind.{fault_kind};
-ghost use Rattle.jiter_scan.specs.Number.{minus_of};
 ghost use Rattle.jiter_scan.specs.NumberDecoder.{number_view};
 ghost use Rattle.jiter_scan.specs.Scan.{IsLook, scan_stop};
-ghost use Rattle.jiter_scan.specs.Scanned.{taken};
 ghost use Rattle.jiter_steps.specs.Literal.{literal_tree, start_of};
-ghost use Rattle.jiter_steps.specs.Node.{number_tree, nesting_limit};
+ghost use Rattle.jiter_steps.specs.Node.{number_tree};
 ghost use Rattle.jiter_steps.specs.Read.{done, fault, value_at};
-ghost use Rattle.jiter_steps.specs.StringDecoder.{text_view};
-ghost use Rattle.jiter_steps.specs.StringReading.{string_at, whole};
-ghost use Rattle.jiter_steps.specs.Tree.{int};
+ghost use Rattle.jiter_steps.specs.StringReading.{string_at};
 ghost use Rattle.jiter_steps.specs.declared.parse.Start.{Start};
 ghost use Rattle.jiter_steps.specs.declared.read_error.ReadError.TheVariants as error;
 ghost use Rattle.jiter_value.specs.Owned.{tree_as};
 ghost use Rattle.jiter_value.specs.Settings.{rules_as};
 ghost use Rattle.jiter_value.specs.Size.{size};
-ghost use Rattle.jiter_value.specs.Stacks.{StandsAtKey, HasRoomIn, HaveKeys, LeavesKeys};
-ghost use Rattle.jiter_value.specs.StringStorage.{IsLentAt, IsNumberAt};
-ghost use Rattle.jiter_value.specs.Turns.{HasTakenKey, IsAtKey, IsAtValue, IsKeyRead, IsPutAt, IsRefusedAt, Turned};
+ghost use Rattle.jiter_value.specs.Stacks.{LeavesKeys};
+ghost use Rattle.jiter_value.specs.StringStorage.{IsNumberAt};
+ghost use Rattle.jiter_value.specs.Turns.{IsAtValue, IsPutAt, IsRefusedAt, Turned};
 ghost use Rattle.jiter_value.specs.Value.{view};
 ghost use Rattle.jiter_value.specs.declared.value.JsonValue.TheVariants.{Int};
 
-use crate::stacks::{Slot, Stacks, State, give_up, no_memory, put_reserved, too_deep};
+use crate::stacks::{Slot, Stacks, State, give_up, no_memory, put_reserved};
 use crate::texts::{StringStorage, keep_lent};
+use crate::turns::Reading;
 use crate::turns::containers::{after_value, begin, fault_inside};
-use crate::turns::{Keys, Reading};
 use crate::value::JsonValue;
 use jiter_scan::errors::{FaultKind, fault_at};
 use jiter_scan::fast_number::{FastNumber, fast_number_at, signed};
@@ -37,9 +33,8 @@ use jiter_scan::short_scan::{Look, look_at};
 use jiter_scan::text::{ascii_text, utf8_text};
 use jiter_scan::{NumberAny, NumberInt};
 use jiter_steps::fast::fast_literal_end;
-use jiter_steps::parse::{ContainerKind, Literal, NESTING_LIMIT, Start, literal_end, start_of};
+use jiter_steps::parse::{ContainerKind, Literal, Start, literal_end, start_of};
 use jiter_steps::read_error::ReadError;
-use jiter_steps::step::{colon, value_first};
 use jiter_steps::string_decoder::{checked_text, decode_inline, string_at};
 use std::borrow::CowStr;
 
@@ -480,172 +475,5 @@ pub fn turn_into<'s, T: StringStorage<'s>, const ONCE: bool, const SLOT: u8>(
         b't' => literal_turn::<T>(reading, bytes, at, slot, Literal::True),
         b'f' => literal_turn::<T>(reading, bytes, at, slot, Literal::False),
         _ => other_turn(reading, texts, bytes, at, slot),
-    }
-}
-
-// Pushes a key, whose stack has room, with the integer 0 as a placeholder for its value. All bytes of the placeholder
-// are written at once.
-#[inline(always)]
-fn put_key<'s>(members: &mut Vec<(CowStr<'s>, JsonValue<'s>)>, key: CowStr<'s>)
-    requires { vec_len members.old < vec_capacity members.old }
-    ensures { members.new.items ≡ members.old.items ++ (key.entry, Int (pos 0)) ∷ [] }
-{
-    members.push_reserved((key, JsonValue::Int(0)));
-}
-
-// Whether a member's value would be too deep, where the list of open containers is on the heap.
-#[cold]
-#[inline(never)]
-fn long_nest_is_full(stacks: &Stacks<'_>) -> bool
-    ensures full { result ≡ true → nesting_limit < length stacks.now.nest.items }
-    ensures few { result ≡ false → length stacks.now.nest.items ≤ nesting_limit }
-{
-    stacks.nest.len() > NESTING_LIMIT
-}
-
-// Whether a member's value would be too deep. A list in place has eight open containers at most.
-#[inline(always)]
-fn is_too_deep(stacks: &Stacks<'_>) -> bool
-    ensures full { result ≡ true → nesting_limit < length stacks.now.nest.items }
-    ensures few { result ≡ false → length stacks.now.nest.items ≤ nesting_limit }
-{
-    // The length is at most the capacity, which is eight in place.
-    let _count = stacks.nest.len();
-    stacks.nest.spilled() && long_nest_is_full(stacks)
-}
-
-// Goes on with the key at `at`, which ends before `end` and whose colon ends before `after`, if `keys` allows it.
-#[inline(always)]
-fn kept_key<'s, T: StringStorage<'s>, K: Keys<'s>>(
-    reading: &mut Reading<'s>,
-    keys: &mut K,
-    bytes: &[u8],
-    at: usize,
-    end: usize,
-    after: usize,
-    key: CowStr<'s>,
-) -> (usize, State)
-    requires serves { K.serves keys.old T.made }
-    requires going { K.stopped keys.old ≡ false }
-    requires known { (ks : List (List ℕ)) × K.knows keys.old ks × HaveKeys ks reading.old.stacks.members.items }
-    requires stands { StandsAtKey reading.old.stacks }
-    requires room { HasRoomIn ContainerKind.Object reading.old.stacks }
-    requires levels { length reading.old.stacks.nest.items ≤ nesting_limit + 1 }
-    requires read { IsKeyRead T.made bytes.now at end after (text_view key) }
-    requires within { (end ≤ after) × (after ≤ length bytes.now) }
-    ensures turned { HasTakenKey T.made reading.old.settings bytes.now at reading.old.stacks reading.new.stacks result
-        (K.stopped keys.new) (K.knows keys.new) (K.refuses keys.new bytes.now reading.old.stacks at) }
-    ensures serves { K.serves keys.new T.made }
-    ensures settings { reading.new.settings ≡ reading.old.settings }
-{
-    if !keys.admits(reading.alloc, &reading.stacks, bytes, at, end, &key) {
-        return (at, State::GivenUp);
-    }
-    let (next, problem) = value_first(bytes, after);
-    if let Some(kind) = problem {
-        return fault_inside::<T>(reading, bytes, next, next, kind, ContainerKind::Object);
-    }
-    if is_too_deep(&reading.stacks) {
-        return too_deep(&mut reading.stacks, next);
-    }
-    put_key(&mut reading.stacks.members, key);
-    (next, State::Member)
-}
-
-// Goes on with the key at `at`, which ends before `end`, after its colon.
-#[inline(always)]
-fn read_key<'s, T: StringStorage<'s>, K: Keys<'s>>(
-    reading: &mut Reading<'s>,
-    texts: T,
-    keys: &mut K,
-    bytes: &[u8],
-    at: usize,
-    end: usize,
-    key: CowStr<'_>,
-) -> (usize, State)
-    requires texts { T.of texts bytes.now }
-    requires serves { K.serves keys.old T.made }
-    requires going { K.stopped keys.old ≡ false }
-    requires known { (ks : List (List ℕ)) × K.knows keys.old ks × HaveKeys ks reading.old.stacks.members.items }
-    requires at_key { IsAtKey bytes.now reading.old.stacks at }
-    requires read { string_at whole bytes.now at ≡ taken (text_view key) end }
-    requires lent { IsLentAt bytes.now (at + 1) (text_view key) }
-    requires within { (at < end) × (end ≤ length bytes.now) }
-    ensures turned { HasTakenKey T.made reading.old.settings bytes.now at reading.old.stacks reading.new.stacks result
-        (K.stopped keys.new) (K.knows keys.new) (K.refuses keys.new bytes.now reading.old.stacks at) }
-    ensures serves { K.serves keys.new T.made }
-    ensures settings { reading.new.settings ≡ reading.old.settings }
-{
-    let (after, problem) = colon(bytes, end);
-    if let Some(kind) = problem {
-        return fault_inside::<T>(reading, bytes, after, after, kind, ContainerKind::Object);
-    }
-    match texts.keep(bytes, at + 1, key) {
-        Ok(kept) => kept_key::<T, K>(reading, keys, bytes, at, end, after, kept),
-        Err(refused) => no_memory(&mut reading.stacks, refused, after),
-    }
-}
-
-// Any key, and its errors.
-#[inline(never)]
-fn slow_key_turn<'s, T: StringStorage<'s>, K: Keys<'s>>(
-    reading: &mut Reading<'s>,
-    texts: T,
-    keys: &mut K,
-    bytes: &[u8],
-    at: usize,
-) -> (usize, State)
-    requires texts { T.of texts bytes.now }
-    requires serves { K.serves keys.old T.made }
-    requires going { K.stopped keys.old ≡ false }
-    requires known { (ks : List (List ℕ)) × K.knows keys.old ks × HaveKeys ks reading.old.stacks.members.items }
-    requires at_key { IsAtKey bytes.now reading.old.stacks at }
-    ensures turned { HasTakenKey T.made reading.old.settings bytes.now at reading.old.stacks reading.new.stacks result
-        (K.stopped keys.new) (K.knows keys.new) (K.refuses keys.new bytes.now reading.old.stacks at) }
-    ensures serves { K.serves keys.new T.made }
-    ensures settings { reading.new.settings ≡ reading.old.settings }
-{
-    match string_at(reading.alloc, &mut reading.tape, bytes, at, false) {
-        Ok((key, end)) => read_key(reading, texts, keys, bytes, at, end, key),
-        Err(ReadError::Fault(fault)) => {
-            fault_inside::<T>(
-                reading,
-                bytes,
-                at,
-                fault.index,
-                fault.kind,
-                ContainerKind::Object,
-            )
-        }
-        Err(ReadError::Memory(refused)) => no_memory(&mut reading.stacks, refused, at),
-    }
-}
-
-/// Takes one turn at a key. If `keys` doesn't allow the key, nothing changes.
-#[inline(always)]
-pub fn key_turn<'s, T: StringStorage<'s>, K: Keys<'s>>(
-    reading: &mut Reading<'s>,
-    texts: T,
-    keys: &mut K,
-    bytes: &[u8],
-    at: usize,
-) -> (usize, State)
-    requires texts { T.of texts bytes.now }
-    requires serves { K.serves keys.old T.made }
-    requires going { K.stopped keys.old ≡ false }
-    requires known { (ks : List (List ℕ)) × K.knows keys.old ks × HaveKeys ks reading.old.stacks.members.items }
-    requires at_key { IsAtKey bytes.now reading.old.stacks at }
-    ensures turned { HasTakenKey T.made reading.old.settings bytes.now at reading.old.stacks reading.new.stacks result
-        (K.stopped keys.new) (K.knows keys.new) (K.refuses keys.new bytes.now reading.old.stacks at) }
-    ensures serves { K.serves keys.new T.made }
-    ensures settings { reading.new.settings ≡ reading.old.settings }
-{
-    let (to, look) = look_at(bytes, at + 1);
-    match look {
-        Look::Plain => {
-            let key = CowStr::Borrowed(utf8_text(&bytes[at + 1..to]));
-            read_key(reading, texts, keys, bytes, at, to + 1, key)
-        }
-        _ => slow_key_turn(reading, texts, keys, bytes, at),
     }
 }

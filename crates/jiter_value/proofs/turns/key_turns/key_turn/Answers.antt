@@ -4,7 +4,7 @@ use Rattle.jiter_scan.specs.Scanned.{taken}
 use Rattle.jiter_steps.proofs.Calls.FastAnswers.{plain-utf8}
 use Rattle.jiter_steps.proofs.Calls.Looks.{look-plain}
 use Rattle.jiter_value.proofs.LentTexts.{range-lies}
-use Rattle.jiter_value.proofs.turns.scalars.key_turn.Goals as goal
+use Rattle.jiter_value.proofs.turns.key_turns.key_turn.Goals as goal
 
 pub utf8_text-requires : goal.utf8_text-requires
 utf8_text-requires g c =

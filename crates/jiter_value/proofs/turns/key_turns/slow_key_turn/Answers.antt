@@ -7,7 +7,7 @@ use Rattle.jiter_value.proofs.Repeats.{no-key}
 use Rattle.jiter_value.proofs.StackTurns.{key-fails}
 use Rattle.jiter_value.proofs.Taking.{left-known, taken-on}
 use Rattle.jiter_value.proofs.TurnOutcomes.{leads-weaker}
-use Rattle.jiter_value.proofs.turns.scalars.slow_key_turn.Goals as goal
+use Rattle.jiter_value.proofs.turns.key_turns.slow_key_turn.Goals as goal
 
 pub read_key-requires : goal.read_key-requires
 read_key-requires g c κs =

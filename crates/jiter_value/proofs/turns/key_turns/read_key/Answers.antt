@@ -6,7 +6,7 @@ use Rattle.jiter_value.proofs.Repeats.{no-colon}
 use Rattle.jiter_value.proofs.StackTurns.{colon-fails}
 use Rattle.jiter_value.proofs.Taking.{at-colon, left-known, taken-on}
 use Rattle.jiter_value.proofs.TurnOutcomes.{leads-weaker}
-use Rattle.jiter_value.proofs.turns.scalars.read_key.Goals as goal
+use Rattle.jiter_value.proofs.turns.key_turns.read_key.Goals as goal
 
 pub returns-in-Some-clause-turned : goal.returns-in-Some-clause-turned
 returns-in-Some-clause-turned g c =

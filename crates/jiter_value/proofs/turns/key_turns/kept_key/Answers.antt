@@ -11,7 +11,7 @@ use Rattle.jiter_value.proofs.Placed.{key-at}
 use Rattle.jiter_value.proofs.StackTurns.{key-begins, key-limit, colon-fails}
 use Rattle.jiter_value.proofs.Taking.{after-colon, more-known, taken-on}
 use Rattle.jiter_value.proofs.TurnOutcomes.{leads-weaker}
-use Rattle.jiter_value.proofs.turns.scalars.kept_key.Goals as goal
+use Rattle.jiter_value.proofs.turns.key_turns.kept_key.Goals as goal
 
 pub returns-in-Some-clause-turned : goal.returns-in-Some-clause-turned
 returns-in-Some-clause-turned g c =
