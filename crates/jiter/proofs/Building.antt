@@ -1,37 +1,26 @@
 -- What is left of a container after the parts that the client has built, by the replies of its calls.
-use Rattle.std.proofs.Common.{◌≡◌, ◌∙◌, refl, sym, ap, ℕ, ◌+◌, ◌<◌, Bool, true, false, List, [], ◌∷◌, ◌++◌, length}
-use Rattle.std.proofs.Common.{arith}
-use Rattle.std.specs.Prelude.{slice_get, slice_index, Option, Some, None, option_map, IfSome}
-use Rattle.std.proofs.lemmas.Option.{get_or_from_slice_get, slice_get-get_or, slice_get_within}
-use Rattle.std.proofs.lemmas.Option.{none-some}
-use Rattle.jiter_scan.specs.Scanned.{Scanned, taken, failed}
-use Rattle.jiter_scan.specs.Word.{Extent}
-use Rattle.jiter_scan.specs.NumberReading.{number_at, extent_then}
-use Rattle.jiter_scan.proofs.NumberLaws.{number_at-within}
-use Rattle.jiter_steps.specs.Blank.{past_blanks}
-use Rattle.jiter_steps.specs.Literal.{literal_at, literal_tree, start_of}
-use Rattle.jiter_steps.specs.StringReading.{whole, string_at}
-use Rattle.jiter_steps.specs.Tree.{Text, Tree}
+use Rattle.jiter.proofs.Words.{◌≡◌, ◌∙◌, refl, sym, ap, ℕ, ◌+◌, ◌<◌, Bool, true, false, List, [], ◌∷◌, ◌++◌, length}
+use Rattle.jiter.proofs.Words.{arith, slice_get, slice_index, Option, Some, None, option_map, IfSome}
+use Rattle.jiter.proofs.Words.{get_or_from_slice_get, slice_get-get_or, slice_get_within, none-some, Scanned, taken}
+use Rattle.jiter.proofs.Words.{failed, Extent, number_at, extent_then, number_at-within, past_blanks, literal_at}
+use Rattle.jiter.proofs.Words.{start_of, whole, string_at, Text, Tree, Step, more, closed, stuck, step, colon, Reading}
+use Rattle.jiter.proofs.Words.{done, fault, scalar_at, inside_at, seen_as, Start, past_blanks-after, Ahead, Within}
+use Rattle.jiter.proofs.Words.{literal_at-within, string_at-within, owned_text, owned_trees, built, StandsAt}
+use Rattle.jiter.proofs.Words.{reply_seen, ReaderState, Reply, gave, refused, with_position, if_byte, next}
+use Rattle.jiter.proofs.Words.{scalar_reply, bool_read, value_reply, part_reply, item_step, colon_reply, key_reply}
+use Rattle.jiter.proofs.Words.{key_step}
+use Rattle.jiter_steps.specs.Literal.{literal_tree}
 use Rattle.jiter_steps.specs.Tree as tree
-use Rattle.jiter_steps.specs.Step.{Step, more, closed, stuck, step, colon, value_first, object_step}
-use Rattle.jiter_steps.specs.Read.{Reading, done, fault, scalar_at, Container, with_key, after_colon, after_key}
-use Rattle.jiter_steps.specs.Read.{follow, after_part, parts_at, array_of, object_of, inside_at}
-use Rattle.jiter_steps.specs.Answer.{seen_as}
+use Rattle.jiter_steps.specs.Step.{value_first, object_step}
+use Rattle.jiter_steps.specs.Read.{Container, with_key, after_colon, after_key}
+use Rattle.jiter_steps.specs.Read.{follow, after_part, parts_at, array_of, object_of}
 use Rattle.jiter_steps.specs.declared.parse.Literal.{Literal}
 use Rattle.jiter_steps.specs.declared.parse.Literal.TheVariants as literal
-use Rattle.jiter_steps.specs.declared.parse.Start.{Start}
 use Rattle.jiter_steps.specs.declared.parse.Start.TheVariants as start
-use Rattle.jiter_steps.proofs.Grammar.Blanks.{past_blanks-after}
-use Rattle.jiter_steps.proofs.Reading.Bounds.{Ahead, Within}
 use Rattle.jiter_steps.proofs.Reading.Values.{Advances, AllWithin, Goes, array_of-goes, object_of-goes}
 use Rattle.jiter_steps.proofs.Reading.Values.{inside_at-within, parts_at_is}
-use Rattle.jiter_steps.proofs.Reading.Instances.{seen-within, literal_at-within}
-use Rattle.jiter_steps.proofs.Grammar.StringLaws.{string_at-within}
-use Rattle.jiter_value.specs.Owned.{owned_text}
-use Rattle.jiter.specs.Client.{owned_trees, built, built_inside, IsTruthOrNothing}
-use Rattle.jiter.specs.Jiter.{StandsAt, reply_seen}
-use Rattle.jiter.specs.Reader.{ReaderState, Reply, gave, refused, with_position, if_byte, next, scalar_reply}
-use Rattle.jiter.specs.Reader.{bool_read, value_reply, part_reply, item_step, colon_reply, key_reply, key_step}
+use Rattle.jiter_steps.proofs.Reading.Instances.{seen-within}
+use Rattle.jiter.specs.Client.{built_inside, IsTruthOrNothing}
 
 -- a value that was given ends after its begin
 pub gave-ahead : {A : Type 0} (t : List ℕ) (i : ℕ) (x : Reading A) → Within t i x → (a : A) (e : ℕ)

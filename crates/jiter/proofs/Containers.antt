@@ -1,21 +1,13 @@
 -- How far the client is in a container, and each way on or out.
-use Rattle.std.proofs.Common.{◌≡◌, ◌∙◌, sym, ap, subst, ℕ, ◌+◌, ◌-◌, ◌<◌, List, [], ◌∷◌, ◌++◌, length, map}
-use Rattle.std.proofs.Common.{arith}
+use Rattle.jiter.proofs.Words.{◌≡◌, ◌∙◌, sym, ap, subst, ℕ, ◌+◌, ◌-◌, ◌<◌, List, [], ◌∷◌, ◌++◌, length, map, arith}
+use Rattle.jiter.proofs.Words.{slice_get_within, Option, Some, None, option_map, Result, Ok, Err, IsErrAnd, IfSome}
+use Rattle.jiter.proofs.Words.{whole, string_at, Tree, Step, more, closed, stuck, step, owned_text, Cause, MovesOn}
+use Rattle.jiter.proofs.Words.{StandsAt, reply_seen, Reads, anywhere, ReaderState, Reply, gave, refused, with_position}
+use Rattle.jiter.proofs.Words.{known, part_reply, key_reply, array_read, object_read, JiterError}
 use Rattle.std.proofs.lemmas.List.{map_push}
-use Rattle.std.proofs.lemmas.Option.{slice_get_within}
-use Rattle.std.specs.Prelude.{Option, Some, None, option_map, Result, Ok, Err, IsErrAnd, IfSome}
-use Rattle.jiter_steps.specs.StringReading.{whole, string_at}
-use Rattle.jiter_steps.specs.Tree.{Tree}
-use Rattle.jiter_steps.specs.Step.{Step, more, closed, stuck, step, object_first}
-use Rattle.jiter_value.specs.Owned.{owned_text}
+use Rattle.jiter_steps.specs.Step.{object_first}
 use Rattle.jiter_value.specs.Value.{LeadsOn}
-use Rattle.jiter.specs.Cause.{Cause}
 use Rattle.jiter.specs.Errors.{cause_of}
-use Rattle.jiter.specs.Jiter.{MovesOn, StandsAt, reply_seen}
-use Rattle.jiter.specs.Reads.{Reads, anywhere}
-use Rattle.jiter.specs.Reader.{ReaderState, Reply, gave, refused, with_position, known, part_reply, key_reply}
-use Rattle.jiter.specs.Reader.{array_read, object_read}
-use Rattle.jiter.specs.declared.errors.JiterError.{JiterError}
 use Rattle.jiter.proofs.Building.{Walk, WalkLaws, ToldAt, LeadsTo, all, after, left, leads, items, members}
 use Rattle.jiter.proofs.Building.{known-first, seen-part}
 use Rattle.jiter.proofs.Walking.{moves-on}

@@ -1,27 +1,21 @@
 -- Which copies of the client may want memory: a string is read with a borrowed text, or has a backslash.
-use Rattle.std.proofs.Common.{◌≡◌, ◌∙◌, refl, sym, ap, subst, ℕ, ◌+◌, ◌<◌, Bool, true, false, List, length, inl, inr}
-use Rattle.std.specs.Prelude.{Option, Some, None, slice_get, slice_index, slice_range, ◌==◌, ◌⊎◌, if◌then◌else◌}
+use Rattle.jiter.proofs.Words.{◌≡◌, ◌∙◌, refl, sym, ap, subst, ℕ, ◌+◌, ◌<◌, Bool, true, false, List, length, inl, inr}
+use Rattle.jiter.proofs.Words.{Option, Some, None, slice_get, slice_index, slice_range, ◌==◌, if◌then◌else◌}
+use Rattle.jiter.proofs.Words.{slice_get_within, invalid_code_point, Scanned, taken, failed, WantsMemory, whole, kept}
+use Rattle.jiter.proofs.Words.{string_at, Text, nesting_limit, start_of, scalar_at, inside_at, seen_as, whole_trees}
+use Rattle.jiter.proofs.Words.{StandsAt, reply_seen, text_bytes, ReaderState, gave, known, scalar_reply, str_read}
+use Rattle.std.specs.Prelude.{◌⊎◌}
 use Rattle.std.specs.Str.Lossy.{utf8_valid_len}
 use Rattle.std.proofs.lemmas.Bool.{eqb-true, eqb-false}
-use Rattle.std.proofs.lemmas.Option.{slice_get_within}
-use Rattle.jiter_scan.specs.Kind.{invalid_code_point}
 use Rattle.jiter_scan.specs.Scan.{scan_stop}
-use Rattle.jiter_scan.specs.Scanned.{Scanned, taken, failed}
-use Rattle.jiter_steps.specs.StringDecoder.{WantsMemory}
-use Rattle.jiter_steps.specs.StringReading.{whole, kept, string_at, if_utf8}
-use Rattle.jiter_steps.specs.Tree.{Text}
+use Rattle.jiter_steps.specs.StringReading.{if_utf8}
 use Rattle.jiter_steps.specs.Tree as tree
-use Rattle.jiter_steps.specs.Node.{nesting_limit}
-use Rattle.jiter_steps.specs.Literal.{start_of}
-use Rattle.jiter_steps.specs.Read.{scalar_at, inside_at, value_with}
-use Rattle.jiter_steps.specs.Answer.{seen_as, whole_trees}
+use Rattle.jiter_steps.specs.Read.{value_with}
 use Rattle.jiter_steps.specs.declared.parse.Start.TheVariants as start
 use Rattle.jiter_steps.proofs.Calls.StringAnswers.{string-none, string-quote, string-control}
 use Rattle.jiter_value.specs.Owned.{ReadHolds}
 use Rattle.jiter_value.specs.Value.{MayGrowAs}
 use Rattle.jiter.specs.Client.{OwnedMayGrowAt}
-use Rattle.jiter.specs.Jiter.{StandsAt, reply_seen, text_bytes}
-use Rattle.jiter.specs.Reader.{ReaderState, gave, known, scalar_reply, str_read}
 use Rattle.jiter.proofs.Building.{known-first}
 
 -- bytes that were checked keep their mark

@@ -1,35 +1,27 @@
 -- What the fast path returns, in the words of the replies.
-use Rattle.std.proofs.Common.{◌≡◌, ◌∙◌, ◌∷◌, ℕ, ◌+◌, ◌<◌, ◌≤◌, Bool, true, List, length, refl, ap, sym, subst, arith, Ok, Err, Bor}
-use Rattle.std.specs.Prelude.{slice_get, slice_index, slice_range, Option, Some, Result, IfOk}
-use Rattle.std.proofs.lemmas.Bool.Decides.{nat_tests}
-use Rattle.std.proofs.lemmas.Option.{get_or_from_slice_get, slice_get-get_or, slice_get_within}
+use Rattle.jiter.proofs.Words.{◌≡◌, ◌∙◌, ◌∷◌, ℕ, ◌+◌, ◌<◌, ◌≤◌, Bool, true, List, length, refl, ap, sym, subst, arith}
+use Rattle.jiter.proofs.Words.{Ok, Err, slice_get, slice_index, slice_range, Option, Some, Result, nat_tests}
+use Rattle.jiter.proofs.Words.{get_or_from_slice_get, slice_get-get_or, slice_get_within, ScalarWithin, fault_kind}
+use Rattle.jiter.proofs.Words.{number_at, with_value, Scanned, taken, failed, seen_as, start_of, ReadError, colon, more}
+use Rattle.jiter.proofs.Words.{step, WantsMemory, between, Form, string_at, text_form, whole, Text, past_blanks-after}
+use Rattle.jiter.proofs.Words.{string_at-within, false, ◌-◌, IsErrorAt, MovesOn, key_bytes, reply_seen, text_bytes}
+use Rattle.jiter.proofs.Words.{ReaderState, Refusal, Reply, gave, refused, scalar_reply, colon_reply, key_reply}
+use Rattle.jiter.proofs.Words.{with_position, value_place, next, if_byte, member_reply, number_bytes_read, str_read}
+use Rattle.jiter.proofs.Words.{Reads, never, string_memory, JiterError}
+use Rattle.std.proofs.Common.{Bor}
+use Rattle.std.specs.Prelude.{IfOk}
 use Rattle.jiter_scan.proofs.NumberBytes.{number-begins}
 use Rattle.jiter_scan.proofs.NumberSound.{number_extent-sound}
 use Rattle.jiter_scan.proofs.Standing.{slice-stands, stands-slice}
-use Rattle.jiter_scan.proofs.Scanning.{ScalarWithin}
-use Rattle.jiter_scan.specs.Kind.{fault_kind}
 use Rattle.jiter_scan.specs.Number.{IsNumberText}
-use Rattle.jiter_scan.specs.NumberReading.{begins_number, number_extent, number_at, with_value}
-use Rattle.jiter_scan.specs.Scanned.{Scanned, Scans, taken, failed}
-use Rattle.jiter_steps.specs.Answer.{seen_as}
-use Rattle.jiter_steps.specs.Literal.{start_of}
+use Rattle.jiter_scan.specs.NumberReading.{begins_number, number_extent}
+use Rattle.jiter_scan.specs.Scanned.{Scans}
 use Rattle.jiter_steps.specs.declared.parse.Start.TheVariants as start
-use Rattle.jiter_steps.specs.declared.read_error.ReadError.{ReadError}
 use Rattle.jiter_steps.specs.declared.read_error.ReadError.TheVariants as error
 use Rattle.jiter_steps.specs.ReadError.{UnlessRefused}
-use Rattle.jiter_steps.specs.Step.{colon, more, step}
-use Rattle.jiter_steps.specs.StringDecoder.{WantsMemory}
-use Rattle.jiter_steps.specs.StringReading.{between, Form, string_at, text_form, whole}
-use Rattle.jiter_steps.specs.Tree.{Text}
-use Rattle.jiter_steps.proofs.Grammar.Blanks.{past_blanks-after}
-use Rattle.jiter_steps.proofs.Grammar.StringLaws.{string_at-within}
 use Rattle.jiter_steps.proofs.OpenStrings.{range-length}
-use Rattle.std.proofs.Common.{ap₂, false, ◌-◌}
-use Rattle.jiter.specs.Jiter.{BeginsAt, IsErrorAt, MovesOn, key_bytes, reply_seen, text_bytes}
-use Rattle.jiter.specs.Reader.{ReaderState, Refusal, Reply, gave, refused, scalar_reply, colon_reply, key_reply, with_position}
-use Rattle.jiter.specs.Reader.{value_place, next, if_byte, member_reply, number_bytes_read, str_read}
-use Rattle.jiter.specs.Reads.{Reads, never, string_memory}
-use Rattle.jiter.specs.declared.errors.JiterError.{JiterError}
+use Rattle.std.proofs.Common.{ap₂}
+use Rattle.jiter.specs.Jiter.{BeginsAt}
 use Rattle.jiter.proofs.Refusals.{refusal-failed, scalar-within}
 
 -- a number's bytes, by its end

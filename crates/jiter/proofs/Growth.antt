@@ -1,20 +1,15 @@
 -- A longer prefix of a document goes on where a shorter one stopped.
-use Rattle.std.proofs.Common.{◌≡◌, ℕ, ◌≤◌, Bool, List, length, take, ap, ◌∙◌, subst, arith}
-use Rattle.std.proofs.Common.{take-take}
-use Rattle.std.proofs.lemmas.List.{length-take}
-use Rattle.std.specs.Prelude.{Ok, Some}
+use Rattle.jiter.proofs.Words.{◌≡◌, ℕ, ◌≤◌, Bool, List, length, take, ap, ◌∙◌, subst, arith, take-take, length-take, Ok}
+use Rattle.jiter.proofs.Words.{Some, answer_in, Reading, done, fault, Text, Tree, owned_text, owned_tree, reading_as}
+use Rattle.jiter.proofs.Words.{view, Answers}
 use Rattle.jiter_scan.specs.declared.partial_mode.PartialMode.{PartialMode}
-use Rattle.jiter_steps.specs.Answer.{answer_in}
 use Rattle.jiter_steps.specs.Cut.{cut, IsBegunContainer}
 use Rattle.jiter_steps.specs.Extends.{Extends, ExtendsItems, ExtendsMembers}
-use Rattle.jiter_steps.specs.Read.{Reading, done, fault}
-use Rattle.jiter_steps.specs.Tree.{Text, Tree, Items, no_items, item, Members, no_members, member}
+use Rattle.jiter_steps.specs.Tree.{Items, no_items, item, Members, no_members, member}
 use Rattle.jiter_steps.specs.Tree as tree
 use Rattle.jiter_steps.proofs.Cut.CutLaw.{AnswersCut, answer_in-cut}
 use Rattle.jiter_steps.proofs.Cut.LaterCuts.{cut-extends}
-use Rattle.jiter_value.specs.Owned.{owned_text, owned_tree, owned_items, owned_members}
-use Rattle.jiter_value.specs.Parses.{reading_as}
-use Rattle.jiter_value.specs.Value.{view, Answers}
+use Rattle.jiter_value.specs.Owned.{owned_items, owned_members}
 use Rattle.jiter_value.specs.declared.value.JsonValue.{JsonValue}
 use Rattle.jiter.specs.Prefixes.{IsCleanCut, PrefixesGrow}
 

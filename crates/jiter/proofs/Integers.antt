@@ -1,23 +1,21 @@
 -- What the reading of an integer says beside the reading of any number.
-use Rattle.std.proofs.Common.{◌≡◌, ◌∙◌, ◌≢◌, inl, inr, ℕ, ◌+◌, ◌<◌, ◌≤◌, ◌==◌, ◌||◌, Bool, true, false, List}
-use Rattle.std.proofs.Common.{length, refl, sym, ap, subst, arith}
-use Rattle.std.specs.Prelude.{slice_get, slice_range, Option, Some, None, codes, if◌then◌else◌, nat_lt, nat_le, ◌^◌}
-use Rattle.std.specs.Prelude.{pos}
-use Rattle.std.proofs.lemmas.Bool.Decides.{nat_tests}
-use Rattle.std.proofs.lemmas.Option.{slice_get_within}
-use Rattle.jiter_scan.specs.Kind.{Kind}
-use Rattle.jiter_scan.specs.Number.{Number, integer, big, float, number_value, positive_value, negative_value}
+use Rattle.jiter.proofs.Words.{◌≡◌, ◌∙◌, inl, inr, ℕ, ◌+◌, ◌<◌, ◌≤◌, ◌==◌, Bool, true, false, List, length, refl, sym}
+use Rattle.jiter.proofs.Words.{ap, subst, arith, slice_get, slice_range, Option, Some, None, codes, if◌then◌else◌, pos}
+use Rattle.jiter.proofs.Words.{nat_tests, slice_get_within, Kind, Number, integer, big, float, number_value, Integer}
+use Rattle.jiter.proofs.Words.{int_seen, float_seen, int_at, extent_then, with_value, number_at, Scanned, taken, failed}
+use Rattle.jiter.proofs.Words.{Extent}
+use Rattle.std.proofs.Common.{◌≢◌, ◌||◌}
+use Rattle.std.specs.Prelude.{nat_lt, nat_le, ◌^◌}
+use Rattle.jiter_scan.specs.Number.{positive_value, negative_value}
 use Rattle.jiter_scan.specs.Number.{is_float_byte, minus_of}
 use Rattle.jiter_scan.specs.NumberDecoder.{IsMinusTo, magnitude_of}
-use Rattle.jiter_scan.specs.NumberReading.{Integer, int_seen, float_seen, integer_or_float, integer_after}
+use Rattle.jiter_scan.specs.NumberReading.{integer_or_float, integer_after}
 use Rattle.jiter_scan.specs.NumberReading.{integer_from}
-use Rattle.jiter_scan.specs.NumberReading.{int_at, integer_after_minus, is_float_sign, extent_then, fraction_at}
+use Rattle.jiter_scan.specs.NumberReading.{integer_after_minus, is_float_sign, fraction_at}
 use Rattle.jiter_scan.specs.NumberReading.{fraction_from, exponent_at, exponent_from, decimal_at, int_part_at}
-use Rattle.jiter_scan.specs.NumberReading.{with_value}
-use Rattle.jiter_scan.specs.NumberReading.{number_at, extent_from, after_minus}
-use Rattle.jiter_scan.specs.Scanned.{Scanned, taken, failed}
+use Rattle.jiter_scan.specs.NumberReading.{extent_from, after_minus}
 use Rattle.jiter_scan.specs.Stands.{Stands}
-use Rattle.jiter_scan.specs.Word.{Extent, word_at}
+use Rattle.jiter_scan.specs.Word.{word_at}
 use Rattle.jiter_scan.proofs.Choices.{if_case, if_both, if-true, if-false, extent_then-taken}
 use Rattle.jiter_scan.proofs.NumberBytes.{IsMinusTo-le}
 use Rattle.jiter_scan.proofs.NumberSound.{int_part_at-sound, digits-sound, power-sound, exponent_at-sound}

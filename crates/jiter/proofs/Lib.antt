@@ -14,3 +14,4 @@ pub mod SkipReplies
 pub mod Telling
 pub mod Walking
 mod Rows
+pub mod Words

@@ -1,11 +1,10 @@
 -- A loop over the members of an object, by the pull reader, as one law. The caller says how keys are read, what it keeps
 -- and what the members that are left lead to from there; and that its reading of one value keeps to that.
-use Rattle.std.proofs.Common.{◌≡◌, ◌∙◌, ℕ, ◌-◌, ◌<◌, ◌≤◌, false, List, length, refl, sym, ap, subst, arith}
-use Rattle.std.specs.Prelude.{Option, Some, None, option_map}
+use Rattle.jiter.proofs.Words.{◌≡◌, ◌∙◌, ℕ, ◌-◌, ◌<◌, ◌≤◌, false, List, length, refl, sym, ap, subst, arith, Option}
+use Rattle.jiter.proofs.Words.{Some, None, option_map, members_list}
 use Rattle.jiter.specs.Caller.{Cause, Form, IsBlank, IsDocument, Key, MovesOn, Node, NodeMembers, ReaderState, Reply}
 use Rattle.jiter.specs.Caller.{Tells, Text, ValueType, begin, end, finish, gave, key_bytes, key_step, next, object_read}
 use Rattle.jiter.specs.Caller.{other_type, refused, reply_seen, value_of, with_position}
-use Rattle.jiter_steps.proofs.Grammar.SpelledParts.{members_list}
 use Rattle.jiter_steps.specs.declared.parse.ContainerKind.TheVariants as shape
 use Rattle.jiter.proofs.Telling.{object-refused, tells}
 use Rattle.jiter.proofs.Walking.{AMember, ComesNext, GivenAt, IsNoObject, KeyTold, MembersLeft, SeesKeys, TellsOf}

@@ -1,20 +1,15 @@
 -- What a reader meets where a part of a container is spelled: an item, or a key, its colon and its value.
-use Rattle.std.proofs.Common.{◌≡◌, ◌∙◌, ℕ, ◌≤◌, Bool, List, refl, sym, ap, subst, arith}
-use Rattle.jiter_scan.specs.Scanned.{taken}
-use Rattle.jiter_steps.specs.Answer.{read_at, skip_at, whole_trees}
-use Rattle.jiter_steps.specs.Blank.{IsBlank, past_blanks}
-use Rattle.jiter_steps.specs.Node.{Key, Node, begin, end, Spells, SpellsKey, nesting, nesting_limit, value_of}
-use Rattle.jiter_steps.specs.Read.{done}
-use Rattle.jiter_steps.specs.Step.{step, colon}
+use Rattle.jiter.proofs.Words.{◌≡◌, ◌∙◌, ℕ, ◌≤◌, Bool, List, refl, sym, ap, subst, arith, taken, read_at, skip_at}
+use Rattle.jiter.proofs.Words.{whole_trees, IsBlank, past_blanks, Key, Node, begin, end, Spells, SpellsKey, nesting}
+use Rattle.jiter.proofs.Words.{nesting_limit, value_of, done, step, colon, EndsNumber, skip_at-law, EndsAlike}
+use Rattle.jiter.proofs.Words.{begins-value}
 use Rattle.jiter_steps.proofs.Grammar.Blanks.{blank-passed}
 use Rattle.jiter_steps.proofs.Grammar.Documents.{value_at-complete}
 use Rattle.jiter_steps.proofs.Grammar.Documents.{key_text, nodes-lead}
 use Rattle.jiter_steps.proofs.Reading.Fused.{mapped, value_at-mapped}
 use Rattle.jiter_steps.proofs.Grammar.NodeRules.{nodes}
 use Rattle.jiter_steps.proofs.Grammar.RowSteps.{row-at}
-use Rattle.jiter_steps.proofs.Grammar.ScalarLaws.{EndsNumber}
-use Rattle.jiter_steps.proofs.Calls.SkipLaw.{skip_at-law, EndsAlike}
-use Rattle.jiter_steps.proofs.Grammar.SpelledParts.{begins-value, begin-within}
+use Rattle.jiter_steps.proofs.Grammar.SpelledParts.{begin-within}
 
 module _ (names : Bool) (t : List ℕ) where
   -- A value that is spelled is read.

@@ -1,26 +1,19 @@
 -- A second peek replies as the first, a known_ call as the next_ call, and a refused read of a scalar leaves the reader
 -- where the value begins.
-use Rattle.std.proofs.Common.{◌≡◌, ◌∙◌, ℕ, true, false, refl, ap, sym, subst, Option, Some, None, List, slice_get}
-use Rattle.std.proofs.Common.{slice_index, slice_range, ◌<◌, ◌≤◌, Result, length, arith}
-use Rattle.std.proofs.lemmas.Bool.Decides.{nat_tests}
-use Rattle.std.proofs.lemmas.Option.{get_or_from_slice_get}
+use Rattle.jiter.proofs.Words.{◌≡◌, ◌∙◌, ℕ, true, false, refl, ap, sym, subst, Option, Some, None, List, slice_get}
+use Rattle.jiter.proofs.Words.{slice_index, slice_range, ◌<◌, ◌≤◌, Result, length, arith, nat_tests}
+use Rattle.jiter.proofs.Words.{get_or_from_slice_get, IndexWithin, MovesOn, Replies, StandsAt, Scanned, taken, failed}
+use Rattle.jiter.proofs.Words.{Integer, int_seen, float_seen, number_at, int_at, past_blanks, Form, string_at, seen_as}
+use Rattle.jiter.proofs.Words.{literal_at, start_of, Start, ReaderState, Reply, gave, with_position, value_place}
+use Rattle.jiter.proofs.Words.{if_byte, Reads, never, JiterError, peek, next, known, scalar_reply, integer_reply}
+use Rattle.jiter.proofs.Words.{null_read, bool_read, number_read, int_read, number_bytes_read, string_read, str_read}
+use Rattle.jiter.proofs.Words.{bytes_read}
 use Rattle.jiter_scan.proofs.Runs.{run_end-here}
 use Rattle.jiter_steps.proofs.Grammar.Blanks.{no_blank-after}
-use Rattle.jiter.specs.Jiter.{IndexWithin, MovesOn, Replies, StandsAt}
-use Rattle.jiter_scan.specs.Scanned.{Scanned, taken, failed}
-use Rattle.jiter_scan.specs.NumberReading.{Integer, int_seen, float_seen, number_at, int_at}
-use Rattle.jiter_steps.specs.Blank.{is_blank, past_blanks}
-use Rattle.jiter_steps.specs.StringReading.{Form, string_at}
-use Rattle.jiter_steps.specs.Answer.{seen_as}
-use Rattle.jiter_steps.specs.Literal.{literal_at, start_of}
+use Rattle.jiter_steps.specs.Blank.{is_blank}
 use Rattle.jiter_steps.specs.declared.parse.Literal.TheVariants as literal
-use Rattle.jiter_steps.specs.declared.parse.Start.{Start}
 use Rattle.jiter_steps.specs.declared.parse.Start.TheVariants as start
-use Rattle.jiter.specs.Reader.{ReaderState, Reply, gave, StaysAt, with_position, position_after, value_place, if_byte}
-use Rattle.jiter.specs.Reads.{Reads, never}
-use Rattle.jiter.specs.declared.errors.JiterError.{JiterError}
-use Rattle.jiter.specs.Reader.{peek, next, known, scalar_reply, integer_reply, null_read, bool_read, number_read}
-use Rattle.jiter.specs.Reader.{int_read, number_bytes_read, string_read, str_read, bytes_read}
+use Rattle.jiter.specs.Reader.{StaysAt, position_after}
 
 -- blanks are passed once
 pub past_blanks-again : (t : List ℕ) (i : ℕ) → past_blanks t (past_blanks t i) ≡ past_blanks t i

@@ -1,18 +1,15 @@
 -- What a read promises, from its parts.
-use Rattle.std.proofs.Common.{◌≡◌, ◌∙◌, ◌≤◌, Ok, Err, Result, refl, sym, ap, subst, slice_get, length}
-use Rattle.std.specs.Prelude.{Option, Some, None, option_map, ℕ}
+use Rattle.jiter.proofs.Words.{◌≡◌, ◌∙◌, ◌≤◌, Ok, Err, Result, refl, sym, ap, subst, slice_get, length, Option, Some}
+use Rattle.jiter.proofs.Words.{None, option_map, ℕ, Text, start_of, ValueType, IsRefusalOf, refusal_view, MovesOn}
+use Rattle.jiter.proofs.Words.{Replies, RefusesBytes, key_bytes, reply_seen, ReaderState, Reply, gave, refused}
+use Rattle.jiter.proofs.Words.{refused_as, if_byte, next, value_place, Refusal, with_position, Reads, anywhere, never}
+use Rattle.jiter.proofs.Words.{JiterError}
 use Rattle.std.specs.declared.alloc.Global.{Global}
 use Rattle.std.specs.declared.borrow.CowStr.{CowStr}
-use Rattle.jiter_steps.specs.Tree.{Text}
-use Rattle.jiter_steps.specs.Literal.{start_of}
-use Rattle.jiter.specs.Cause.{ValueType}
-use Rattle.jiter.specs.Jiter.{IsRefusalOf, refusal_view}
-use Rattle.jiter.specs.Jiter.{MovesOn, Replies, RefusesBytes, indexed_key_bytes}
-use Rattle.jiter.specs.Jiter.{indexed_key_view, key_bytes, reply_seen}
-use Rattle.jiter.specs.Reader.{ReaderState, Reply, gave, refused, refused_as, if_byte, next, type_refusal, value_place}
-use Rattle.jiter.specs.Reader.{Refusal, with_position}
-use Rattle.jiter.specs.Reads.{Memory, Reads, Stops, Unless, anywhere, never, only_at}
-use Rattle.jiter.specs.declared.errors.JiterError.{JiterError}
+use Rattle.jiter.specs.Jiter.{indexed_key_bytes}
+use Rattle.jiter.specs.Jiter.{indexed_key_view}
+use Rattle.jiter.specs.Reader.{type_refusal}
+use Rattle.jiter.specs.Reads.{Memory, Stops, Unless, only_at}
 
 -- of a read that does not allocate
 pub read-bytes : {X A : Type 0} {view : X → A} {x : Result X JiterError} {s0 s : ReaderState} {r : Reply A}

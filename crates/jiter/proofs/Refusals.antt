@@ -1,23 +1,16 @@
 -- A refused scalar is a fault of the bytes, whose index lies within the text.
-use Rattle.std.proofs.Common.{◌≡◌, ap, subst, ℕ, ◌<◌, ◌≤◌, List, length, Ok, Err, Result, arith}
-use Rattle.std.specs.Prelude.{MatchResult, IsErrAnd, IfErr}
+use Rattle.jiter.proofs.Words.{◌≡◌, ap, subst, ℕ, ◌<◌, ◌≤◌, List, length, Ok, Err, Result, arith, IsErrAnd, Scanned}
+use Rattle.jiter.proofs.Words.{taken, failed, Kind, fault_kind, ScalarWithin, Reading, done, fault, scalar_at}
+use Rattle.jiter.proofs.Words.{json_error, ReaderState, Refusal, IsRefusalOf, IsErrorAt, RefusesBytes, IndexWithin}
+use Rattle.jiter.proofs.Words.{refusal_view, Tree, owned_tree, reading_as, ReadError, JiterError}
+use Rattle.std.specs.Prelude.{MatchResult, IfErr}
 use Rattle.jiter_scan.specs.declared.errors.Fault.{Fault}
-use Rattle.jiter_scan.specs.Scanned.{Scanned, taken, failed, FaultAt}
-use Rattle.jiter_scan.specs.Kind.{Kind, fault_kind}
-use Rattle.jiter_scan.proofs.Scanning.{ScalarWithin, Within}
+use Rattle.jiter_scan.specs.Scanned.{FaultAt}
+use Rattle.jiter_scan.proofs.Scanning.{Within}
 use Rattle.jiter_steps.proofs.Reading.Bounds as reading
-use Rattle.jiter_steps.specs.Read.{Reading, done, fault, scalar_at}
-use Rattle.jiter.specs.Cause.{json_error}
-use Rattle.jiter.specs.Reader.{ReaderState, Refusal}
-use Rattle.jiter.specs.Jiter.{IsRefusalOf, IsErrorAt, RefusesBytes, IndexWithin, refusal_view}
 use Rattle.jiter_steps.specs.Parse.{Moves, Gives, Reads}
-use Rattle.jiter_steps.specs.Tree.{Tree}
-use Rattle.jiter_value.specs.Owned.{owned_tree}
-use Rattle.jiter_value.specs.Parses.{reading_as}
 use Rattle.jiter_steps.specs.declared.parse.Parser.{Parser}
-use Rattle.jiter_steps.specs.declared.read_error.ReadError.{ReadError}
 use Rattle.jiter_steps.specs.declared.read_error.ReadError.TheVariants as error
-use Rattle.jiter.specs.declared.errors.JiterError.{JiterError}
 
 -- where the reader stands there is a byte
 abbrev pub IsInside : ReaderState → Type 0

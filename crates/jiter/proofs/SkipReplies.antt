@@ -1,19 +1,9 @@
 -- The skip law of the pull reader: a skip replies what reading the value replies, but for the value and UTF-8.
-use Rattle.std.proofs.Common.{ℕ, ap, subst, Result}
-use Rattle.std.specs.Prelude.{Option, Some, None, slice_get, slice_index}
-use Rattle.jiter_steps.specs.Answer.{read_at, skip_at}
-use Rattle.jiter_steps.specs.Literal.{start_of}
-use Rattle.jiter_steps.specs.Read.{Reading, done, fault}
-use Rattle.jiter_steps.specs.Tree.{Tree}
-use Rattle.jiter_steps.specs.declared.parse.Start.{Start}
-use Rattle.jiter_steps.proofs.Calls.SkipLaw.{EndsAlike, skip_at-law}
-use Rattle.jiter.specs.Cause.{json_error}
-use Rattle.jiter.specs.Reader.{ReaderState, Reply, value_place, if_byte, next, known, value_reply, value_read}
-use Rattle.jiter.specs.Reader.{skip_read}
-use Rattle.jiter.specs.Jiter.{Replies}
-use Rattle.jiter.specs.Reads.{Reads, never}
+use Rattle.jiter.proofs.Words.{ℕ, ap, subst, Result, Option, Some, None, slice_get, slice_index, read_at, skip_at}
+use Rattle.jiter.proofs.Words.{start_of, Reading, done, fault, Tree, Start, EndsAlike, skip_at-law, json_error}
+use Rattle.jiter.proofs.Words.{ReaderState, Reply, value_place, if_byte, next, known, value_reply, value_read}
+use Rattle.jiter.proofs.Words.{skip_read, Replies, Reads, never, JiterError}
 use Rattle.jiter.specs.Skipping.{SkipsAsRead}
-use Rattle.jiter.specs.declared.errors.JiterError.{JiterError}
 
 module _ (P : Reply (Unit {0}) → Type 0) where
   reply-skipped : (x : Reading Tree) (y : Reading (Unit {0})) → EndsAlike x y → P (value_reply y)

@@ -1,27 +1,20 @@
 -- Where a node of a document comes next, calls of the pull reader reply by its value.
-use Rattle.std.proofs.Common.{◌≡◌, ◌∙◌, ◌≤◌, ℕ, Bool, true, false, List, length, arith, refl, sym, ap, subst}
-use Rattle.std.specs.Prelude.{Option, slice_get, slice_index, slice_range, if◌then◌else◌}
-use Rattle.std.proofs.lemmas.Option.{get_or_from_slice_get}
-use Rattle.jiter_scan.specs.Number.{Number, integer, big, float, number_value}
-use Rattle.jiter_scan.specs.NumberReading.{Integer, int_seen, float_seen, int_at, number_at}
-use Rattle.jiter_scan.specs.Scanned.{Scanned, taken, failed}
+use Rattle.jiter.proofs.Words.{◌≡◌, ◌∙◌, ◌≤◌, ℕ, Bool, true, false, List, length, arith, refl, sym, ap, subst, Option}
+use Rattle.jiter.proofs.Words.{slice_get, slice_index, slice_range, if◌then◌else◌, get_or_from_slice_get, Number}
+use Rattle.jiter.proofs.Words.{integer, big, float, number_value, Integer, int_seen, float_seen, int_at, number_at}
+use Rattle.jiter.proofs.Words.{Scanned, taken, failed, seen_as, start_of, Node, begin, end, value_of, Form, kept}
+use Rattle.jiter.proofs.Words.{string_at, Text, begins-value, start_is, ValueType, null, string, bool, array, object}
+use Rattle.jiter.proofs.Words.{wrong_type, ReaderState, gave, refused, next, refused_as, array_read, integer_reply}
+use Rattle.jiter.proofs.Words.{scalar_reply, string_read, str_read, bool_read, int_read, object_read, if_byte}
+use Rattle.jiter.proofs.Words.{null_read, number_read, number_bytes_read, peek, value_read, value_reply}
 use Rattle.jiter_scan.proofs.Choices.{same_taken}
-use Rattle.jiter_steps.specs.Answer.{seen_as}
-use Rattle.jiter_steps.specs.Literal.{start_of}
-use Rattle.jiter_steps.specs.Node.{Node, begin, end, number_tree, value_of}
+use Rattle.jiter_steps.specs.Node.{number_tree}
 use Rattle.jiter_steps.specs.Node as grammar
-use Rattle.jiter_steps.specs.StringReading.{Form, kept, string_at}
 use Rattle.jiter_steps.specs.StringReading as form
-use Rattle.jiter_steps.specs.Tree.{Text}
 use Rattle.jiter_steps.specs.declared.parse.Literal.TheVariants as literal
 use Rattle.jiter_steps.specs.declared.parse.Start.TheVariants as start
 use Rattle.jiter_steps.proofs.Grammar.ScalarLaws.{scalar-laws}
-use Rattle.jiter_steps.proofs.Grammar.SpelledParts.{begins-value, start_is}
-use Rattle.jiter.specs.Cause.{ValueType, null, string, bool, array, object, wrong_type}
-use Rattle.jiter.specs.Reader.{ReaderState, gave, refused, next, refused_as, number_type, number_refusal}
-use Rattle.jiter.specs.Reader.{array_read, integer_reply, scalar_reply, string_read, str_read, bool_read, int_read}
-use Rattle.jiter.specs.Reader.{object_read}
-use Rattle.jiter.specs.Reader.{if_byte, null_read, number_read, number_bytes_read, peek, value_read, value_reply}
+use Rattle.jiter.specs.Reader.{number_type, number_refusal}
 use Rattle.jiter.specs.Telling.{tree_start, tree_type, other_type, str_told, bool_told, int_told, null_told, number_told}
 use Rattle.jiter.specs.Telling.{number_bytes_told, Tells}
 use Rattle.jiter.proofs.Integers.{AgreeAsInteger, IsWhole, int_at-number}

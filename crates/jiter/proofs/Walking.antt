@@ -1,39 +1,30 @@
 -- A walk through the items or members of a document's container by the pull reader: what its calls reply, in the
 -- grammar's words.
-use Rattle.std.proofs.Common.{◌≡◌, ◌∙◌, ℕ, ◌+◌, ◌-◌, ◌<◌, ◌≤◌, ◌==◌, Bool, List, [], ◌∷◌, length, refl, sym, ap}
-use Rattle.std.proofs.Common.{subst, arith}
-use Rattle.std.specs.Prelude.{slice_get, slice_index, Option, Some, None}
-use Rattle.std.proofs.lemmas.Option.{none-some, slice_get_past, slice_get_within}
-use Rattle.jiter_scan.specs.Scanned.{Scanned, taken, failed}
-use Rattle.jiter_scan.specs.Word.{Extent}
-use Rattle.jiter_scan.proofs.Scanning.{ScalarWithin}
-use Rattle.jiter_steps.specs.Answer.{skip_at}
-use Rattle.jiter_steps.specs.Blank.{IsBlank, past_blanks}
-use Rattle.jiter_steps.specs.Literal.{start_of}
-use Rattle.jiter_steps.specs.Node.{Key, Node, Nodes, NodeMembers, array, object, begin, end, Spells, SpellsKey}
-use Rattle.jiter_steps.specs.Node.{IsDocument, nesting, nesting_limit, text_at}
-use Rattle.jiter_steps.specs.Read.{Reading, done, fault}
-use Rattle.jiter_steps.specs.Step.{Step, more, closed, stuck, step, begins_part, closer_of, container_comma, container_first}
-use Rattle.jiter_steps.specs.Step.{container_step, colon}
-use Rattle.jiter_steps.specs.StringReading.{Form, whole, raw, string_at, between}
-use Rattle.jiter_steps.specs.Tree.{Text}
+use Rattle.jiter.proofs.Words.{◌≡◌, ◌∙◌, ℕ, ◌+◌, ◌-◌, ◌<◌, ◌≤◌, ◌==◌, Bool, List, [], ◌∷◌, length, refl, sym, ap, subst}
+use Rattle.jiter.proofs.Words.{arith, slice_get, slice_index, Option, Some, None, none-some, slice_get_within, Scanned}
+use Rattle.jiter.proofs.Words.{taken, failed, Extent, ScalarWithin, skip_at, IsBlank, past_blanks, start_of, Key, Node}
+use Rattle.jiter.proofs.Words.{begin, end, Spells, SpellsKey, nesting, nesting_limit, Reading, done, fault, Step, more}
+use Rattle.jiter.proofs.Words.{closed, stuck, step, colon, Form, whole, raw, string_at, between, Text}
+use Rattle.jiter.proofs.Words.{past_blanks-after, EndsNumber, begins-value, start_is, members_list, string_at-within}
+use Rattle.jiter.proofs.Words.{Ahead, Within, skip_at-within, Cause, MovesOn, ReaderState, Reply, gave, refused}
+use Rattle.jiter.proofs.Words.{with_position, value_place, if_byte, next, value_reply, skip_read, array_read, item_step}
+use Rattle.jiter.proofs.Words.{object_read, key_step, part_reply, member_reply, key_reply, colon_reply, finish}
+use Rattle.std.proofs.lemmas.Option.{slice_get_past}
+use Rattle.jiter_steps.specs.Node.{Nodes, NodeMembers, array, object}
+use Rattle.jiter_steps.specs.Node.{IsDocument, text_at}
+use Rattle.jiter_steps.specs.Step.{begins_part, closer_of, container_comma, container_first}
+use Rattle.jiter_steps.specs.Step.{container_step}
 use Rattle.jiter_steps.specs.declared.parse.ContainerKind.{ContainerKind}
 use Rattle.jiter_steps.specs.declared.parse.ContainerKind.TheVariants as shape
-use Rattle.jiter_steps.proofs.Grammar.Blanks.{blank-to_end, past_blanks-after}
+use Rattle.jiter_steps.proofs.Grammar.Blanks.{blank-to_end}
 use Rattle.jiter_steps.proofs.Grammar.RowSteps.{PartAt, delimits}
-use Rattle.jiter_steps.proofs.Grammar.ScalarLaws.{EndsNumber}
-use Rattle.jiter_steps.proofs.Grammar.SpelledParts.{IsItem, IsMember, begins-value, start_is, ends-end, items-parts}
-use Rattle.jiter_steps.proofs.Grammar.SpelledParts.{members-parts, nodes_list, members_list}
-use Rattle.jiter_steps.proofs.Grammar.StringLaws.{string_at-complete, string_at-within, raw-whole}
-use Rattle.jiter_steps.proofs.Reading.Bounds.{Ahead, ExtentAhead, Within, container_step-ahead, colon-ahead, either}
-use Rattle.jiter_steps.proofs.Reading.Instances.{skip_at-within}
+use Rattle.jiter_steps.proofs.Grammar.SpelledParts.{IsItem, IsMember, ends-end, items-parts}
+use Rattle.jiter_steps.proofs.Grammar.SpelledParts.{members-parts, nodes_list}
+use Rattle.jiter_steps.proofs.Grammar.StringLaws.{string_at-complete, raw-whole}
+use Rattle.jiter_steps.proofs.Reading.Bounds.{ExtentAhead, container_step-ahead, colon-ahead, either}
 use Rattle.jiter_steps.proofs.Reading.Parts.{MoreParts, PartThen, Parts}
-use Rattle.jiter.specs.Cause.{Cause}
-use Rattle.jiter.specs.Jiter.{MovesOn}
 use Rattle.jiter.specs.Parts.{StandsNext}
-use Rattle.jiter.specs.Reader.{ReaderState, Reply, gave, refused, with_position, value_place, if_byte, next}
-use Rattle.jiter.specs.Reader.{value_reply, skip_read, array_read, item_step, object_read, key_step}
-use Rattle.jiter.specs.Reader.{part_reply, member_reply, key_reply, colon_reply, finish, end_reply}
+use Rattle.jiter.specs.Reader.{end_reply}
 use Rattle.jiter.proofs.Members.{colon-taken, place-after, place-there, skip-spelled}
 
 pub gave-refused : {A : Type 0} {a : A} {i : ℕ} {c : Cause} {x stop : ℕ} → gave a i ≡ refused c x stop → ⊥

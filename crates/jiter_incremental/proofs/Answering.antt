@@ -1,46 +1,24 @@
 -- What the bytes of a document answer that have arrived so far, of which the unfinished scalar may be in the value.
-use Rattle.std.proofs.Common.{◌≡◌, ℕ, ◌+◌, ◌≤◌, Bool, true, false, List, [], ◌∷◌, ◌++◌, length, refl, sym, subst, ap}
-use Rattle.std.proofs.Common.{◌∙◌}
-use Rattle.std.proofs.Common.{arith}
-use Rattle.std.specs.Prelude.{◌&&◌, ◌||◌, not, is_some, option_map, Option, Some, None}
-use Rattle.std.specs.Str.{IsUtf8}
-use Rattle.std.proofs.lemmas.Bool.{false≢true}
-use Rattle.std.proofs.lemmas.Option.{none-some, same_Some}
-use Rattle.jiter_scan.proofs.Choices.{if-true, if-false}
-use Rattle.jiter_scan.specs.Kind.{Kind, fault_kind}
-use Rattle.jiter_scan.specs.PartialMode.{allows_trailing_strings, is_active}
-use Rattle.jiter_scan.specs.PartialNumber.{is_whole}
-use Rattle.jiter_scan.specs.declared.errors.Fault.{Fault}
-use Rattle.jiter_scan.specs.declared.errors.FaultKind.{FaultKind}
+use Rattle.jiter_incremental.proofs.Words.{◌≡◌, ℕ, ◌+◌, ◌≤◌, Bool, true, false, List, [], ◌∷◌, ◌++◌, length, refl, sym}
+use Rattle.jiter_incremental.proofs.Words.{subst, ap, ◌∙◌, arith, ◌&&◌, ◌||◌, not, is_some, option_map, Option, Some}
+use Rattle.jiter_incremental.proofs.Words.{None, IsUtf8, false≢true, none-some, same_Some, if-true, if-false, Kind}
+use Rattle.jiter_incremental.proofs.Words.{fault_kind, allows_trailing_strings, is_active, is_whole, Fault, FaultKind}
+use Rattle.jiter_incremental.proofs.Words.{items_frame, members_frame, HasTaken, text_or, prefix_answer, end_kind_of}
+use Rattle.jiter_incremental.proofs.Words.{content_at, kept, Tree, ContainerKind, PartialString, ended, Arrived, IsLeft}
+use Rattle.jiter_incremental.proofs.Words.{OpenValue, at_end, at_value, between_parts, end_of, owned, shown}
+use Rattle.jiter_incremental.proofs.Words.{after_value, Document, HasArrived, HasCome, IsMoved, Known, Opened, ReadsAt}
+use Rattle.jiter_incremental.proofs.Words.{Settled, anything, between_tokens, by_mode, in_key, in_scalar, is_shown}
+use Rattle.jiter_incremental.proofs.Words.{opened_to, shown_as, strict, strictly, token_tree, AnswersSo, IsEndFault}
+use Rattle.jiter_incremental.proofs.Words.{KeepsText, broken_as, is_broken, kind_at_end, so_far, OpenFrame, filled}
+use Rattle.jiter_incremental.proofs.Words.{rules_as, view, Token, Settings, JsonValue}
 use Rattle.jiter_scan.specs.declared.errors.FaultKind.TheVariants as fault_of
-use Rattle.jiter_steps.specs.Frames.{items_frame, members_frame}
-use Rattle.jiter_steps.specs.PartialString.{HasTaken, Wherever, text_or}
-use Rattle.jiter_steps.specs.Read.{prefix_answer}
-use Rattle.jiter_steps.specs.Step.{end_kind_of}
-use Rattle.jiter_steps.specs.StringReading.{checked, content_at, kept}
-use Rattle.jiter_steps.specs.Tree.{Tree}
-use Rattle.jiter_steps.specs.declared.parse.ContainerKind.{ContainerKind}
+use Rattle.jiter_steps.specs.PartialString.{Wherever}
+use Rattle.jiter_steps.specs.StringReading.{checked}
 use Rattle.jiter_steps.specs.declared.parse.ContainerKind.TheVariants as shape
-use Rattle.jiter_steps.specs.declared.partial_string.PartialString.{PartialString}
-use Rattle.jiter_steps.proofs.OpenStrings.{ended}
 use Rattle.jiter_steps.proofs.OpenTexts.{is_text-broken, is_text-kept}
-use Rattle.jiter_incremental.specs.Arrived.{Arrived, IsLeft, OpenValue, at_end, at_value, between_parts, end_of, owned}
-use Rattle.jiter_incremental.specs.Arrived.{shown}
-use Rattle.jiter_incremental.specs.Between.{after_value}
-use Rattle.jiter_incremental.specs.Document.{Document, HasArrived, HasCome, IsMoved, Known}
-use Rattle.jiter_incremental.specs.Document.{Opened, ReadsAt, Settled, anything, between_tokens, by_mode, in_key, in_scalar}
-use Rattle.jiter_incremental.specs.Document.{is_shown, opened_to}
-use Rattle.jiter_incremental.specs.Document.{shown_as, strict, strictly, token_tree}
-use Rattle.jiter_incremental.specs.Ends.{AnswersSo, IsEndFault, IsInside, KeepsText, broken_as, is_broken}
-use Rattle.jiter_incremental.specs.Ends.{kind_at_end, so_far}
-use Rattle.jiter_incremental.specs.Slot.{OpenFrame, filled}
-use Rattle.jiter_value.specs.Settings.{rules_as}
-use Rattle.jiter_value.specs.Value.{view}
+use Rattle.jiter_incremental.specs.Ends.{IsInside}
 use Rattle.jiter_incremental.specs.declared.reader.Awaits.TheVariants as awaits
-use Rattle.jiter_incremental.specs.declared.reader.Token.{Token}
 use Rattle.jiter_incremental.specs.declared.reader.Token.TheVariants as token
-use Rattle.jiter_value.specs.declared.settings.Settings.{Settings}
-use Rattle.jiter_value.specs.declared.value.JsonValue.{JsonValue}
 use Rattle.jiter_incremental.proofs.Documents.{known-as}
 use Rattle.jiter_incremental.proofs.Documents.Ends.{broken-answered, broken-low, kind-whole, none-answered}
 use Rattle.jiter_incremental.proofs.Documents.Ends.{nothing-comes, partial-answers, strict-answers, value-answered}

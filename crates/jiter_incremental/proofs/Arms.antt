@@ -1,36 +1,23 @@
 -- A byte of a chunk where no token is unfinished: it is taken, or refused, in an open container whatever that is in.
-use Rattle.std.proofs.Common.{◌≡◌, ◌⊎◌, ℕ, ◌+◌, ◌-◌, ◌<◌, ◌≤◌, true, false, List, [], ◌∷◌, ◌++◌, length, refl, sym, subst, ap, ◌∙◌}
-use Rattle.std.proofs.Common.{arith, inl, inr}
-use Rattle.std.specs.Prelude.{slice_get, slice_index, slice_range, None, Some}
-use Rattle.std.proofs.lemmas.List.{append-nil}
-use Rattle.std.specs.declared.alloc.Global.{Global}
-use Rattle.std.specs.declared.borrow.CowStr.{CowStr}
-use Rattle.std.proofs.lemmas.Option.{slice_get-get_or}
-use Rattle.std.proofs.Common.{◌==◌, eqb-true}
+use Rattle.jiter_incremental.proofs.Words.{◌≡◌, ◌⊎◌, ℕ, ◌+◌, ◌-◌, ◌<◌, ◌≤◌, true, false, List, [], ◌∷◌, ◌++◌, length}
+use Rattle.jiter_incremental.proofs.Words.{refl, sym, subst, ap, ◌∙◌, arith, inl, inr, slice_get, slice_index}
+use Rattle.jiter_incremental.proofs.Words.{slice_range, None, Some, append-nil, Global, CowStr, slice_get-get_or, ◌==◌}
+use Rattle.jiter_incremental.proofs.Words.{eqb-true, fault_kind, is_forgiven, FaultKind, is_blank, is_active, text_view}
+use Rattle.jiter_incremental.proofs.Words.{items_frame, begins_part, closer_of, comma_kind_of, closed, container_comma}
+use Rattle.jiter_incremental.proofs.Words.{step, stuck, ContainerKind, PartTree, built, fault, Text, Tree, Arrived}
+use Rattle.jiter_incremental.proofs.Words.{IsBeforeValue, IsBetweenParts, IsLeft, OpenValue, at_value, at_end}
+use Rattle.jiter_incremental.proofs.Words.{between_parts, ClosesBefore, Everywhere, IsBeforePart, TakesByte, completed}
+use Rattle.jiter_incremental.proofs.Words.{Document, HasReadIn, HasTakenIn, Known, Next, Opened, IsRefused, StandsAt}
+use Rattle.jiter_incremental.proofs.Words.{anything, between_tokens, in_key, with_byte, AwaitsKey, AwaitsValue}
+use Rattle.jiter_incremental.proofs.Words.{HasReadTo, IsAt, IsHere, IsStill, Moves, Steps, ahead, ahead_as, document}
+use Rattle.jiter_incremental.proofs.Words.{next_of, noted, refused, after_level, OpenFrame, filled, Awaits, Reader}
+use Rattle.jiter_incremental.proofs.Words.{Token}
 use Rattle.jiter_scan.specs.Ascii as ascii
-use Rattle.jiter_scan.specs.Kind.{fault_kind, is_forgiven}
-use Rattle.jiter_scan.specs.declared.errors.FaultKind.{FaultKind}
 use Rattle.jiter_scan.specs.declared.errors.FaultKind.TheVariants as fault_of
-use Rattle.jiter_steps.specs.Blank.{is_blank}
-use Rattle.jiter_scan.specs.PartialMode.{is_active}
-use Rattle.jiter_steps.specs.StringDecoder.{text_view}
-use Rattle.jiter_steps.specs.Frames.{items_frame}
 use Rattle.jiter_steps.specs.declared.parse.ContainerKind.TheVariants as shape
-use Rattle.jiter_steps.specs.Step.{begins_part, closer_of, comma_kind_of, closed, container_comma, step, stuck}
-use Rattle.jiter_steps.specs.declared.parse.ContainerKind.{ContainerKind}
-use Rattle.jiter_value.specs.Stacks.{PartTree, built}
-use Rattle.jiter_steps.specs.Read.{fault}
-use Rattle.jiter_steps.specs.Tree.{Text, Tree}
-use Rattle.jiter_incremental.specs.Arrived.{Arrived, IsBeforeValue, IsBetweenParts, IsLeft, OpenValue, at_value, at_end, between_parts}
-use Rattle.jiter_incremental.specs.Between.{ClosesBefore, Everywhere, IsAfter, IsBeforePart, TakesByte, completed}
-use Rattle.jiter_incremental.specs.Document.{Document, HasReadIn, HasTakenIn, Known, Next, Opened, IsRefused, StandsAt, anything, between_tokens, in_key}
-use Rattle.jiter_incremental.specs.Document.{with_byte}
-use Rattle.jiter_incremental.specs.Reader.{AwaitsKey, AwaitsValue, HasReadTo, IsAt, IsHere, IsStill, KeyHere, ValueHere, Moves, Steps, ahead, ahead_as, document, next_of, noted, refused, after_level}
-use Rattle.jiter_incremental.specs.Slot.{OpenFrame, filled}
-use Rattle.jiter_incremental.specs.declared.reader.Awaits.{Awaits}
+use Rattle.jiter_incremental.specs.Between.{IsAfter}
+use Rattle.jiter_incremental.specs.Reader.{KeyHere, ValueHere}
 use Rattle.jiter_incremental.specs.declared.reader.Awaits.TheVariants as awaits
-use Rattle.jiter_incremental.specs.declared.reader.Reader.{Reader}
-use Rattle.jiter_incremental.specs.declared.reader.Token.{Token}
 use Rattle.jiter_incremental.specs.declared.reader.Token.TheVariants as token
 use Rattle.jiter_incremental.proofs.Documents.{byte-first, known-any, known-here, closes-noted, closes-refused, follows-byte, refuses, taken-between, takes-byte, wrong-refused}
 use Rattle.jiter_incremental.proofs.Between.{RowIs, at-value, between-of, between-parts, item-begins, key-begins, not-both, object-array, row-item, row-key, colon-missing, goes-colon, goes-comma, goes-end}

@@ -1,31 +1,22 @@
 -- What is open of a document that arrives in chunks is, where the text ends, its value so far.
-use Rattle.std.proofs.Common.{◌≡◌, ℕ, suc, ◌-◌, ◌≤◌, true, false, List, [], ◌∷◌, ◌++◌, length, refl, ap, ◌∙◌, arith}
-use Rattle.std.specs.Prelude.{slice_get, Option, Some, None}
-use Rattle.std.proofs.lemmas.Option.{slice_get_past, none-some, same_Some}
-use Rattle.jiter_scan.proofs.Choices.{if-true, if-false}
-use Rattle.jiter_scan.specs.Scanned.{failed}
-use Rattle.jiter_scan.specs.Word.{Extent}
-use Rattle.jiter_steps.proofs.Reading.WholeTexts.{whole-is}
-use Rattle.jiter_scan.specs.Kind.{Kind, is_forgiven, eof_object, eof_value}
-use Rattle.jiter_scan.specs.PartialMode.{is_active}
-use Rattle.jiter_scan.specs.NumberReading.{extent_then}
-use Rattle.jiter_steps.specs.Frames.{items_frame, members_frame, resume, parts_from, array_in, object_in, parts_step}
-use Rattle.jiter_steps.specs.Read.{Reading, Rules, done, fault, follow, prefix_answer, whole_answer, to_end}
-use Rattle.jiter_steps.specs.Step.{Step, container_step, stuck, step, end_kind_of, colon, value_first}
-use Rattle.jiter_steps.specs.Tree.{Text, Tree, array, object, items_of, members_of}
-use Rattle.jiter_steps.specs.declared.parse.ContainerKind.{ContainerKind}
+use Rattle.jiter_incremental.proofs.Words.{◌≡◌, ℕ, suc, ◌-◌, ◌≤◌, true, false, List, [], ◌∷◌, ◌++◌, length, refl, ap}
+use Rattle.jiter_incremental.proofs.Words.{◌∙◌, arith, slice_get, Option, Some, None, slice_get_past, none-some}
+use Rattle.jiter_incremental.proofs.Words.{same_Some, if-true, if-false, failed, Extent, whole-is, Kind, is_forgiven}
+use Rattle.jiter_incremental.proofs.Words.{eof_object, eof_value, is_active, extent_then, items_frame, members_frame}
+use Rattle.jiter_incremental.proofs.Words.{resume, parts_from, array_in, object_in, parts_step, Rules, done, fault}
+use Rattle.jiter_incremental.proofs.Words.{prefix_answer, whole_answer, to_end, Step, container_step, stuck, step}
+use Rattle.jiter_incremental.proofs.Words.{end_kind_of, colon, value_first, Text, Tree, array, object, items_of}
+use Rattle.jiter_incremental.proofs.Words.{members_of, ContainerKind, if_forgiven-yes, if_forgiven-no, resume-fault}
+use Rattle.jiter_incremental.proofs.Words.{past_blanks-end, Arrived, at_end, at_value, between_parts, container_of}
+use Rattle.jiter_incremental.proofs.Words.{end_of, leads_on, owned, part_row, shown, value_then, OpenFrame, around}
+use Rattle.jiter_incremental.proofs.Words.{begun, filled, answer_as, rules_as, PartTree, built, Awaits, Settings}
+use Rattle.jiter_steps.specs.Read.{Reading, follow}
 use Rattle.jiter_steps.specs.declared.parse.ContainerKind.TheVariants as shape
-use Rattle.jiter_steps.proofs.Calls.Resumed.{if_forgiven-yes, if_forgiven-no, resume-fault, resume-forgiven}
+use Rattle.jiter_steps.proofs.Calls.Resumed.{resume-forgiven}
 use Rattle.jiter_steps.proofs.Cut.Halting.{end-forgiven}
-use Rattle.jiter_steps.proofs.Grammar.Blanks.{past_blanks-end}
 use Rattle.jiter_steps.proofs.Reading.BothShapes.{end_kind-early}
-use Rattle.jiter_incremental.specs.Arrived.{Arrived, at_end, at_value, between_parts, container_of, end_of, leads_on, owned, part_row, shown, value_extent, value_then}
-use Rattle.jiter_incremental.specs.Slot.{OpenFrame, around, begun, filled}
-use Rattle.jiter_value.specs.Settings.{answer_as, rules_as}
-use Rattle.jiter_value.specs.Stacks.{PartTree, built}
-use Rattle.jiter_incremental.specs.declared.reader.Awaits.{Awaits}
+use Rattle.jiter_incremental.specs.Arrived.{value_extent}
 use Rattle.jiter_incremental.specs.declared.reader.Awaits.TheVariants as awaits
-use Rattle.jiter_value.specs.declared.settings.Settings.{Settings}
 
 -- at the end of the text a step decides by that
 step-past : {A : Type 0} (t : List ℕ) (row : ℕ → Option ℕ → A) (j : ℕ) → length t ≤ j → step t row j ≡ row j None

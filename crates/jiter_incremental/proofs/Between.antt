@@ -1,44 +1,32 @@
 -- What a byte makes of a value that comes in chunks, by the rules of its reading.
-use Rattle.std.proofs.Common.{◌≡◌, ℕ, suc, ◌+◌, ◌-◌, ◌<◌, ◌≤◌, ◌==◌, Bool, true, false, List, [], ◌∷◌, length, get_or}
-use Rattle.std.proofs.Common.{refl, sym, subst, ap, ◌∙◌, arith, add-one, inl, inr}
-use Rattle.std.proofs.lemmas.Bool.{eq-eqb, ne_eqb}
-use Rattle.std.specs.Prelude.{slice_get, Option, Some, None}
-use Rattle.std.proofs.lemmas.Option.{slice_get_within, get_or_from_slice_get}
-use Rattle.jiter_scan.proofs.Choices.{if_case, if-true, if-false}
-use Rattle.jiter_scan.specs.Kind.{Kind, is_forgiven, recursion_limit, expected_value, expected_colon, trailing_comma, key_must_be_a_string}
-use Rattle.jiter_scan.specs.NumberReading.{extent_then}
-use Rattle.jiter_scan.specs.PartialMode.{is_active}
-use Rattle.jiter_scan.specs.Scanned.{taken, failed}
-use Rattle.jiter_scan.specs.Word.{Extent}
-use Rattle.jiter_steps.specs.Answer.{nothing_forgiven}
-use Rattle.jiter_steps.specs.Blank.{is_blank, past_blanks}
-use Rattle.jiter_steps.specs.Frames.{items_frame, members_frame, resolve_step, resume, value_in, value_from, key_from}
-use Rattle.jiter_steps.specs.Frames.{array_in, object_in, parts_from, parts_step}
-use Rattle.jiter_steps.specs.Literal.{start_of}
-use Rattle.jiter_steps.specs.Step.{Step, more, closed, stuck, step, colon, object_colon, value_first, container_first}
-use Rattle.jiter_steps.specs.Step.{opening, begins_part, closer_of, comma_kind_of, container_comma}
-use Rattle.jiter_steps.specs.Read.{Rules, done, fault, after_colon, after_key, after_part, prefix_answer}
+use Rattle.jiter_incremental.proofs.Words.{◌≡◌, ℕ, suc, ◌+◌, ◌-◌, ◌<◌, ◌≤◌, ◌==◌, Bool, true, false, List, [], ◌∷◌}
+use Rattle.jiter_incremental.proofs.Words.{length, get_or, refl, sym, subst, ap, ◌∙◌, arith, add-one, inl, inr, eq-eqb}
+use Rattle.jiter_incremental.proofs.Words.{ne_eqb, slice_get, Option, Some, None, slice_get_within}
+use Rattle.jiter_incremental.proofs.Words.{get_or_from_slice_get, if_case, if-true, if-false, Kind, is_forgiven}
+use Rattle.jiter_incremental.proofs.Words.{expected_value, trailing_comma, extent_then, is_active, taken, failed}
+use Rattle.jiter_incremental.proofs.Words.{Extent, nothing_forgiven, is_blank, past_blanks, items_frame, members_frame}
+use Rattle.jiter_incremental.proofs.Words.{resume, value_in, value_from, key_from, array_in, object_in, parts_from}
+use Rattle.jiter_incremental.proofs.Words.{parts_step, start_of, Step, closed, stuck, step, colon, value_first, opening}
+use Rattle.jiter_incremental.proofs.Words.{begins_part, closer_of, comma_kind_of, container_comma, Rules, done, fault}
+use Rattle.jiter_incremental.proofs.Words.{prefix_answer, Text, Tree, ContainerKind, if_forgiven-yes, if_forgiven-no}
+use Rattle.jiter_incremental.proofs.Words.{resume-fault, past_blanks-blank, past_blanks-other, inside_at-starts}
+use Rattle.jiter_incremental.proofs.Words.{Arrived, IsLeft, OpenValue, at_value, between_parts, at_end, value_then}
+use Rattle.jiter_incremental.proofs.Words.{part_row, container_of, owned, HasRead, IsBeforeValue, IsBetweenParts}
+use Rattle.jiter_incremental.proofs.Words.{after_value, completed, Everywhere, EndsHere, TakesByte, ClosesBefore}
+use Rattle.jiter_incremental.proofs.Words.{passed, IsBeforePart, after_level, rules_as, OpenFrame, AwaitsPart, IsOfKey}
+use Rattle.jiter_incremental.proofs.Words.{filled, HasValue, PartTree, built, empty_tree, Awaits, Settings}
+use Rattle.jiter_incremental.proofs.Words.{rules_as-advances}
+use Rattle.jiter_scan.specs.Kind.{recursion_limit, expected_colon, key_must_be_a_string}
+use Rattle.jiter_steps.specs.Frames.{resolve_step}
+use Rattle.jiter_steps.specs.Step.{more, object_colon, container_first}
+use Rattle.jiter_steps.specs.Read.{after_colon, after_key, after_part}
 use Rattle.jiter_steps.specs.Read.{if_begun, with_key}
-use Rattle.jiter_steps.specs.Tree.{Text, Tree}
-use Rattle.jiter_steps.specs.declared.parse.ContainerKind.{ContainerKind}
 use Rattle.jiter_steps.specs.declared.parse.ContainerKind.TheVariants as shape
 use Rattle.jiter_steps.specs.declared.parse.Start.TheVariants as start
-use Rattle.jiter_steps.proofs.Calls.Resumed.{IgnoresBegin, if_forgiven-yes, if_forgiven-no, resume-fault, step-to}
+use Rattle.jiter_steps.proofs.Calls.Resumed.{IgnoresBegin, step-to}
 use Rattle.jiter_steps.proofs.Calls.Resumed.{items-value, container-begins, container_in-goes, value_in-levels}
-use Rattle.jiter_steps.proofs.Grammar.Blanks.{past_blanks-blank, past_blanks-other}
-use Rattle.jiter_steps.proofs.Reading.Values.{Advances, inside_at-none, inside_at-starts, parts_at_is}
-use Rattle.jiter_incremental.specs.Arrived.{Arrived, IsLeft, OpenValue, at_value, between_parts, at_end, value_then, part_row}
-use Rattle.jiter_incremental.specs.Arrived.{container_of, owned, HasRead, IsBeforeValue, IsBetweenParts}
-use Rattle.jiter_incremental.specs.Between.{after_value, completed, Everywhere, EndsHere, TakesByte}
-use Rattle.jiter_incremental.specs.Between.{ClosesBefore, passed, IsBeforePart}
-use Rattle.jiter_incremental.specs.Reader.{after_level}
-use Rattle.jiter_value.specs.Settings.{rules_as}
-use Rattle.jiter_incremental.specs.Slot.{OpenFrame, AwaitsPart, IsOfKey, filled, HasValue}
-use Rattle.jiter_value.specs.Stacks.{PartTree, built, empty_tree}
-use Rattle.jiter_incremental.specs.declared.reader.Awaits.{Awaits}
+use Rattle.jiter_steps.proofs.Reading.Values.{Advances, inside_at-none, parts_at_is}
 use Rattle.jiter_incremental.specs.declared.reader.Awaits.TheVariants as awaits
-use Rattle.jiter_value.specs.declared.settings.Settings.{Settings}
-use Rattle.jiter_value.proofs.MadeTexts.{rules_as-advances}
 
 -- a container that begins has no part
 pub no-parts : (h : ContainerKind) → empty_tree h ≡ built h []

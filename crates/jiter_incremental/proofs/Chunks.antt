@@ -1,8 +1,7 @@
 -- The bytes of a chunk that are taken one part after the other.
-use Rattle.std.proofs.Common.{◌≡◌, ℕ, ◌+◌, ◌≤◌, List, ◌++◌, length, take, drop, sym, ap, ◌∙◌, arith, length-append}
+use Rattle.jiter_incremental.proofs.Words.{◌≡◌, ℕ, ◌+◌, ◌≤◌, List, ◌++◌, length, take, drop, sym, ap, ◌∙◌, arith}
+use Rattle.jiter_incremental.proofs.Words.{length-append, take-append-drop, length-take-le, slice_range}
 use Rattle.std.proofs.Math.Seq.{take-append-add}
-use Rattle.std.proofs.lemmas.List.{take-append-drop, length-take-le}
-use Rattle.std.specs.Prelude.{slice_range}
 use Rattle.jiter_scan.proofs.Magnitudes.{slice_range-count}
 
 pub take-on : (t : List ℕ) (i n : ℕ) → i ≤ length t → take i t ++ slice_range t i (i + n) ≡ take (i + n) t

@@ -6,40 +6,29 @@ pub mod Names
 pub mod Strings
 pub mod Tokens
 pub mod WholeTexts
-use Rattle.std.proofs.Common.{◌≡◌, ℕ, ◌+◌, ◌-◌, ◌<◌, ◌≤◌, true, false, List, [], ◌∷◌, ◌++◌, length, get_or}
-use Rattle.std.proofs.Common.{refl, sym, subst, ap, ◌∙◌, arith, append_assoc, inl, inr, length-append}
-use Rattle.std.specs.Prelude.{slice_get, Option, Some, None}
-use Rattle.std.proofs.Math.Seq.{get_or-append_seam}
-use Rattle.std.proofs.lemmas.List.{append-nil}
-use Rattle.std.proofs.lemmas.Option.{none-some, slice_get-get_or, get_or_from_slice_get}
-use Rattle.jiter_scan.proofs.Choices.{if_case, if-false}
-use Rattle.jiter_scan.specs.Kind.{Kind, fault_kind, trailing_characters}
-use Rattle.jiter_scan.specs.PartialNumber.{HoldsNumber}
-use Rattle.jiter_scan.specs.PartialMode.{is_active}
-use Rattle.jiter_scan.specs.declared.errors.Fault.{Fault}
-use Rattle.jiter_scan.specs.declared.errors.FaultKind.{FaultKind}
+use Rattle.jiter_incremental.proofs.Words.{◌≡◌, ℕ, ◌+◌, ◌-◌, ◌<◌, ◌≤◌, true, false, List, [], ◌∷◌, ◌++◌, length, get_or}
+use Rattle.jiter_incremental.proofs.Words.{refl, sym, subst, ap, ◌∙◌, arith, append_assoc, inl, inr, length-append}
+use Rattle.jiter_incremental.proofs.Words.{slice_get, Option, Some, None, get_or-append_seam, append-nil, none-some}
+use Rattle.jiter_incremental.proofs.Words.{slice_get-get_or, get_or_from_slice_get, if_case, if-false, Kind, fault_kind}
+use Rattle.jiter_incremental.proofs.Words.{HoldsNumber, is_active, Fault, FaultKind, past_blanks-blank}
+use Rattle.jiter_incremental.proofs.Words.{past_blanks-other, whole-is, is_blank, past_blanks, items_frame}
+use Rattle.jiter_incremental.proofs.Words.{members_frame, value_from, value_in, done, fault, prefix_answer, if_last}
+use Rattle.jiter_incremental.proofs.Words.{to_end, whole_answer, Tree, HasTaken, nesting_limit, ContainerKind, Arrived}
+use Rattle.jiter_incremental.proofs.Words.{HasRead, IsBeforeValue, IsBetweenParts, IsLeft, OpenValue, at_end, at_value}
+use Rattle.jiter_incremental.proofs.Words.{between_parts, owned, ClosesBefore, EndsHere, Everywhere, TakesByte}
+use Rattle.jiter_incremental.proofs.Words.{after_value, completed, passed, BeginsAs, BeginsHere, Comes, Document}
+use Rattle.jiter_incremental.proofs.Words.{EndsRight, Follows, HasCome, HasTakenIn, Holding, HoldsScalar, HoldsWord}
+use Rattle.jiter_incremental.proofs.Words.{IsAllowed, IsOver, IsReadAs, IsReading, IsRefused, Known, Next, Opened}
+use Rattle.jiter_incremental.proofs.Words.{ReadsAt, Strictness, by_mode, fault_by, settings_by, strict, StandsAt}
+use Rattle.jiter_incremental.proofs.Words.{anything, between_tokens, in_key, in_scalar, noted_in, opened_to, strictly}
+use Rattle.jiter_incremental.proofs.Words.{with_byte, with_first, name_start, OpenFrame, answer_as, rules_as, PartTree}
+use Rattle.jiter_incremental.proofs.Words.{Token, Awaits, Settings}
+use Rattle.jiter_scan.specs.Kind.{trailing_characters}
 use Rattle.jiter_scan.specs.declared.errors.FaultKind.TheVariants as fault_of
-use Rattle.jiter_steps.proofs.Grammar.Blanks.{past_blanks-blank, past_blanks-other}
-use Rattle.jiter_steps.proofs.Reading.WholeTexts.{whole-is}
-use Rattle.jiter_steps.specs.Blank.{is_blank, past_blanks}
-use Rattle.jiter_steps.specs.Frames.{items_frame, members_frame, value_from, value_in}
-use Rattle.jiter_steps.specs.Read.{done, fault, prefix_answer, if_last, to_end, whole_answer}
-use Rattle.jiter_steps.specs.Tree.{Tree}
-use Rattle.jiter_steps.specs.PartialString.{HasTaken}
-use Rattle.jiter_steps.specs.Node.{nesting_limit}
-use Rattle.jiter_steps.specs.declared.parse.ContainerKind.{ContainerKind}
-use Rattle.jiter_incremental.specs.Arrived.{Arrived, HasRead, IsBeforeValue, IsBetweenParts, IsLeft, OpenValue, at_end, at_value, between_parts, owned}
-use Rattle.jiter_incremental.specs.Between.{BeginsItem, ClosesBefore, EndsHere, Everywhere, TakesByte, after_value, completed, passed}
-use Rattle.jiter_incremental.specs.Document.{BeginsAs, BeginsHere, Comes, Document, EndsRight, Follows, HasCome, HasTakenIn, Holding, HoldsScalar, HoldsWord, IsAllowed, IsAnswered, IsEnded, IsFaulty, IsOver, IsReadAs, IsReading, IsRefused, Known, Next, Opened, ReadsAt, Strictness, by_mode, fault_by, settings_by, strict, StandsAt, anything, between_tokens, in_key, in_scalar, noted_in, opened_to, strictly, with_byte, with_first}
-use Rattle.jiter_incremental.specs.Names.{name_start}
-use Rattle.jiter_incremental.specs.Slot.{OpenFrame}
-use Rattle.jiter_value.specs.Settings.{answer_as, rules_as}
-use Rattle.jiter_value.specs.Stacks.{PartTree}
-use Rattle.jiter_incremental.specs.declared.reader.Token.{Token}
+use Rattle.jiter_incremental.specs.Between.{BeginsItem}
+use Rattle.jiter_incremental.specs.Document.{IsAnswered, IsEnded, IsFaulty}
 use Rattle.jiter_incremental.specs.declared.reader.Token.TheVariants as token
-use Rattle.jiter_incremental.specs.declared.reader.Awaits.{Awaits}
 use Rattle.jiter_incremental.specs.declared.reader.Awaits.TheVariants as awaits
-use Rattle.jiter_value.specs.declared.settings.Settings.{Settings}
 
 -- A fault of the prefix is the text's answer.
 pub prefix-fault : (p : Settings) (t : List ℕ) (k : Kind) (i stop : ℕ)

@@ -1,26 +1,23 @@
 -- A string that is shown goes on in its place: plain ASCII is appended to it.
-use Rattle.std.proofs.Common.{◌≡◌, ℕ, suc, ◌+◌, ◌<◌, true, List, [], ◌∷◌, ◌++◌, length, refl, sym, subst, ap, ap₂, ◌∙◌, arith, inl, inr}
+use Rattle.jiter_incremental.proofs.Words.{◌≡◌, ℕ, suc, ◌+◌, ◌<◌, true, List, [], ◌∷◌, ◌++◌, length, refl, sym, subst}
+use Rattle.jiter_incremental.proofs.Words.{ap, ap₂, ◌∙◌, arith, inl, inr, ◌&&◌, slice_range, Pass, is_plain_ascii, Tree}
+use Rattle.jiter_incremental.proofs.Words.{string, text_of, Document, HasMoved, HasReadIn, Holding, IsMoved, Known}
+use Rattle.jiter_incremental.proofs.Words.{Opened, Parted, anything, between_tokens, in_key, in_scalar, token_tree}
+use Rattle.jiter_incremental.proofs.Words.{IsAt, IsHere, Steps, ahead, document, AwaitsPart, HasValue, IsOfKey}
+use Rattle.jiter_incremental.proofs.Words.{OpenFrame, filled, IsGrown, IsOfString, Reader, false≢true}
 use Rattle.std.specs.List.{AllPass}
-use Rattle.std.specs.Prelude.{◌&&◌, slice_range}
-use Rattle.jiter_scan.specs.Scan.{IsAsciiTo, Pass, is_ascii, is_plain, is_plain_ascii, scan_stop}
+use Rattle.jiter_scan.specs.Scan.{IsAsciiTo, is_ascii, is_plain, scan_stop}
 use Rattle.jiter_steps.specs.PartialString.{IsEven, grown}
-use Rattle.jiter_steps.specs.Tree.{Tree, string}
 use Rattle.jiter_steps.proofs.OpenStrings.{grown-taken, plain-of, run-plain}
-use Rattle.jiter_incremental.specs.Between.{text_of}
-use Rattle.jiter_incremental.specs.Document.{Document, HasMoved, HasReadIn, Holding, IsMoved, IsShown, Known, Opened}
-use Rattle.jiter_incremental.specs.Document.{Parted, anything}
-use Rattle.jiter_incremental.specs.Document.{between_tokens, in_key, in_scalar, token_tree}
-use Rattle.jiter_incremental.specs.Reader.{IsAt, IsGrowing, IsHere, IsPlainRun, Steps, ahead, document}
-use Rattle.jiter_incremental.specs.Slot.{AwaitsPart, HasValue, IsOfKey, OpenFrame, filled}
-use Rattle.jiter_incremental.specs.Strings.{HasText, IsGrown, IsOfString}
-use Rattle.jiter_incremental.specs.declared.reader.Reader.{Reader}
+use Rattle.jiter_incremental.specs.Document.{IsShown}
+use Rattle.jiter_incremental.specs.Reader.{IsGrowing, IsPlainRun}
+use Rattle.jiter_incremental.specs.Strings.{HasText}
 use Rattle.jiter_incremental.specs.declared.reader.Token.TheVariants as token
 use Rattle.jiter_incremental.proofs.Documents.{known-in}
 use Rattle.jiter_incremental.proofs.Documents.Strings.{goes-on, is-inside, with_string}
 use Rattle.jiter_incremental.proofs.Settling.{moves-here, read-any}
 use Rattle.jiter_incremental.proofs.Showing.{stands-part, stands-root}
 use Rattle.jiter_incremental.proofs.StringSteps.{ahead-string}
-use Rattle.std.proofs.lemmas.Bool.{false≢true}
 
 -- A text that is unfinished is inside these containers.
 text-left : (a : Document) (t : List ℕ) (o : Opened) → a.token ≡ token.Text → Holding a t o

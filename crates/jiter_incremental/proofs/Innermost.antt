@@ -1,22 +1,13 @@
 -- The innermost of the open containers of a value that comes in chunks.
-use Rattle.std.proofs.Common.{◌≡◌, ℕ, ◌+◌, ◌-◌, List, [], ◌∷◌, length, refl, sym, ap, ◌∙◌, arith, take, length-append}
-use Rattle.std.proofs.Common.{Vec, rules, subst}
-use Rattle.std.specs.declared.alloc.Global.{Global}
-use Rattle.std.specs.declared.borrow.CowStr.{CowStr}
+use Rattle.jiter_incremental.proofs.Words.{◌≡◌, ℕ, ◌+◌, ◌-◌, List, [], ◌∷◌, length, refl, sym, ap, ◌∙◌, arith, take}
+use Rattle.jiter_incremental.proofs.Words.{length-append, Vec, rules, subst, Global, CowStr, IsUtf8, false≢true}
+use Rattle.jiter_incremental.proofs.Words.{text_view, text_of, Text, Tree, string, ContainerKind, OpenFrame, around}
+use Rattle.jiter_incremental.proofs.Words.{filled, Member, PartTree, built, view, JsonValue, Array, Object}
+use Rattle.jiter_incremental.proofs.Words.{out-JsonValue, the_lemmas, JsonValue-F, view_array, view_object}
 use Rattle.std.specs.declared.borrow.CowStr.TheVariants as text
-use Rattle.std.specs.Str.{IsUtf8}
-use Rattle.std.proofs.lemmas.Bool.{false≢true}
 use Rattle.std.proofs.lemmas.Str.{IsUtf8-string_bytes}
-use Rattle.jiter_steps.specs.StringDecoder.{text_view}
-use Rattle.jiter_incremental.specs.Between.{text_of}
-use Rattle.jiter_steps.specs.Tree.{Text, Tree, string}
-use Rattle.jiter_steps.specs.declared.parse.ContainerKind.{ContainerKind}
-use Rattle.jiter_incremental.specs.Slot.{OpenFrame, around, filled}
-use Rattle.jiter_value.specs.Stacks.{Member, PartTree, built}
-use Rattle.jiter_value.specs.Value.{view}
-use Rattle.jiter_value.specs.declared.value.JsonValue.{JsonValue, Array, Object, Str, out-JsonValue, the_lemmas}
-use Rattle.jiter_value.specs.declared.value.JsonValue.TheOpen.{JsonValue-F}
-use Rattle.jiter_value.proofs.Views.{view_array, view_object, view_str}
+use Rattle.jiter_value.specs.declared.value.JsonValue.{Str}
+use Rattle.jiter_value.proofs.Views.{view_str}
 use Rattle.jiter_incremental.proofs.Slots.{filled-push, last-item, last-member, last-of, out-array, out-object}
 
 -- The outermost of more than one container, and what is in it

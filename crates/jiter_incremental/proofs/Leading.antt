@@ -1,24 +1,15 @@
 -- The open path of a value that comes in chunks: what is read in a container is read in those that it is in.
-use Rattle.std.proofs.Common.{◌≡◌, ℕ, ◌+◌, ◌-◌, ◌<◌, ◌≤◌, ◌^◌, Bool, true, false, List, [], ◌∷◌, ◌++◌, length, take}
-use Rattle.std.proofs.Common.{refl, sym, subst, ap, ◌∙◌, arith, length-append, add-one, append_assoc}
-use Rattle.std.specs.Prelude.{None, slice_range}
-use Rattle.std.proofs.lemmas.List.{append-nil, take_all}
-use Rattle.std.proofs.lemmas.Option.{slice_get_past}
-use Rattle.jiter_steps.specs.Frames.{items_frame, members_frame}
-use Rattle.jiter_steps.specs.Tree.{Tree}
-use Rattle.jiter_scan.specs.declared.partial_number.PartialNumber.{PartialNumber}
-use Rattle.jiter_steps.specs.declared.partial_string.PartialString.{PartialString}
+use Rattle.jiter_incremental.proofs.Words.{◌≡◌, ℕ, ◌+◌, ◌-◌, ◌<◌, ◌≤◌, ◌^◌, Bool, true, false, List, [], ◌∷◌, ◌++◌}
+use Rattle.jiter_incremental.proofs.Words.{length, take, refl, sym, subst, ap, ◌∙◌, arith, length-append, add-one}
+use Rattle.jiter_incremental.proofs.Words.{append_assoc, None, slice_range, append-nil, take_all, slice_get_past}
+use Rattle.jiter_incremental.proofs.Words.{items_frame, members_frame, Tree, PartialNumber, PartialString, Arrived}
+use Rattle.jiter_incremental.proofs.Words.{IsLeft, OpenValue, at_value, between_parts, at_end, text_of, Document}
+use Rattle.jiter_incremental.proofs.Words.{HasArrived, HasMoved, HasReadIn, Holding, IsMoved, Next, Opened, Parted}
+use Rattle.jiter_incremental.proofs.Words.{anything, between_tokens, in_key, in_scalar, token_tree, HasReadTo}
+use Rattle.jiter_incremental.proofs.Words.{IsComplete, Ready, Refuses, Steps, Went, ahead, ahead_as, document, next_of}
+use Rattle.jiter_incremental.proofs.Words.{OpenFrame, around, begun, filled, Awaits, Reader, Token}
 use Rattle.jiter_steps.specs.declared.parse.ContainerKind.TheVariants as shape
-use Rattle.jiter_incremental.specs.Arrived.{Arrived, IsLeft, OpenValue, at_value, between_parts, at_end}
-use Rattle.jiter_incremental.specs.Between.{text_of}
-use Rattle.jiter_incremental.specs.Document.{Document, HasArrived, HasMoved, HasReadIn, Holding, IsMoved, Next, Opened, Parted}
-use Rattle.jiter_incremental.specs.Document.{anything, between_tokens, in_key, in_scalar, token_tree}
-use Rattle.jiter_incremental.specs.Reader.{HasReadTo, IsComplete, Ready, Refuses, Steps, Went, ahead, ahead_as, document, next_of}
-use Rattle.jiter_incremental.specs.Slot.{OpenFrame, around, begun, filled}
-use Rattle.jiter_incremental.specs.declared.reader.Awaits.{Awaits}
 use Rattle.jiter_incremental.specs.declared.reader.Awaits.TheVariants as awaits
-use Rattle.jiter_incremental.specs.declared.reader.Reader.{Reader}
-use Rattle.jiter_incremental.specs.declared.reader.Token.{Token}
 use Rattle.jiter_incremental.specs.declared.reader.Token.TheVariants as token
 use Rattle.jiter_incremental.proofs.Chunks.{range-long, take-on}
 use Rattle.jiter_incremental.proofs.Documents.{counted-holding, known-as}

@@ -21,3 +21,4 @@ pub mod Slots
 pub mod StringSteps
 pub mod TextBegins
 pub mod WholeLiterals
+pub mod Words

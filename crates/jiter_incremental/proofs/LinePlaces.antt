@@ -1,16 +1,17 @@
 -- The line and column of an index, by the line feeds before it.
-use Rattle.std.proofs.Common.{◌≡◌, ◌∙◌, ap, ap₂, refl, sym, ℕ, zero, suc, ◌+◌, ◌-◌, ◌≤◌, ◌<◌, Bool, true, false, cond}
-use Rattle.std.proofs.Common.{List, [], ◌∷◌, ◌++◌, length, length-take-le, get_or, take, arith, add-zero, zero-add}
-use Rattle.std.proofs.Common.{◌≢◌, add-one, append_assoc, append-nil}
-use Rattle.std.proofs.lemmas.List.{take_all}
+use Rattle.jiter_incremental.proofs.Words.{◌≡◌, ◌∙◌, ap, ap₂, refl, sym, ℕ, zero, suc, ◌+◌, ◌-◌, ◌≤◌, ◌<◌, Bool, true}
+use Rattle.jiter_incremental.proofs.Words.{false, List, [], ◌∷◌, ◌++◌, length, length-take-le, get_or, take, arith, ◌≢◌}
+use Rattle.jiter_incremental.proofs.Words.{add-one, append_assoc, append-nil, take_all, if◌then◌else◌, not, feeds_from}
+use Rattle.std.proofs.Common.{cond}
+use Rattle.std.proofs.Common.{add-zero, zero-add}
 use Rattle.std.proofs.Math.Seq.{take-suc}
-use Rattle.std.specs.Prelude.{if◌then◌else◌, nat_lt, not, count_by}
+use Rattle.std.specs.Prelude.{nat_lt, count_by}
 use Rattle.std.specs.List.{take_while}
 use Rattle.std.proofs.lemmas.List.Sums.{sum_by-cons, take_while-cons}
 use mathlib.Core.List.{reverse_aux}
 use Rattle.jiter_scan.specs.Position.{is_newline, column_of, line_of, position_of}
 use Rattle.jiter_scan.specs.declared.errors.LinePosition.{LinePosition}
-use Rattle.jiter_incremental.specs.LineIndex.{feeds_from, line_index}
+use Rattle.jiter_incremental.specs.LineIndex.{line_index}
 
 -- the indices of the line feeds of two texts, one after the other
 feeds-append : (n : ℕ) (a b : List ℕ) → feeds_from n (a ++ b) ≡ feeds_from n a ++ feeds_from (n + length a) b

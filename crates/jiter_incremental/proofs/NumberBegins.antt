@@ -1,32 +1,19 @@
 -- A scalar begins in a chunk, or a number is read there, in an open container whatever that is in.
-use Rattle.std.proofs.Common.{◌≡◌, ℕ, ◌+◌, ◌-◌, ◌<◌, ◌≤◌, true, false, List, [], ◌∷◌, ◌++◌, length, refl, sym}
-use Rattle.std.proofs.Common.{subst}
-use Rattle.std.proofs.Common.{◌==◌, Bool, arith, eqb-true}
-use Rattle.std.specs.Prelude.{slice_index, slice_range, Vec}
-use Rattle.std.specs.declared.alloc.Global.{Global}
-use Rattle.std.specs.declared.borrow.CowStr.{CowStr}
-use Rattle.jiter_scan.specs.Number.{Number}
+use Rattle.jiter_incremental.proofs.Words.{◌≡◌, ℕ, ◌+◌, ◌-◌, ◌<◌, ◌≤◌, true, false, List, [], ◌∷◌, ◌++◌, length, refl}
+use Rattle.jiter_incremental.proofs.Words.{sym, subst, ◌==◌, Bool, arith, eqb-true, slice_index, slice_range, Vec}
+use Rattle.jiter_incremental.proofs.Words.{Global, CowStr, Number, HoldsNumber, begins_decimal, PartialNumber, is_blank}
+use Rattle.jiter_incremental.proofs.Words.{start_of, number_tree, text_view, Tree, owned_text, tree_as, BeginsHere}
+use Rattle.jiter_incremental.proofs.Words.{HasReadIn, HasTakenIn, NameBegins, anything, between_tokens, in_scalar}
+use Rattle.jiter_incremental.proofs.Words.{with_byte, AwaitsValue, AsRead, IsAt, IsComplete, IsHere, Moves, Stays}
+use Rattle.jiter_incremental.proofs.Words.{Steps, after_level, ahead, document, refused, with_shown, AwaitsPart}
+use Rattle.jiter_incremental.proofs.Words.{IsContainer, IsPut, OpenFrame, begun, filled, JsonValue, out-JsonValue, Name}
+use Rattle.jiter_incremental.proofs.Words.{Reader}
 use Rattle.jiter_scan.specs.NumberWithin.{EndsWithin}
-use Rattle.jiter_scan.specs.PartialNumber.{HoldsNumber, begins_decimal}
 use Rattle.jiter_scan.specs.declared.errors.FaultKind.TheVariants as fault_of
-use Rattle.jiter_scan.specs.declared.partial_number.PartialNumber.{PartialNumber}
-use Rattle.jiter_steps.specs.Blank.{is_blank}
-use Rattle.jiter_steps.specs.Literal.{start_of}
-use Rattle.jiter_steps.specs.Node.{number_tree}
-use Rattle.jiter_steps.specs.StringDecoder.{text_view}
-use Rattle.jiter_steps.specs.Tree.{Tree}
 use Rattle.jiter_steps.specs.declared.parse.Start.TheVariants as start
-use Rattle.jiter_value.specs.Owned.{owned_text, tree_as}
-use Rattle.jiter_incremental.specs.Document.{BeginsHere, HasReadIn, HasTakenIn, NameBegins, anything}
-use Rattle.jiter_incremental.specs.Document.{between_tokens, in_scalar, with_byte}
-use Rattle.jiter_incremental.specs.Reader.{AwaitsValue, AsRead, IsAt, IsComplete, IsHere, Moves, Stays, Steps}
-use Rattle.jiter_incremental.specs.Reader.{after_level, ahead, document, refused, with_shown}
-use Rattle.jiter_incremental.specs.Slot.{AwaitsPart, HasRoomAt, IsContainer, IsPut, IsRoomy, OpenFrame, begun, filled}
-use Rattle.jiter_value.specs.declared.value.JsonValue.{JsonValue, out-JsonValue}
-use Rattle.jiter_incremental.specs.declared.names.Name.{Name}
+use Rattle.jiter_incremental.specs.Slot.{HasRoomAt, IsRoomy}
 use Rattle.jiter_incremental.specs.declared.names.Name.TheVariants as name
 use Rattle.jiter_incremental.specs.declared.reader.Awaits.TheVariants as awaits
-use Rattle.jiter_incremental.specs.declared.reader.Reader.{Reader}
 use Rattle.jiter_incremental.specs.declared.reader.Token.TheVariants as token
 use Rattle.jiter_incremental.proofs.Arms.{hidden-here, turned}
 use Rattle.jiter_incremental.proofs.Documents.{follows-byte, known-as, refuses, taken-between}

@@ -1,29 +1,18 @@
 -- A number that a chunk cut goes on, ends or is refused, in an open container whatever that is in.
-use Rattle.std.proofs.Common.{◌≡◌, ◌⊎◌, ℕ, ◌+◌, ◌<◌, ◌≤◌, Bool, true, false, List, [], ◌∷◌, ◌++◌, length, refl, sym, subst, ap, ◌∙◌}
-use Rattle.std.proofs.Common.{append-nil, arith, inl, inr}
-use Rattle.std.specs.Prelude.{Result, Ok, Err, IfOk, OnErr, slice_index, slice_range, string_bytes}
-use Rattle.std.specs.declared.alloc.Global.{Global}
-use Rattle.std.specs.declared.borrow.CowStr.{CowStr}
-use Rattle.std.proofs.lemmas.Option.{none-some}
-use Rattle.jiter_scan.specs.Kind.{fault_kind, is_forgiven}
-use Rattle.jiter_scan.specs.PartialNumber.{Fits, HoldsNumber, IsBegun, Leads, number_by}
-use Rattle.jiter_scan.specs.Scanned.{failed}
-use Rattle.jiter_scan.specs.declared.errors.FaultKind.{FaultKind}
+use Rattle.jiter_incremental.proofs.Words.{◌≡◌, ◌⊎◌, ℕ, ◌+◌, ◌<◌, ◌≤◌, Bool, true, false, List, [], ◌∷◌, ◌++◌, length}
+use Rattle.jiter_incremental.proofs.Words.{refl, sym, subst, ap, ◌∙◌, append-nil, arith, inl, inr, Result, Ok, Err}
+use Rattle.jiter_incremental.proofs.Words.{IfOk, OnErr, slice_index, slice_range, string_bytes, Global, CowStr}
+use Rattle.jiter_incremental.proofs.Words.{none-some, fault_kind, is_forgiven, HoldsNumber, IsBegun, Leads, number_by}
+use Rattle.jiter_incremental.proofs.Words.{failed, FaultKind, PartialNumber, PartialWord, is_blank, text_view, Tree}
+use Rattle.jiter_incremental.proofs.Words.{HasCome, HasReadIn, HasTakenIn, IsReadAs, anything, in_scalar, own_number}
+use Rattle.jiter_incremental.proofs.Words.{with_byte, name_word, AsRead, HasReadTo, IsAt, IsComplete, IsHere, Stays}
+use Rattle.jiter_incremental.proofs.Words.{Steps, after_level, ahead, ahead_as, document, refused, with_shown, IsPut}
+use Rattle.jiter_incremental.proofs.Words.{OpenFrame, filled, Reader}
+use Rattle.jiter_scan.specs.PartialNumber.{Fits}
 use Rattle.jiter_scan.specs.declared.errors.FaultKind.TheVariants as fault_of
-use Rattle.jiter_scan.specs.declared.partial_number.PartialNumber.{PartialNumber}
 use Rattle.jiter_scan.specs.declared.partial_number.Went.{Went}
 use Rattle.jiter_scan.specs.declared.partial_number.Went.TheVariants as went
-use Rattle.jiter_scan.specs.declared.partial_word.PartialWord.{PartialWord}
-use Rattle.jiter_steps.specs.Blank.{is_blank}
-use Rattle.jiter_steps.specs.StringDecoder.{text_view}
-use Rattle.jiter_steps.specs.Tree.{Tree}
-use Rattle.jiter_incremental.specs.Document.{HasCome, HasReadIn, HasTakenIn, IsReadAs, anything, in_scalar, own_number, with_byte}
-use Rattle.jiter_incremental.specs.Names.{name_word}
-use Rattle.jiter_incremental.specs.Reader.{AsRead, HasReadTo, IsAt, IsComplete, IsHere, Stays, Steps, after_level, ahead, ahead_as}
-use Rattle.jiter_incremental.specs.Reader.{document, refused, with_shown}
-use Rattle.jiter_incremental.specs.Slot.{IsPut, OpenFrame, filled}
 use Rattle.jiter_incremental.specs.declared.names.Name.TheVariants as name
-use Rattle.jiter_incremental.specs.declared.reader.Reader.{Reader}
 use Rattle.jiter_incremental.specs.declared.reader.Token.TheVariants as token
 use Rattle.jiter_incremental.proofs.Arms.{byte-taken}
 use Rattle.jiter_incremental.proofs.Between.{goes-blank, put-left, scalar-read}

@@ -1,19 +1,12 @@
 -- A document that is over takes whatever comes.
-use Rattle.std.proofs.Common.{◌≡◌, ℕ, ◌+◌, ◌-◌, ◌<◌, ◌≤◌, false, List, ◌∷◌, [], ◌++◌, length, take, refl, sym, subst, ap, ◌∙◌}
-use Rattle.std.proofs.Common.{arith, inl, inr}
-use Rattle.std.specs.Prelude.{slice_get, slice_index, slice_range, Option, None, Some, Result, Ok, Err, IfOk, OnErr}
-use Rattle.jiter_steps.specs.Blank.{is_blank}
-use Rattle.std.proofs.lemmas.Option.{none-some, slice_get-get_or}
-use Rattle.jiter_scan.proofs.Standing.{slice_range-split}
-use Rattle.jiter_scan.specs.declared.errors.Fault.{Fault}
-use Rattle.jiter_steps.specs.Tree.{Tree}
-use Rattle.jiter_incremental.specs.Document.{Document, Follows, HasReadIn, HasTakenIn, IsOver, MayRefuseAt, Next}
-use Rattle.jiter_incremental.specs.Reader.{HasReadTo, IsAt, IsComplete, Ready, Refuses, Stays, Steps, Went, ahead, ahead_as, document, next_of}
-use Rattle.jiter_incremental.specs.Slot.{OpenFrame, filled}
-use Rattle.jiter_incremental.specs.declared.reader.Awaits.{Awaits}
+use Rattle.jiter_incremental.proofs.Words.{◌≡◌, ℕ, ◌+◌, ◌-◌, ◌<◌, ◌≤◌, false, List, ◌∷◌, [], ◌++◌, length, take, refl}
+use Rattle.jiter_incremental.proofs.Words.{sym, subst, ap, ◌∙◌, arith, inl, inr, slice_get, slice_index, slice_range}
+use Rattle.jiter_incremental.proofs.Words.{Option, None, Some, Result, Ok, Err, IfOk, OnErr, is_blank, none-some}
+use Rattle.jiter_incremental.proofs.Words.{slice_get-get_or, slice_range-split, Fault, Tree, Document, Follows}
+use Rattle.jiter_incremental.proofs.Words.{HasReadIn, HasTakenIn, IsOver, MayRefuseAt, Next, HasReadTo, IsAt}
+use Rattle.jiter_incremental.proofs.Words.{IsComplete, Ready, Refuses, Stays, Steps, Went, ahead, ahead_as, document}
+use Rattle.jiter_incremental.proofs.Words.{next_of, OpenFrame, filled, Awaits, Reader, Token}
 use Rattle.jiter_incremental.specs.declared.reader.Awaits.TheVariants as awaits
-use Rattle.jiter_incremental.specs.declared.reader.Reader.{Reader}
-use Rattle.jiter_incremental.specs.declared.reader.Token.{Token}
 use Rattle.jiter_incremental.specs.declared.reader.Token.TheVariants as token
 use Rattle.jiter_incremental.proofs.Arms.{hidden-nothing}
 use Rattle.jiter_incremental.proofs.Documents.{over-takes}

@@ -1,15 +1,8 @@
 -- Whitespace of a chunk is taken, in an open container whatever that is in.
-use Rattle.std.proofs.Common.{◌≡◌, ℕ, ◌+◌, ◌-◌, ◌<◌, ◌≤◌, true, List, ◌∷◌, [], ◌++◌, length, refl, sym, subst, ap, ◌∙◌}
-use Rattle.std.proofs.Common.{append_assoc, arith}
-use Rattle.std.specs.Prelude.{slice_index, slice_range}
-use Rattle.jiter_scan.proofs.Standing.{slice_range-split}
-use Rattle.jiter_steps.specs.Blank.{is_blank, past_blanks}
-use Rattle.jiter_steps.specs.Tree.{Tree}
-use Rattle.jiter_steps.proofs.Grammar.Blanks.{past_blanks-blank}
-use Rattle.jiter_incremental.specs.Document.{HasTakenIn, anything}
-use Rattle.jiter_incremental.specs.Reader.{IsHere, Steps, ahead, document}
-use Rattle.jiter_incremental.specs.Slot.{filled}
-use Rattle.jiter_incremental.specs.declared.reader.Reader.{Reader}
+use Rattle.jiter_incremental.proofs.Words.{◌≡◌, ℕ, ◌+◌, ◌-◌, ◌<◌, ◌≤◌, true, List, ◌∷◌, [], ◌++◌, length, refl, sym}
+use Rattle.jiter_incremental.proofs.Words.{subst, ap, ◌∙◌, append_assoc, arith, slice_index, slice_range}
+use Rattle.jiter_incremental.proofs.Words.{slice_range-split, is_blank, past_blanks, Tree, past_blanks-blank}
+use Rattle.jiter_incremental.proofs.Words.{HasTakenIn, anything, IsHere, Steps, ahead, document, filled, Reader}
 use Rattle.jiter_incremental.specs.declared.reader.Token.TheVariants as token
 use Rattle.jiter_incremental.proofs.Arms.{here-at, hidden-here}
 use Rattle.jiter_incremental.proofs.Between.{goes-blank}

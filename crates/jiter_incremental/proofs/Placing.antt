@@ -1,33 +1,17 @@
 -- A value of a chunk is put where one is awaited, in an open container whatever that is in.
-use Rattle.std.proofs.Common.{◌≡◌, ℕ, ◌+◌, ◌-◌, ◌<◌, ◌≤◌, false, List, [], ◌∷◌, ◌++◌, length, refl, sym, subst, ap, ◌∙◌}
-use Rattle.std.proofs.Common.{add-one, arith, inl}
-use Rattle.std.specs.Prelude.{slice_index, slice_range}
-use Rattle.std.specs.declared.alloc.Global.{Global}
-use Rattle.std.specs.declared.borrow.CowStr.{CowStr}
-use Rattle.jiter_scan.specs.Kind.{fault_kind}
-use Rattle.jiter_scan.specs.declared.errors.FaultKind.{FaultKind}
+use Rattle.jiter_incremental.proofs.Words.{◌≡◌, ℕ, ◌+◌, ◌-◌, ◌<◌, ◌≤◌, false, List, [], ◌∷◌, ◌++◌, length, refl, sym}
+use Rattle.jiter_incremental.proofs.Words.{subst, ap, ◌∙◌, add-one, arith, inl, slice_index, slice_range, Global}
+use Rattle.jiter_incremental.proofs.Words.{CowStr, fault_kind, FaultKind, is_blank, items_frame, members_frame}
+use Rattle.jiter_incremental.proofs.Words.{start_of, fault, opening, text_view, Text, Tree, ContainerKind, at_value}
+use Rattle.jiter_incremental.proofs.Words.{between_parts, Everywhere, TakesByte, completed, BeginsHere, Follows}
+use Rattle.jiter_incremental.proofs.Words.{HasReadIn, IsAllowed, IsNumberWithin, IsScalarWithin, StandsAt, WordBegins}
+use Rattle.jiter_incremental.proofs.Words.{anything, between_tokens, with_byte, name_start, name_word, Name}
+use Rattle.jiter_incremental.proofs.Words.{PartialWord, AwaitsValue, HasReadTo, IsAt, IsHere, Moves, Steps, after_level}
+use Rattle.jiter_incremental.proofs.Words.{ahead, document, refused, AwaitsPart, IsOfKey, IsPut, OpenFrame, begun}
+use Rattle.jiter_incremental.proofs.Words.{filled, empty_tree, Reader}
 use Rattle.jiter_scan.specs.declared.errors.FaultKind.TheVariants as fault_of
-use Rattle.jiter_steps.specs.Blank.{is_blank}
-use Rattle.jiter_steps.specs.Frames.{items_frame, members_frame}
-use Rattle.jiter_steps.specs.Literal.{start_of}
-use Rattle.jiter_steps.specs.Read.{fault}
-use Rattle.jiter_steps.specs.Step.{opening}
-use Rattle.jiter_steps.specs.StringDecoder.{text_view}
-use Rattle.jiter_steps.specs.Tree.{Text, Tree}
-use Rattle.jiter_steps.specs.declared.parse.ContainerKind.{ContainerKind}
 use Rattle.jiter_steps.specs.declared.parse.Start.TheVariants as start
-use Rattle.jiter_incremental.specs.Arrived.{at_value, between_parts}
-use Rattle.jiter_incremental.specs.Between.{Everywhere, TakesByte, completed}
-use Rattle.jiter_incremental.specs.Document.{BeginsHere, Follows, HasReadIn, IsAllowed, IsNumberWithin, IsScalarWithin, StandsAt, WordBegins, anything}
-use Rattle.jiter_incremental.specs.Document.{between_tokens, with_byte}
-use Rattle.jiter_incremental.specs.Names.{name_start, name_word}
-use Rattle.jiter_incremental.specs.declared.names.Name.{Name}
-use Rattle.jiter_scan.specs.declared.partial_word.PartialWord.{PartialWord}
-use Rattle.jiter_incremental.specs.Reader.{AwaitsValue, HasReadTo, IsAt, IsHere, Moves, Steps, after_level, ahead, document, refused}
-use Rattle.jiter_incremental.specs.Slot.{AwaitsPart, IsOfKey, IsPut, OpenFrame, begun, filled}
-use Rattle.jiter_value.specs.Stacks.{empty_tree}
 use Rattle.jiter_incremental.specs.declared.reader.Awaits.TheVariants as awaits
-use Rattle.jiter_incremental.specs.declared.reader.Reader.{Reader}
 use Rattle.jiter_incremental.specs.declared.reader.Token.TheVariants as token
 use Rattle.jiter_incremental.proofs.Arms.{hidden-here, turned}
 use Rattle.jiter_incremental.proofs.Between.{no-parts, put-left, scalar-read, value-begins, value-here, value-none, value-too_deep}

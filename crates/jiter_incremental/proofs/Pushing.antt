@@ -1,26 +1,15 @@
 -- What a parser of a document that comes in chunks has received of them.
-use Rattle.std.proofs.Common.{◌≡◌, Bool, ℕ, ◌+◌, ◌^◌, ◌<◌, ◌≤◌, List, [], ◌∷◌, ◌++◌, length, take, drop, get_or}
+use Rattle.jiter_incremental.proofs.Words.{◌≡◌, Bool, ℕ, ◌+◌, ◌^◌, ◌<◌, ◌≤◌, List, [], ◌∷◌, ◌++◌, length, take, drop}
+use Rattle.jiter_incremental.proofs.Words.{get_or, refl, sym, ap, ◌∙◌, subst, inl, arith, length-append, flat_map}
+use Rattle.jiter_incremental.proofs.Words.{Result, Err, append-nil, take-append-drop, take_more, JsonError, Off}
+use Rattle.jiter_incremental.proofs.Words.{past_blanks, nesting_limit, null, HasArrived, MayRefuseAt, HasReceived}
+use Rattle.jiter_incremental.proofs.Words.{document, Reader, owned_tree, Parses, view, JsonValue, parses}
 use Rattle.std.proofs.Common.{Bor}
-use Rattle.std.proofs.Common.{refl, sym, ap, ◌∙◌, subst, inl, arith, length-append}
-use Rattle.std.specs.List.{flat_map}
-use Rattle.std.specs.Prelude.{Result, Err}
 use Rattle.std.proofs.lemmas.Grind.{flat_map-append}
-use Rattle.std.proofs.lemmas.List.{append-nil, take-append-drop, take_more}
-use Rattle.jiter_scan.specs.declared.errors.JsonError.{JsonError}
 use Rattle.jiter_scan.specs.declared.errors.JsonErrorType.TheVariants.{OutOfMemory}
-use Rattle.jiter_scan.specs.declared.partial_mode.PartialMode.TheVariants.{Off}
-use Rattle.jiter_steps.specs.Blank.{past_blanks}
-use Rattle.jiter_steps.specs.Node.{nesting_limit}
-use Rattle.jiter_steps.specs.Tree.{null}
-use Rattle.jiter_incremental.specs.Document.{HasArrived, MayRefuseAt}
-use Rattle.jiter_incremental.specs.IncrementalParser.{HasReceived, received}
-use Rattle.jiter_incremental.specs.Reader.{document}
-use Rattle.jiter_incremental.specs.declared.reader.Reader.{Reader}
-use Rattle.jiter_value.specs.Owned.{owned_tree}
-use Rattle.jiter_value.specs.Parses.{Parses}
-use Rattle.jiter_value.specs.Value.{view}
-use Rattle.jiter_value.specs.declared.value.JsonValue.{JsonValue, Null}
-use Rattle.jiter_value.proofs.ParsedDocuments.{parses, parses-same}
+use Rattle.jiter_incremental.specs.IncrementalParser.{received}
+use Rattle.jiter_value.specs.declared.value.JsonValue.{Null}
+use Rattle.jiter_value.proofs.ParsedDocuments.{parses-same}
 use Rattle.jiter_value.proofs.Views.{view_null}
 use Rattle.jiter_incremental.proofs.Documents.Blanks.{refuse-on}
 

@@ -1,23 +1,13 @@
 -- What a parser of a document that comes in chunks answers.
-use Rattle.std.proofs.Common.{◌≡◌, ℕ, List, inr, refl, sym, ap, ap₂, ◌∙◌}
-use Rattle.std.specs.Prelude.{Option, Some, None, Ok, Err}
-use Rattle.std.proofs.lemmas.Option.{same_Some}
-use Rattle.jiter_scan.specs.Kind.{fault_kind, kind_of}
-use Rattle.jiter_scan.specs.declared.errors.Fault.{Fault}
-use Rattle.jiter_scan.specs.declared.errors.JsonError.{JsonError}
-use Rattle.jiter_steps.specs.Read.{done, fault}
-use Rattle.jiter_steps.specs.Tree.{Tree}
-use Rattle.jiter_incremental.specs.Arrived.{owned}
-use Rattle.jiter_incremental.specs.Ends.{AnswersSo}
-use Rattle.jiter_value.specs.Owned.{owned_tree}
-use Rattle.jiter_value.specs.Parses.{Parses, keeping_repeats, reading_as}
-use Rattle.jiter_value.specs.Settings.{answer_as, answer_by}
-use Rattle.jiter_value.specs.Value.{view}
-use Rattle.jiter_value.specs.declared.settings.Settings.{Settings}
-use Rattle.jiter_value.specs.declared.value.JsonValue.{JsonValue}
+use Rattle.jiter_incremental.proofs.Words.{◌≡◌, ℕ, List, inr, refl, sym, ap, ap₂, ◌∙◌, Option, Some, None, Ok, Err}
+use Rattle.jiter_incremental.proofs.Words.{same_Some, fault_kind, Fault, JsonError, done, fault, Tree, owned, AnswersSo}
+use Rattle.jiter_incremental.proofs.Words.{owned_tree, Parses, answer_as, view, Settings, JsonValue, parses}
+use Rattle.jiter_scan.specs.Kind.{kind_of}
+use Rattle.jiter_value.specs.Parses.{keeping_repeats, reading_as}
+use Rattle.jiter_value.specs.Settings.{answer_by}
 use Rattle.jiter_value.proofs.MadeTexts.{answer_as-is}
 use Rattle.jiter_value.proofs.ParsedBy as parsed
-use Rattle.jiter_value.proofs.ParsedDocuments.{laws, parses}
+use Rattle.jiter_value.proofs.ParsedDocuments.{laws}
 
 -- What every parse promises, once the answer is told: the value,
 module _ (p : Settings) (t : List ℕ) where

@@ -1,21 +1,13 @@
 -- A document whose unfinished scalar is in the value so far, or apart from it.
-use Rattle.std.proofs.Common.{◌≡◌, ℕ, zero, suc, ◌+◌, ◌-◌, ◌<◌, Bool, false, List, [], ◌∷◌, ◌++◌, length, take, drop, get_or, refl, sym, subst, ap, ◌∙◌}
-use Rattle.std.proofs.Common.{◌≤◌, arith, inl, true}
-use Rattle.std.proofs.lemmas.Bool.{false≢true}
-use Rattle.jiter_steps.specs.Node.{nesting_limit}
-use Rattle.std.specs.Prelude.{slice_index, slice_range, None}
-use Rattle.std.proofs.lemmas.Option.{slice_get-get_or}
-use Rattle.jiter_scan.proofs.Standing.{slice-one}
-use Rattle.jiter_steps.specs.Tree.{Tree, null}
-use Rattle.jiter_incremental.specs.Document.{Document, HasReadIn, HasTakenIn, Holding, HoldsScalar, HasArrived, Parted, Settled}
-use Rattle.jiter_incremental.specs.Document.{IsMoved, Next, Opened, anything, between_tokens}
-use Rattle.jiter_incremental.specs.Document.{in_key, in_scalar, is_shown, shown_as, with_byte, with_parts}
-use Rattle.jiter_incremental.specs.Reader.{HasReadTo, IsAt, IsStill, Moves, Steps, after_level, ahead, ahead_as, document, next_of}
-use Rattle.jiter_incremental.specs.Slot.{OpenFrame, filled}
+use Rattle.jiter_incremental.proofs.Words.{◌≡◌, ℕ, zero, suc, ◌+◌, ◌-◌, ◌<◌, Bool, false, List, [], ◌∷◌, ◌++◌, length}
+use Rattle.jiter_incremental.proofs.Words.{take, drop, get_or, refl, sym, subst, ap, ◌∙◌, ◌≤◌, arith, inl, true}
+use Rattle.jiter_incremental.proofs.Words.{false≢true, nesting_limit, slice_index, slice_range, None, slice_get-get_or}
+use Rattle.jiter_incremental.proofs.Words.{slice-one, Tree, null, Document, HasReadIn, HasTakenIn, Holding, HoldsScalar}
+use Rattle.jiter_incremental.proofs.Words.{HasArrived, Parted, Settled, IsMoved, Next, Opened, anything, between_tokens}
+use Rattle.jiter_incremental.proofs.Words.{in_key, in_scalar, is_shown, shown_as, with_byte, with_parts, HasReadTo}
+use Rattle.jiter_incremental.proofs.Words.{IsAt, IsStill, Moves, Steps, after_level, ahead, ahead_as, document, next_of}
+use Rattle.jiter_incremental.proofs.Words.{OpenFrame, filled, Awaits, Reader, Token}
 use Rattle.jiter_incremental.proofs.Documents.{known-any}
-use Rattle.jiter_incremental.specs.declared.reader.Awaits.{Awaits}
-use Rattle.jiter_incremental.specs.declared.reader.Reader.{Reader}
-use Rattle.jiter_incremental.specs.declared.reader.Token.{Token}
 use Rattle.jiter_incremental.specs.declared.reader.Token.TheVariants as token
 
 pub read-any : (m : Next) (d : Document) (t : List ℕ) → HasReadIn anything d t → HasReadIn m d t

@@ -1,29 +1,19 @@
 -- An unfinished scalar is moved into the value so far, and out of it again, in an open container whatever that is in.
-use Rattle.std.proofs.Common.{◌≡◌, ℕ, ◌+◌, ◌<◌, true, false, List, [], ◌∷◌, length, refl, sym, subst, ap, ap₂, ◌∙◌}
-use Rattle.std.proofs.Common.{◌⊎◌, ◌++◌, Bool, add-one, arith}
-use Rattle.std.specs.Prelude.{string_bytes, slice_range, None, Result, Ok, Err, IfOk, OnErr}
-use Rattle.std.specs.declared.alloc.Global.{Global}
-use Rattle.std.specs.declared.borrow.CowStr.{CowStr}
-use Rattle.jiter_scan.specs.Number.{Number, number_value}
-use Rattle.jiter_scan.specs.PartialNumber.{IsBegun, number_from}
-use Rattle.jiter_scan.specs.declared.partial_number.PartialNumber.{PartialNumber}
-use Rattle.jiter_steps.specs.Frames.{items_frame, members_frame}
-use Rattle.jiter_steps.specs.Node.{number_tree}
-use Rattle.jiter_steps.specs.PartialString.{HasTaken}
+use Rattle.jiter_incremental.proofs.Words.{◌≡◌, ℕ, ◌+◌, ◌<◌, true, false, List, [], ◌∷◌, length, refl, sym, subst, ap}
+use Rattle.jiter_incremental.proofs.Words.{ap₂, ◌∙◌, ◌⊎◌, ◌++◌, Bool, add-one, arith, string_bytes, slice_range, None}
+use Rattle.jiter_incremental.proofs.Words.{Result, Ok, Err, IfOk, OnErr, Global, CowStr, Number, number_value, IsBegun}
+use Rattle.jiter_incremental.proofs.Words.{number_from, PartialNumber, items_frame, members_frame, number_tree}
+use Rattle.jiter_incremental.proofs.Words.{HasTaken, text_view, Text, Tree, string, PartialString, owned_text, tree_as}
+use Rattle.jiter_incremental.proofs.Words.{IsLeft, OpenValue, at_value, text_of, Document, HasMoved, HasReadIn}
+use Rattle.jiter_incremental.proofs.Words.{HasTakenIn, Holding, HoldsScalar, IsMoved, Next, Opened, Parted, TakenFrom}
+use Rattle.jiter_incremental.proofs.Words.{anything, between_tokens, in_key, in_scalar, is_shown, token_tree}
+use Rattle.jiter_incremental.proofs.Words.{with_parts, AsRead, HasReadTo, IsAt, IsComplete, IsHere, Moves, Stays, Steps}
+use Rattle.jiter_incremental.proofs.Words.{ahead, document, with_shown, AwaitsPart, HasValue, IsContainer, IsOfKey}
+use Rattle.jiter_incremental.proofs.Words.{IsPut, OpenFrame, around, begun, filled, Reader, Token}
 use Rattle.jiter_steps.specs.PartialText.{with_text}
-use Rattle.jiter_steps.specs.StringDecoder.{text_view}
-use Rattle.jiter_steps.specs.Tree.{Text, Tree, string}
-use Rattle.jiter_steps.specs.declared.partial_string.PartialString.{PartialString}
-use Rattle.jiter_value.specs.Owned.{owned_text, tree_as}
-use Rattle.jiter_incremental.specs.Arrived.{IsLeft, OpenValue, at_value}
-use Rattle.jiter_incremental.specs.Between.{text_of}
-use Rattle.jiter_incremental.specs.Document.{Document, HasMoved, HasReadIn, HasTakenIn, Holding, HoldsScalar, IsMoved, Next, Opened}
-use Rattle.jiter_incremental.specs.Document.{Parted, TakenFrom, anything, between_tokens, bytes_in, in_key, in_scalar, is_shown, token_tree, with_parts}
-use Rattle.jiter_incremental.specs.Reader.{AsRead, HasReadTo, IsAt, IsComplete, IsHere, Moves, Stays, Steps, ahead, document, with_shown}
-use Rattle.jiter_incremental.specs.Slot.{AwaitsPart, HasPart, HasValue, IsContainer, IsOfKey, IsPut, IsTaken, OpenFrame, around, begun, filled}
+use Rattle.jiter_incremental.specs.Document.{bytes_in}
+use Rattle.jiter_incremental.specs.Slot.{HasPart, IsTaken}
 use Rattle.jiter_incremental.specs.declared.reader.Awaits.TheVariants as awaits
-use Rattle.jiter_incremental.specs.declared.reader.Reader.{Reader}
-use Rattle.jiter_incremental.specs.declared.reader.Token.{Token}
 use Rattle.jiter_incremental.specs.declared.reader.Token.TheVariants as token
 use Rattle.jiter_incremental.proofs.Documents.{known-as}
 use Rattle.jiter_incremental.proofs.Leading.{moved-key, moved-nothing, open-settled}

@@ -1,24 +1,18 @@
 -- The open containers of a value that comes in chunks: a part is put into one, taken out of it, or changed inside it.
-use Rattle.std.proofs.Common.{◌≡◌, ℕ, zero, suc, ◌≤◌, ◌+◌, ◌-◌, ◌<◌, List, [], ◌∷◌, ◌++◌, length, take, map, get_or}
-use Rattle.std.proofs.Common.{refl, sym, subst, ap, ap₂, ◌∙◌, arith, length-append, Vec, rules, vec_len}
-use Rattle.std.specs.Prelude.{slice_set, Result, Ok, Err, OnOk, OnErr}
-use Rattle.std.specs.Vec.{with_item}
-use Rattle.std.specs.declared.alloc.Global.{Global}
-use Rattle.std.specs.declared.borrow.CowStr.{CowStr}
-use Rattle.std.proofs.Math.Seq.{set-append_seam, get_or-append_seam}
-use Rattle.std.proofs.lemmas.List.{map_push, take_all, take_more, length-map, same_from_push}
-use Rattle.jiter_steps.specs.Frames.{items_frame, members_frame}
-use Rattle.jiter_steps.specs.StringDecoder.{text_view}
-use Rattle.jiter_steps.specs.Tree.{Text, Tree, Items, no_items, item, Members, no_members, member, array, object}
-use Rattle.jiter_steps.specs.Tree.{items_of, members_of, string}
-use Rattle.jiter_incremental.specs.Between.{text_of}
-use Rattle.jiter_incremental.specs.Strings.{IsGrown}
-use Rattle.jiter_incremental.specs.Slot.{OpenFrame, around, begun, filled, IsOfKey}
-use Rattle.jiter_value.specs.Stacks.{Member, member_view}
-use Rattle.jiter_value.specs.Value.{view}
-use Rattle.jiter_value.specs.declared.value.JsonValue.{JsonValue, Array, Object, out-JsonValue, the_lemmas}
-use Rattle.jiter_value.specs.declared.value.JsonValue.TheOpen.{JsonValue-F}
-use Rattle.jiter_value.proofs.Views.{view_array, view_object}
+use Rattle.jiter_incremental.proofs.Words.{◌≡◌, ℕ, zero, suc, ◌≤◌, ◌+◌, ◌-◌, ◌<◌, List, [], ◌∷◌, ◌++◌, length, take}
+use Rattle.jiter_incremental.proofs.Words.{get_or, refl, sym, subst, ap, ap₂, ◌∙◌, arith, length-append, Vec, rules}
+use Rattle.jiter_incremental.proofs.Words.{vec_len, Result, Ok, Err, OnErr, with_item, Global, CowStr}
+use Rattle.jiter_incremental.proofs.Words.{get_or-append_seam, take_all, take_more, items_frame, members_frame}
+use Rattle.jiter_incremental.proofs.Words.{text_view, Text, Tree, array, object, items_of, members_of, string, text_of}
+use Rattle.jiter_incremental.proofs.Words.{IsGrown, OpenFrame, around, begun, filled, IsOfKey, Member, view, JsonValue}
+use Rattle.jiter_incremental.proofs.Words.{Array, Object, out-JsonValue, the_lemmas, JsonValue-F, view_array}
+use Rattle.jiter_incremental.proofs.Words.{view_object}
+use Rattle.std.proofs.Common.{map}
+use Rattle.std.specs.Prelude.{slice_set, OnOk}
+use Rattle.std.proofs.Math.Seq.{set-append_seam}
+use Rattle.std.proofs.lemmas.List.{map_push, length-map, same_from_push}
+use Rattle.jiter_steps.specs.Tree.{Items, no_items, item, Members, no_members, member}
+use Rattle.jiter_value.specs.Stacks.{member_view}
 
 -- a list that is not empty, by its last
 pub last-of : {X : Type 0} (xs : List X) → 0 < length xs → (x : X) × (xs ≡ take (length xs - 1) xs ++ x ∷ [])

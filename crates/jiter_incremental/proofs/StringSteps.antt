@@ -1,37 +1,19 @@
 -- Words and strings that a chunk cut go on and end, in an open container whatever that is in.
-use Rattle.std.proofs.Common.{◌≡◌, ◌⊎◌, ℕ, ◌+◌, ◌-◌, ◌<◌, ◌≤◌, Bool, true, false, List, [], ◌∷◌, ◌++◌, length, refl}
-use Rattle.std.proofs.Common.{sym, subst, ap, ◌∙◌}
-use Rattle.std.proofs.Common.{arith, inl, inr, length-append}
-use Rattle.std.specs.Prelude.{slice_get, slice_index, slice_range, Option, None, Some}
-use Rattle.std.specs.declared.alloc.Global.{Global}
-use Rattle.std.specs.declared.borrow.CowStr.{CowStr}
-use Rattle.jiter_scan.proofs.Standing.{slice-one}
+use Rattle.jiter_incremental.proofs.Words.{◌≡◌, ◌⊎◌, ℕ, ◌+◌, ◌-◌, ◌<◌, ◌≤◌, Bool, true, false, List, [], ◌∷◌, ◌++◌}
+use Rattle.jiter_incremental.proofs.Words.{length, refl, sym, subst, ap, ◌∙◌, arith, inl, inr, length-append, slice_get}
+use Rattle.jiter_incremental.proofs.Words.{slice_index, slice_range, Option, None, Some, Global, CowStr, slice-one}
+use Rattle.jiter_incremental.proofs.Words.{allows_trailing_strings, Fault, FaultKind, PartialWord, word_by, word_from}
+use Rattle.jiter_incremental.proofs.Words.{Goes, HasTaken, text_view, Tree, null, string, PartialString, text_of}
+use Rattle.jiter_incremental.proofs.Words.{Document, Follows, HasCome, HasReadIn, HasTakenIn, Holding, Known, Next}
+use Rattle.jiter_incremental.proofs.Words.{Opened, anything, HoldsScalar, between_tokens, in_key, in_scalar, is_shown}
+use Rattle.jiter_incremental.proofs.Words.{noted_in, with_byte, name_tree, AsRead, HasReadTo, IsAt, IsComplete, IsHere}
+use Rattle.jiter_incremental.proofs.Words.{Steps, after_level, ahead, ahead_as, document, noted, refused, with_shown}
+use Rattle.jiter_incremental.proofs.Words.{IsPut, OpenFrame, filled, IsClosedAs, IsOfString, IsTextAs, Reader, Token}
 use Rattle.jiter_scan.specs.Ascii as ascii
-use Rattle.jiter_scan.specs.PartialMode.{allows_trailing_strings}
-use Rattle.jiter_scan.specs.declared.errors.Fault.{Fault}
-use Rattle.jiter_scan.specs.declared.errors.FaultKind.{FaultKind}
 use Rattle.jiter_scan.specs.declared.errors.FaultKind.TheVariants as fault_of
-use Rattle.jiter_scan.specs.declared.partial_word.PartialWord.{PartialWord}
 use Rattle.jiter_scan.specs.declared.partial_word.Seen.TheVariants as seen
-use Rattle.jiter_scan.specs.PartialWord.{word_by, word_from}
-use Rattle.jiter_steps.specs.PartialString.{Goes, HasTaken, IsCountAt}
-use Rattle.jiter_steps.specs.StringDecoder.{text_view}
-use Rattle.jiter_steps.specs.Tree.{Tree, null, string}
-use Rattle.jiter_steps.specs.declared.partial_string.PartialString.{PartialString}
+use Rattle.jiter_steps.specs.PartialString.{IsCountAt}
 use Rattle.jiter_steps.specs.declared.partial_string.Went.TheVariants as went
-use Rattle.jiter_incremental.specs.Between.{text_of}
-use Rattle.jiter_incremental.specs.Document.{Document, Follows, HasCome, HasReadIn, HasTakenIn, Holding, Known, Next}
-use Rattle.jiter_incremental.specs.Document.{Opened, anything}
-use Rattle.jiter_incremental.specs.Document.{HoldsScalar, between_tokens, in_key, in_scalar, is_shown, noted_in}
-use Rattle.jiter_incremental.specs.Document.{with_byte}
-use Rattle.jiter_incremental.specs.Names.{name_tree}
-use Rattle.jiter_incremental.specs.Reader.{AsRead, HasReadTo, IsAt, IsComplete, IsHere, Steps}
-use Rattle.jiter_incremental.specs.Reader.{after_level, ahead, ahead_as}
-use Rattle.jiter_incremental.specs.Reader.{document, noted, refused, with_shown}
-use Rattle.jiter_incremental.specs.Slot.{IsPut, OpenFrame, filled}
-use Rattle.jiter_incremental.specs.Strings.{IsClosedAs, IsOfString, IsTextAs}
-use Rattle.jiter_incremental.specs.declared.reader.Reader.{Reader}
-use Rattle.jiter_incremental.specs.declared.reader.Token.{Token}
 use Rattle.jiter_incremental.specs.declared.reader.Token.TheVariants as token
 use Rattle.jiter_incremental.proofs.Arms.{turned}
 use Rattle.jiter_incremental.proofs.Between.{key-read, put-left, scalar-read}

@@ -1,25 +1,13 @@
 -- A string or a key of a chunk, in an open container whatever that is in: it is read whole, or begins there.
-use Rattle.std.proofs.Common.{◌≡◌, ℕ, ◌+◌, ◌-◌, ◌<◌, ◌≤◌, false, List, [], ◌∷◌, ◌++◌, length, get_or, refl, sym, subst}
-use Rattle.std.proofs.Common.{ap, ◌∙◌}
-use Rattle.std.proofs.Common.{arith}
-use Rattle.std.specs.Prelude.{slice_index, slice_range, Vec}
-use Rattle.std.specs.declared.alloc.Global.{Global}
-use Rattle.std.specs.declared.borrow.CowStr.{CowStr}
+use Rattle.jiter_incremental.proofs.Words.{◌≡◌, ℕ, ◌+◌, ◌-◌, ◌<◌, ◌≤◌, false, List, [], ◌∷◌, ◌++◌, length, get_or, refl}
+use Rattle.jiter_incremental.proofs.Words.{sym, subst, ap, ◌∙◌, arith, slice_index, slice_range, Vec, Global, CowStr}
+use Rattle.jiter_incremental.proofs.Words.{is_blank, members_frame, HasTaken, IsTextWithin, text_view, Tree}
+use Rattle.jiter_incremental.proofs.Words.{PartialString, Arrived, IsLeft, at_value, TakesByte, text_of, HasTakenIn}
+use Rattle.jiter_incremental.proofs.Words.{anything, in_key, with_byte, AwaitsKey, AwaitsValue, HasReadTo, AsRead, IsAt}
+use Rattle.jiter_incremental.proofs.Words.{IsComplete, IsHere, Steps, ahead, document, with_shown, OpenFrame, filled}
+use Rattle.jiter_incremental.proofs.Words.{Reader}
 use Rattle.jiter_scan.specs.Ascii as ascii
-use Rattle.jiter_steps.specs.Blank.{is_blank}
-use Rattle.jiter_steps.specs.Frames.{members_frame}
-use Rattle.jiter_steps.specs.PartialString.{HasTaken, IsTextWithin}
-use Rattle.jiter_steps.specs.StringDecoder.{text_view}
-use Rattle.jiter_steps.specs.Tree.{Tree}
-use Rattle.jiter_steps.specs.declared.partial_string.PartialString.{PartialString}
-use Rattle.jiter_incremental.specs.Arrived.{Arrived, IsLeft, at_value}
-use Rattle.jiter_incremental.specs.Between.{TakesByte, text_of}
-use Rattle.jiter_incremental.specs.Document.{HasTakenIn, anything, in_key, with_byte}
-use Rattle.jiter_incremental.specs.Reader.{AwaitsKey, AwaitsValue, HasReadTo, AsRead, IsAt, IsComplete, IsHere, Steps, ahead}
-use Rattle.jiter_incremental.specs.Reader.{document, with_shown}
-use Rattle.jiter_incremental.specs.Slot.{OpenFrame, filled}
 use Rattle.jiter_incremental.specs.declared.reader.Awaits.TheVariants as awaits
-use Rattle.jiter_incremental.specs.declared.reader.Reader.{Reader}
 use Rattle.jiter_incremental.specs.declared.reader.Token.TheVariants as token
 use Rattle.jiter_incremental.proofs.Arms.{hidden-here}
 use Rattle.jiter_incremental.proofs.Between.{at-value, goes-colon, key-read}

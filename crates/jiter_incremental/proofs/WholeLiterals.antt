@@ -1,17 +1,10 @@
 -- A literal of a document that comes in chunks, which lies whole in a chunk.
-use Rattle.std.proofs.Common.{◌≡◌, ◌+◌, ◌<◌, ◌≤◌, ◌∷◌, ◌++◌, ◌∙◌, ℕ, List, ap, arith, get_or, length, refl, subst, sym}
-use Rattle.std.proofs.Common.{length-append}
-use Rattle.std.proofs.lemmas.Option.{slice_get-get_or}
-use Rattle.std.specs.Prelude.{slice_range}
-use Rattle.jiter_scan.proofs.Standing.{slice-one, slice-stands, slice_range-split}
-use Rattle.jiter_scan.proofs.WordLaws.{word_at-complete, word_at-sound}
-use Rattle.jiter_scan.specs.Scanned.{taken}
-use Rattle.jiter_scan.specs.Stands.{Stands}
-use Rattle.jiter_steps.specs.Literal.{literal_at, literal_tree, start_of, word_of}
-use Rattle.jiter_steps.specs.Read.{done}
-use Rattle.jiter_steps.specs.declared.parse.Literal.{Literal}
+use Rattle.jiter_incremental.proofs.Words.{◌≡◌, ◌+◌, ◌<◌, ◌≤◌, ◌∷◌, ◌++◌, ◌∙◌, ℕ, List, ap, arith, get_or, length, refl}
+use Rattle.jiter_incremental.proofs.Words.{subst, sym, length-append, slice_get-get_or, slice_range, slice-one}
+use Rattle.jiter_incremental.proofs.Words.{slice-stands, slice_range-split, word_at-complete, word_at-sound, taken}
+use Rattle.jiter_incremental.proofs.Words.{Stands, literal_at, literal_tree, start_of, word_of, done, Literal}
+use Rattle.jiter_incremental.proofs.Words.{IsScalarWithin}
 use Rattle.jiter_steps.specs.declared.parse.Start.TheVariants as start
-use Rattle.jiter_incremental.specs.Document.{IsScalarWithin}
 use Rattle.jiter_incremental.specs.declared.names.Name.TheVariants as name
 use Rattle.jiter_incremental.proofs.Documents.Tokens.{held-stands, word-done}
 

@@ -1,15 +1,9 @@
 -- Runs of bytes that pass two tests, and where the weaker one ends with the stronger.
-use Rattle.std.proofs.Common.{◌≡◌, ℕ, ◌+◌, ◌-◌, ◌<◌, Bool, true, false, ◌&&◌, cond, List, [], ◌∷◌, length, take, get_or}
-use Rattle.std.proofs.Common.{refl, ap, sym, subst, ◌∙◌, ◌≤◌, arith, suc, drop, eqb}
-use Rattle.std.specs.Prelude.{slice_get, Some}
-use Rattle.std.specs.List.{prefix_len, list_all}
-use Rattle.std.proofs.lemmas.Bool.{eqb-true}
-use Rattle.std.proofs.lemmas.Bool.Decides.{nat_tests}
-use Rattle.std.proofs.lemmas.List.{length-drop, get_or-drop}
-use Rattle.std.proofs.lemmas.Option.{slice_get_within, get_or_from_slice_get}
-use lib.Lanes.{chunk}
-use Rattle.jiter_scan.specs.Scan.{is_plain, is_ascii, is_plain_ascii, run_end, scan_stop, IsAsciiTo}
-use Rattle.jiter_scan.specs.Simd.{failing, ascii_from}
+use Rattle.jiter_scan.proofs.Words.{◌≡◌, ℕ, ◌+◌, ◌-◌, ◌<◌, Bool, true, false, ◌&&◌, cond, List, [], ◌∷◌, length, take}
+use Rattle.jiter_scan.proofs.Words.{get_or, refl, ap, sym, subst, ◌∙◌, ◌≤◌, arith, suc, drop, eqb, slice_get, Some}
+use Rattle.jiter_scan.proofs.Words.{prefix_len, list_all, eqb-true, nat_tests, length-drop, get_or-drop}
+use Rattle.jiter_scan.proofs.Words.{slice_get_within, get_or_from_slice_get, chunk, is_plain, is_ascii, is_plain_ascii}
+use Rattle.jiter_scan.proofs.Words.{run_end, scan_stop, IsAsciiTo, failing, ascii_from}
 use Rattle.jiter_scan.proofs.Chunks.{list_all-failing, none_fails, run_end-on, run_end-through}
 use Rattle.jiter_scan.proofs.PlainRuns.{ascii_from-clear, IsAsciiTo-iff}
 use Rattle.jiter_scan.proofs.Runs.{run_end-stops, run_end-within}

@@ -1,10 +1,6 @@
 -- What follows from a reading that chooses by a test.
-use Rattle.std.proofs.Common.{◌≡◌, ℕ, Bool, true, false, refl, ap}
-use Rattle.std.specs.Prelude.{if◌then◌else◌}
-use Rattle.jiter_scan.specs.Kind.{Kind}
-use Rattle.jiter_scan.specs.Scanned.{taken, failed}
-use Rattle.jiter_scan.specs.Word.{Extent}
-use Rattle.jiter_scan.specs.NumberReading.{extent_then}
+use Rattle.jiter_scan.proofs.Words.{◌≡◌, ℕ, Bool, true, false, refl, ap, if◌then◌else◌, Kind, taken, failed, Extent}
+use Rattle.jiter_scan.proofs.Words.{extent_then}
 
 -- what holds of both choices holds of the choice
 pub if_case : {A : Type 0} (P : A → Type 0) (b : Bool) (x y : A) → (b ≡ true → P x) → (b ≡ false → P y)

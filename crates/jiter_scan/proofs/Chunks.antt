@@ -1,17 +1,12 @@
 -- Runs of bytes that pass a test, seen a chunk at a time.
-use Rattle.std.proofs.Common.{◌≡◌, ℕ, ◌+◌, ◌*◌, ◌/◌, ◌^◌, ◌<◌, ◌≤◌, Bool, true, false, not, ◌&&◌, cond, eqb, List, [], ◌∷◌}
-use Rattle.std.proofs.Common.{length, drop, take, refl, sym, ap, ap₂, take-add, drop-drop, ◌∙◌, arith, zero, suc}
+use Rattle.jiter_scan.proofs.Words.{◌≡◌, ℕ, ◌+◌, ◌*◌, ◌/◌, ◌^◌, ◌<◌, ◌≤◌, Bool, true, false, not, ◌&&◌, cond, eqb, List}
+use Rattle.jiter_scan.proofs.Words.{[], ◌∷◌, length, drop, take, refl, sym, ap, ap₂, take-add, drop-drop, ◌∙◌, arith}
+use Rattle.jiter_scan.proofs.Words.{zero, suc, drop-take, length-chunk, list_all-append, and_parts, eq-eqb, ne_eqb}
+use Rattle.jiter_scan.proofs.Words.{false≢true, nat_tests, prefix_len, list_all, chunk, count_trailing_zeros, run_end}
+use Rattle.jiter_scan.proofs.Words.{Pass, failing}
 use Rattle.std.proofs.lemmas.Nat.{shr-shr, shr_le}
-use Rattle.std.proofs.lemmas.List.{drop-take}
-use Rattle.std.proofs.lemmas.Simd.{chunk-drop, length-chunk, trailing_mask_l}
-use Rattle.std.proofs.lemmas.List.Folds.{prefix_len-append, list_all-append}
-use Rattle.std.proofs.lemmas.Bool.{and_parts, eq-eqb, ne_eqb, false≢true}
-use Rattle.std.proofs.lemmas.Bool.Decides.{nat_tests}
-use Rattle.std.specs.List.{prefix_len, list_all}
-use lib.Lanes.{chunk}
-use lib.Count.{count_trailing_zeros}
-use Rattle.jiter_scan.specs.Scan.{run_end, Pass}
-use Rattle.jiter_scan.specs.Simd.{failing}
+use Rattle.std.proofs.lemmas.Simd.{chunk-drop, trailing_mask_l}
+use Rattle.std.proofs.lemmas.List.Folds.{prefix_len-append}
 use Rattle.jiter_scan.proofs.Runs.{run_end-passes, run_end-passing}
 
 one-more : (b : Bool) (m : ℕ) → (b && eqb m 0) ≡ eqb (cond (not b) 1 0 + 2 * m) 0

@@ -1,23 +1,21 @@
 -- Digits in words of 64 bits: what three multiplications make of eight, and how sixteen are joined.
-use Rattle.std.proofs.Common.{◌≡◌, ℕ, zero, suc, ◌+◌, ◌-◌, ◌*◌, ◌/◌, ◌%◌, ◌^◌, ◌<◌, ◌≤◌, Bool, true, false, cond, eqb}
-use Rattle.std.proofs.Common.{List, [], ◌∷◌, ◌++◌, map, length, get_or, take, drop, replicate, refl, sym, ap, ap₂, ◌∙◌}
-use Rattle.std.proofs.Common.{min, arith, take-add, length-append, length-drop, add-zero, pow-suc, take-take, lit<}
+use Rattle.jiter_scan.proofs.Words.{◌≡◌, ℕ, zero, suc, ◌+◌, ◌-◌, ◌*◌, ◌/◌, ◌%◌, ◌^◌, ◌<◌, ◌≤◌, Bool, true, false, cond}
+use Rattle.jiter_scan.proofs.Words.{eqb, List, [], ◌∷◌, ◌++◌, map, length, get_or, take, drop, replicate, refl, sym, ap}
+use Rattle.jiter_scan.proofs.Words.{ap₂, ◌∙◌, min, arith, take-add, length-append, length-drop, pow-suc, take-take}
+use Rattle.jiter_scan.proofs.Words.{eqb-true, agree_below_at, prefix_len, number_from_digits, AllBelowBase, number_l}
+use Rattle.jiter_scan.proofs.Words.{take_all, drop-take, is_digit, decimal_of, less_zero}
+use Rattle.std.proofs.Common.{add-zero, lit<}
 use Rattle.std.proofs.Common.{mod-lt, zero-lt-suc}
-use Rattle.std.proofs.lemmas.Bool.{eqb-true, agree_below_at}
-use Rattle.std.specs.List.{prefix_len}
-use Rattle.std.specs.Int.Digits.{number_from_digits, number_from_digits_after, AllBelowBase}
+use Rattle.std.specs.Int.Digits.{number_from_digits_after}
 use Rattle.std.proofs.lemmas.Int.Digits.{number_lt, number_after_append}
 use Rattle.std.proofs.lemmas.Simd.{length-replicate}
 use lib.Arith.{digits_div, digits_mod, mod-mul}
 use lib.Bits.{bit_and, and_block, and_mask}
-use lib.Lanes.{number_l}
 use lib.Pow.{pow-add}
 use lib.ListN.{length-take, length-map}
-use Rattle.std.proofs.lemmas.List.{take_all, drop-take}
 use Rattle.std.proofs.Math.Nat.{one-le-pow}
 use native.Mathlib.Nat.{mod-eq_of_lt, zero-mod, zero-div, mul-div_cancel, mul-mod_left, pow-succ', div-div-eq-div-mul}
-use Rattle.jiter_scan.specs.Digits.{is_digit, decimal_of}
-use Rattle.jiter_scan.specs.Simd.{less_zero, IsEightBytes}
+use Rattle.jiter_scan.specs.Simd.{IsEightBytes}
 use Rattle.jiter_scan.proofs.Digits.{digit-bounds}
 
 -- the mask keeps bytes 0 and 4

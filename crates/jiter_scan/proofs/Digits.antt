@@ -1,12 +1,9 @@
 -- The values of decimal digits.
-use Rattle.std.proofs.Common.{◌≡◌, ℕ, ◌+◌, ◌-◌, ◌*◌, ◌^◌, ◌<◌, ◌≤◌, length, List, [], ◌∷◌, ◌++◌, sym, ap, ◌∙◌, leb}
-use Rattle.std.proofs.Common.{true, arith, pow-suc}
+use Rattle.jiter_scan.proofs.Words.{◌≡◌, ℕ, ◌+◌, ◌-◌, ◌*◌, ◌^◌, ◌<◌, ◌≤◌, length, List, [], ◌∷◌, ◌++◌, sym, ap, ◌∙◌}
+use Rattle.jiter_scan.proofs.Words.{leb, true, arith, pow-suc, leb-true, and_parts, length-append, is_digit, decimal_of}
+use Rattle.jiter_scan.proofs.Words.{AreDigits}
 use Rattle.std.proofs.Math.Nat.{mul_assoc, add-mul, mul-le-mul_right}
-use Rattle.std.proofs.lemmas.Bool.{leb-true, and_parts}
-use Rattle.std.proofs.lemmas.List.{length-append}
 use Rattle.std.proofs.lemmas.Nat.{pow-add}
-use Rattle.jiter_scan.specs.Digits.{is_digit, decimal_of}
-use Rattle.jiter_scan.specs.Number.{AreDigits}
 
 -- `0` to `9` by their codes
 pub digit-bounds : (c : ℕ) → is_digit c ≡ true → (48 ≤ c) × (c ≤ 57)

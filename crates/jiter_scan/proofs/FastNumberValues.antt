@@ -1,13 +1,9 @@
 -- Plain numbers as the numbers that are read.
-use Rattle.std.proofs.Common.{◌≡◌, inl, inr, ℕ, ◌+◌, ◌≤◌, Bool, true, false, List, refl, sym, ap, ◌∙◌, slice_range, arith}
-use Rattle.std.specs.Prelude.{◌^◌, slice_get, Some, pos, nat_lt, nat_le, if◌then◌else◌}
-use Rattle.std.proofs.lemmas.Bool.{lt-ltb, le-leb}
-use Rattle.std.proofs.lemmas.Bool.Decides.{nat_tests}
-use Rattle.jiter_scan.specs.Number.{integer, float, number_value, minus_of}
-use Rattle.jiter_scan.specs.NumberDecoder.{IsMinusTo}
-use Rattle.jiter_scan.specs.NumberReading.{number_extent, with_value, number_at}
-use Rattle.jiter_scan.specs.Scanned.{taken}
-use Rattle.jiter_scan.specs.FastNumber.{IsPlainInteger, IsPlainFloat}
+use Rattle.jiter_scan.proofs.Words.{◌≡◌, inl, inr, ℕ, ◌+◌, ◌≤◌, Bool, true, false, List, refl, sym, ap, ◌∙◌}
+use Rattle.jiter_scan.proofs.Words.{slice_range, arith, ◌^◌, slice_get, Some, pos, nat_lt, nat_le, if◌then◌else◌}
+use Rattle.jiter_scan.proofs.Words.{lt-ltb, le-leb, nat_tests, integer, float, number_value, minus_of, IsMinusTo}
+use Rattle.jiter_scan.proofs.Words.{number_extent, with_value, number_at, taken, IsPlainInteger}
+use Rattle.jiter_scan.specs.FastNumber.{IsPlainFloat}
 use Rattle.jiter_scan.proofs.Choices.{if-true}
 use Rattle.jiter_scan.proofs.NumberExtents.{extent-decimal, extent-minus}
 use Rattle.jiter_scan.proofs.NumberValues.{integer_value-positive, integer_value-negative}

@@ -1,21 +1,13 @@
 -- Numbers whose digits end within a chunk.
-use Rattle.std.proofs.Common.{◌≡◌, ◌≢◌, ◌⊎◌, inl, inr, ℕ, ◌+◌, ◌-◌, ◌<◌, ◌≤◌, ◌==◌, ◌||◌, Bool, true, false, List, []}
-use Rattle.std.proofs.Common.{◌∷◌, ◌++◌, length, take, drop, get_or, refl, sym, ap, ◌∙◌, slice_range, arith}
-use Rattle.std.specs.Prelude.{slice_get, Option, Some, None}
-use Rattle.std.specs.List.{prefix_len}
-use Rattle.std.proofs.lemmas.Bool.{cases_lt}
-use Rattle.std.proofs.lemmas.Bool.Decides.{nat_tests}
-use Rattle.std.proofs.lemmas.List.{length-take, get_or-take, get_or-drop}
-use Rattle.std.proofs.lemmas.Option.{slice_get-get_or, slice_get_past, slice_get_within}
-use Rattle.jiter_scan.specs.Digits.{is_digit, digit_run_end}
-use Rattle.jiter_scan.specs.Number.{IsDigits}
-use Rattle.jiter_scan.specs.NumberDecoder.{magnitude_of}
-use Rattle.jiter_scan.specs.FastNumber.{IsAlone, IsPlainInteger}
-use Rattle.jiter_scan.specs.NumberReading.{extent_then, int_part_at, fraction_at, exponent_at, decimal_at}
-use Rattle.jiter_scan.specs.NumberReading.{fraction_from}
-use Rattle.jiter_scan.specs.NumberReading.{exponent_from, digits_from, power_from, is_float_sign}
-use Rattle.jiter_scan.specs.Scanned.{taken}
-use Rattle.jiter_scan.specs.Stands.{Stands}
+use Rattle.jiter_scan.proofs.Words.{◌≡◌, ◌≢◌, ◌⊎◌, inl, inr, ℕ, ◌+◌, ◌-◌, ◌<◌, ◌≤◌, ◌==◌, ◌||◌, Bool, true, false, List}
+use Rattle.jiter_scan.proofs.Words.{[], ◌∷◌, ◌++◌, length, take, drop, get_or, refl, sym, ap, ◌∙◌, slice_range, arith}
+use Rattle.jiter_scan.proofs.Words.{slice_get, Option, Some, None, prefix_len, cases_lt, nat_tests, length-take}
+use Rattle.jiter_scan.proofs.Words.{get_or-drop, slice_get-get_or, slice_get_past, slice_get_within, is_digit}
+use Rattle.jiter_scan.proofs.Words.{digit_run_end, IsDigits, magnitude_of, IsPlainInteger, extent_then, int_part_at}
+use Rattle.jiter_scan.proofs.Words.{fraction_at, exponent_at, decimal_at, fraction_from, exponent_from, digits_from}
+use Rattle.jiter_scan.proofs.Words.{power_from, is_float_sign, taken, Stands}
+use Rattle.std.proofs.lemmas.List.{get_or-take}
+use Rattle.jiter_scan.specs.FastNumber.{IsAlone}
 use Rattle.jiter_scan.proofs.Choices.{if-false, if-true, extent_then-taken}
 use Rattle.jiter_scan.proofs.Chunks.{prefix_len-prefix, prefix_len-pass, run_end-on}
 use Rattle.jiter_scan.proofs.Magnitudes.{slice_range-count}

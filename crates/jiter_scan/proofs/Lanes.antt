@@ -1,15 +1,13 @@
 -- Masks that are computed lane by lane, held to a test at each of the 256 bytes.
-use Rattle.std.proofs.Common.{◌≡◌, ℕ, ◌^◌, ◌%◌, ltb, leb, Bool, true, false, not, ◌&&◌, ◌||◌, cond, eqb, ◌==◌, List, []}
-use Rattle.std.proofs.Common.{◌∷◌, map, length, refl, sym, ap, ap₂, ◌∙◌, arith, w8, Fits}
+use Rattle.jiter_scan.proofs.Words.{◌≡◌, ℕ, ◌^◌, ◌%◌, leb, Bool, true, false, not, ◌&&◌, ◌||◌, cond, eqb, ◌==◌, List}
+use Rattle.jiter_scan.proofs.Words.{[], ◌∷◌, map, length, refl, sym, ap, ap₂, ◌∙◌, arith, length-map, agree_below_at}
+use Rattle.jiter_scan.proofs.Words.{replicate, list_all, nat_tests, is_plain, is_ascii, failing, is_no_mark}
+use Rattle.jiter_scan.proofs.Words.{is_no_control}
+use Rattle.std.proofs.Common.{ltb}
+use Rattle.std.proofs.Common.{w8, Fits}
 use Rattle.std.proofs.lemmas.Simd.{mask_l-mod}
-use Rattle.std.proofs.lemmas.List.{length-map}
-use Rattle.std.proofs.lemmas.Bool.{agree_below, agree_below_at}
-use Rattle.std.specs.Prelude.{replicate}
-use Rattle.std.specs.List.{list_all}
-use Rattle.std.proofs.lemmas.Bool.Decides.{nat_tests}
+use Rattle.std.proofs.lemmas.Bool.{agree_below}
 use lib.Lanes.{mask_l, sel_l, zip2, top, Each1}
-use Rattle.jiter_scan.specs.Scan.{is_plain, is_ascii}
-use Rattle.jiter_scan.specs.Simd.{failing, is_no_mark, is_no_control}
 
 -- all ones where two bytes are equal, where the first is less, and where it is no greater
 abbrev pub if_equal : ℕ → ℕ → ℕ

@@ -29,3 +29,4 @@ pub mod FastNumbers
 pub mod Tapes
 pub mod FastNumberValues
 pub mod OverlaidTexts
+pub mod Words

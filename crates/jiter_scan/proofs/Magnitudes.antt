@@ -1,13 +1,8 @@
 -- The magnitude of a run of digits, by words of sixteen.
-use Rattle.std.proofs.Common.{◌≡◌, ℕ, ◌+◌, ◌-◌, ◌*◌, ◌^◌, ◌<◌, ◌≤◌, length, take, drop, get_or, List, [], ◌∷◌, ◌++◌}
-use Rattle.std.proofs.Common.{sym, ap, ap₂, ◌∙◌, subst, slice_range, arith, drop-cons}
-use Rattle.std.proofs.Math.Nat.{pow-le-pow_right}
-use Rattle.std.proofs.lemmas.List.{length-take, length-drop}
-use Rattle.std.specs.Prelude.{Some, nat_le}
-use Rattle.std.specs.List.{prefix_len}
-use Rattle.jiter_scan.specs.Digits.{is_digit, digit_run_end, decimal_of}
-use Rattle.jiter_scan.specs.Number.{AreDigits}
-use Rattle.jiter_scan.specs.NumberDecoder.{magnitude_of}
+use Rattle.jiter_scan.proofs.Words.{◌≡◌, ℕ, ◌+◌, ◌-◌, ◌*◌, ◌^◌, ◌<◌, ◌≤◌, length, take, drop, get_or, List, [], ◌∷◌}
+use Rattle.jiter_scan.proofs.Words.{◌++◌, sym, ap, ap₂, ◌∙◌, subst, slice_range, arith, drop-cons, pow-le-pow_right}
+use Rattle.jiter_scan.proofs.Words.{length-take, length-drop, Some, nat_le, prefix_len, is_digit, digit_run_end}
+use Rattle.jiter_scan.proofs.Words.{decimal_of, AreDigits, magnitude_of}
 use Rattle.jiter_scan.specs.Simd.{digits_end}
 use Rattle.jiter_scan.proofs.Choices.{if_gives}
 use Rattle.jiter_scan.proofs.Chunks.{prefix_len-prefix, prefix_len-pass}

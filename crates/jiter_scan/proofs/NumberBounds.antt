@@ -1,17 +1,13 @@
 -- How far the reading of a number gets.
-use Rattle.std.proofs.Common.{◌≡◌, ℕ, ◌+◌, ◌<◌, ◌≤◌, Bool, ◌||◌, List, [], ◌∷◌, length, refl, arith}
-use Rattle.std.specs.Prelude.{slice_get, Option, Some, None, ◌==◌}
-use Rattle.std.proofs.lemmas.Bool.{false≢true}
-use Rattle.std.proofs.lemmas.Option.{slice_get_within}
-use Rattle.jiter_scan.specs.Kind.{eof_value, invalid_number}
-use Rattle.jiter_scan.specs.Number.{Number, IsNumberText}
-use Rattle.jiter_scan.specs.NumberReading.{int_part_at, number_extent, with_value}
-use Rattle.jiter_scan.specs.NumberReading.{number_at, Integer, int_seen, float_seen, is_float_sign, integer_or_float}
-use Rattle.jiter_scan.specs.NumberReading.{integer_after, integer_after_minus, integer_from, int_at, alone}
-use Rattle.jiter_scan.specs.NumberReading.{integer_alone, if_number, begins_number, number_alone, int_alone}
-use Rattle.jiter_scan.specs.Scanned.{Scanned, taken, failed}
-use Rattle.jiter_scan.specs.Stands.{Stands}
-use Rattle.jiter_scan.specs.Word.{Extent}
+use Rattle.jiter_scan.proofs.Words.{◌≡◌, ℕ, ◌+◌, ◌<◌, ◌≤◌, Bool, ◌||◌, List, [], ◌∷◌, length, refl, arith, slice_get}
+use Rattle.jiter_scan.proofs.Words.{Option, Some, None, ◌==◌, false≢true, slice_get_within, eof_value, invalid_number}
+use Rattle.jiter_scan.proofs.Words.{Number, IsNumberText, int_part_at, number_extent, with_value, number_at, int_seen}
+use Rattle.jiter_scan.proofs.Words.{is_float_sign, integer_or_float, integer_after, integer_after_minus, integer_from}
+use Rattle.jiter_scan.proofs.Words.{int_at, begins_number, number_alone, int_alone, Scanned, taken, failed, Stands}
+use Rattle.jiter_scan.proofs.Words.{Extent}
+use Rattle.jiter_scan.specs.NumberReading.{Integer, float_seen}
+use Rattle.jiter_scan.specs.NumberReading.{alone}
+use Rattle.jiter_scan.specs.NumberReading.{integer_alone, if_number}
 use Rattle.jiter_scan.proofs.Choices.{if_case}
 use Rattle.jiter_scan.proofs.NumberBytes.{number-not_empty}
 use Rattle.jiter_scan.proofs.NumberSound.{Spelled, int_part-spelled, number-spelled}

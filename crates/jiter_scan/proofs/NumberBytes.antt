@@ -1,23 +1,13 @@
 -- The bytes of a number's text.
-use Rattle.std.proofs.Common.{◌≡◌, ◌⊎◌, inl, inr, ℕ, ◌<◌, ◌≤◌, Bool, true, false, ◌||◌, List, [], ◌∷◌, ◌++◌, refl, sym}
-use Rattle.std.proofs.Common.{ap, ◌∙◌, subst, arith}
-use Rattle.std.specs.Prelude.{◌==◌, codes, slice_range}
-use Rattle.std.specs.List.{list_all}
-use Rattle.std.specs.Str.{IsAscii}
+use Rattle.jiter_scan.proofs.Words.{◌≡◌, ◌⊎◌, inl, inr, ℕ, ◌<◌, ◌≤◌, Bool, true, false, ◌||◌, List, [], ◌∷◌, ◌++◌, refl}
+use Rattle.jiter_scan.proofs.Words.{sym, ap, ◌∙◌, subst, arith, ◌==◌, codes, slice_range, list_all, IsAscii}
+use Rattle.jiter_scan.proofs.Words.{AllPass-from_list_all, IsAscii-append, IsAscii-nil, IsAscii-cons, is_digit}
+use Rattle.jiter_scan.proofs.Words.{AreDigits, IsDigits, IsMinus, IsIntPart, IsFraction, IsSign, IsExponent}
+use Rattle.jiter_scan.proofs.Words.{IsNumberText, begins_number, int_part_at, decimal_at, IsMinusTo, is_ascii, taken}
+use Rattle.jiter_scan.proofs.Words.{Stands, word_at}
 use Rattle.std.proofs.lemmas.Bool.{ltb-true}
 use Rattle.std.proofs.lemmas.List.Elements.{All-weaker}
-use Rattle.std.proofs.lemmas.List.Sums.{AllPass-from_list_all}
-use Rattle.std.proofs.lemmas.Str.{IsAscii-append}
-use Rattle.std.proofs.lemmas.Str.Ascii.{IsAscii-from_all, IsAscii-nil, IsAscii-cons}
-use Rattle.jiter_scan.specs.Digits.{is_digit}
-use Rattle.jiter_scan.specs.Number.{AreDigits, IsDigits, IsMinus, IsIntPart, IsFraction, IsSign, IsExponent}
-use Rattle.jiter_scan.specs.Number.{IsNumberText}
-use Rattle.jiter_scan.specs.NumberReading.{begins_number, int_part_at, decimal_at}
-use Rattle.jiter_scan.specs.NumberDecoder.{IsMinusTo}
-use Rattle.jiter_scan.specs.Scan.{is_ascii}
-use Rattle.jiter_scan.specs.Scanned.{taken}
-use Rattle.jiter_scan.specs.Stands.{Stands}
-use Rattle.jiter_scan.specs.Word.{word_at}
+use Rattle.std.proofs.lemmas.Str.Ascii.{IsAscii-from_all}
 use Rattle.jiter_scan.proofs.Digits.{digit-bounds}
 use Rattle.jiter_scan.proofs.NumberRows.{decimal-is}
 use Rattle.jiter_scan.proofs.NumberSound.{decimal_at-sound, int_part_at-sound}

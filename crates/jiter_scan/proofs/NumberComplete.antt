@@ -1,21 +1,12 @@
 -- A number's text is read as a number, where the byte after it does not go on it.
-use Rattle.std.proofs.Common.{◌≡◌, ◌≢◌, ◌⊎◌, inl, inr, ℕ, ◌+◌, ◌≤◌, Bool, true, false, ◌||◌, List, [], ◌∷◌, ◌++◌}
-use Rattle.std.proofs.Common.{length, refl, sym, ap, ◌∙◌, subst, arith}
-use Rattle.std.specs.Prelude.{slice_get, slice_range, Option, Some, None, IfSome, ◌==◌, nat_le, codes}
-use Rattle.std.proofs.lemmas.Bool.Decides.{nat_tests}
-use Rattle.std.proofs.lemmas.Bool.{ne_eqb, le-leb, cases_eq}
-use Rattle.std.proofs.lemmas.Option.{IfSome_then}
-use Rattle.jiter_scan.specs.Digits.{is_digit, digit_run_end}
-use Rattle.jiter_scan.specs.Number.{number_value, IsDigits, IsMinus, IsIntPart, IsFraction, IsSign, IsExponent}
-use Rattle.jiter_scan.specs.Number.{IsDecimal}
-use Rattle.jiter_scan.specs.Number.{IsName, IsNumberText, digit_limit}
-use Rattle.jiter_scan.specs.NumberReading.{digits_from, after_zero, int_part_from, int_part_at, fraction_from}
-use Rattle.jiter_scan.specs.NumberReading.{fraction_at}
-use Rattle.jiter_scan.specs.NumberReading.{power_from, exponent_from, exponent_at, decimal_at, after_minus}
-use Rattle.jiter_scan.specs.NumberReading.{extent_from, number_extent, with_value, number_at}
-use Rattle.jiter_scan.specs.NumberWithin.{continues_number}
-use Rattle.jiter_scan.specs.Scanned.{taken}
-use Rattle.jiter_scan.specs.Stands.{Stands}
+use Rattle.jiter_scan.proofs.Words.{◌≡◌, ◌≢◌, ◌⊎◌, inl, inr, ℕ, ◌+◌, ◌≤◌, Bool, true, false, ◌||◌, List, [], ◌∷◌, ◌++◌}
+use Rattle.jiter_scan.proofs.Words.{length, refl, sym, ap, ◌∙◌, subst, arith, slice_get, slice_range, Option, Some}
+use Rattle.jiter_scan.proofs.Words.{None, IfSome, ◌==◌, nat_le, codes, nat_tests, ne_eqb, le-leb, cases_eq, IfSome_then}
+use Rattle.jiter_scan.proofs.Words.{is_digit, digit_run_end, number_value, IsDigits, IsMinus, IsIntPart, IsFraction}
+use Rattle.jiter_scan.proofs.Words.{IsSign, IsExponent, IsDecimal, IsName, IsNumberText, digit_limit, digits_from}
+use Rattle.jiter_scan.proofs.Words.{after_zero, int_part_from, int_part_at, fraction_from, fraction_at, power_from}
+use Rattle.jiter_scan.proofs.Words.{exponent_from, exponent_at, decimal_at, after_minus, extent_from, number_extent}
+use Rattle.jiter_scan.proofs.Words.{with_value, number_at, continues_number, taken, Stands}
 use Rattle.jiter_scan.proofs.Choices.{if-true, if-false}
 use Rattle.jiter_scan.proofs.NumberExtents.{decimal_at-tail, tail-parts, extent-decimal, extent-minus}
 use Rattle.jiter_scan.proofs.Runs.{NoDigit, run_end-complete}

@@ -1,11 +1,8 @@
 -- Numbers that end within a piece.
-use Rattle.std.proofs.Common.{◌≡◌, ◌+◌, ◌-◌, ◌∙◌, ◌<◌, ℕ, Bool, true, false, List, inl, inr, subst, sym}
-use Rattle.std.proofs.lemmas.Option.{slice_get-get_or}
-use Rattle.std.specs.Prelude.{IfSome, slice_range}
-use Rattle.jiter_scan.specs.Number.{IsNumberText, Number}
-use Rattle.jiter_scan.specs.NumberReading.{number_at}
-use Rattle.jiter_scan.specs.NumberWithin.{EndsNumber, EndsWithin, continues_number}
-use Rattle.jiter_scan.specs.Scanned.{taken}
+use Rattle.jiter_scan.proofs.Words.{◌≡◌, ◌+◌, ◌-◌, ◌∙◌, ◌<◌, ℕ, Bool, true, false, List, inl, inr, subst, sym}
+use Rattle.jiter_scan.proofs.Words.{slice_get-get_or, IfSome, slice_range, IsNumberText, Number, number_at}
+use Rattle.jiter_scan.proofs.Words.{continues_number, taken}
+use Rattle.jiter_scan.specs.NumberWithin.{EndsNumber, EndsWithin}
 use Rattle.jiter_scan.proofs.NumberComplete.{number_extent-complete}
 use Rattle.jiter_scan.proofs.NumberSound.{number_at-sound}
 

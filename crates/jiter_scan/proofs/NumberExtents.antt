@@ -1,20 +1,11 @@
 -- A number ends where its digits, fraction and exponent do, a minus before them or not.
-use Rattle.std.proofs.Common.{◌≡◌, inl, inr, ℕ, ◌+◌, ◌<◌, Bool, true, false, List, [], ◌∷◌, length, get_or, sym, ap}
-use Rattle.std.proofs.Common.{◌∙◌, subst, arith, slice_range}
-use Rattle.std.specs.Prelude.{slice_get, Option, Some, None, ◌==◌, if◌then◌else◌, codes}
-use Rattle.std.proofs.lemmas.Bool.{ne_eqb}
-use Rattle.std.proofs.lemmas.Option.{slice_get-get_or}
-use Rattle.jiter_scan.specs.Digits.{is_digit}
-use Rattle.jiter_scan.specs.Kind.{invalid_number}
-use Rattle.jiter_scan.specs.Number.{IsIntPart}
-use Rattle.jiter_scan.specs.NumberDecoder.{magnitude_of, IsMinusTo}
-use Rattle.jiter_scan.specs.NumberExtent.{minus_end}
-use Rattle.jiter_scan.specs.NumberReading.{int_part_from, int_part_at, fraction_at, exponent_at, extent_then}
-use Rattle.jiter_scan.specs.NumberReading.{decimal_at}
-use Rattle.jiter_scan.specs.NumberReading.{after_minus, name_at, extent_from, number_extent}
-use Rattle.jiter_scan.specs.Scanned.{taken, failed}
-use Rattle.jiter_scan.specs.Stands.{Stands}
-use Rattle.jiter_scan.specs.Word.{word_at}
+use Rattle.jiter_scan.proofs.Words.{◌≡◌, inl, inr, ℕ, ◌+◌, ◌<◌, Bool, true, false, List, [], ◌∷◌, length, get_or, sym}
+use Rattle.jiter_scan.proofs.Words.{ap, ◌∙◌, subst, arith, slice_range, slice_get, Option, Some, None, ◌==◌}
+use Rattle.jiter_scan.proofs.Words.{if◌then◌else◌, codes, ne_eqb, slice_get-get_or, is_digit, invalid_number, IsIntPart}
+use Rattle.jiter_scan.proofs.Words.{magnitude_of, IsMinusTo, minus_end, int_part_from, int_part_at, fraction_at}
+use Rattle.jiter_scan.proofs.Words.{exponent_at, extent_then, decimal_at, after_minus, extent_from, number_extent}
+use Rattle.jiter_scan.proofs.Words.{taken, failed, Stands, word_at}
+use Rattle.jiter_scan.specs.NumberReading.{name_at}
 use Rattle.jiter_scan.proofs.Choices.{if_gives, if-true, if-false, extent_then-taken}
 use Rattle.jiter_scan.proofs.Digits.{digit-bounds}
 use Rattle.jiter_scan.proofs.NumberRows.{IntPart}

@@ -1,24 +1,15 @@
 -- The parts of a number that arrives in pieces: each goes on with the ones before it.
-use Rattle.std.proofs.Common.{◌≡◌, ℕ, ◌+◌, ◌-◌, ◌<◌, ◌≤◌, ◌⊎◌, inl, inr, ◌||◌, ◌&&◌, Bool, true, false, not, List, [], ◌∷◌, ◌++◌}
-use Rattle.std.proofs.Common.{append_assoc, drop, get_or, take, zero, suc, length, length-append, refl, sym, ap, ap₂, subst, ◌∙◌, arith}
-use Rattle.std.specs.Prelude.{slice_get, slice_range, string_bytes, Some, if◌then◌else◌}
-use Rattle.std.specs.List.{list_any}
-use Rattle.std.specs.Str.{IsAscii}
+use Rattle.jiter_scan.proofs.Words.{◌≡◌, ℕ, ◌+◌, ◌-◌, ◌<◌, ◌≤◌, ◌⊎◌, inl, inr, ◌||◌, ◌&&◌, Bool, true, false, not, List}
+use Rattle.jiter_scan.proofs.Words.{[], ◌∷◌, ◌++◌, append_assoc, drop, get_or, take, zero, suc, length, length-append}
+use Rattle.jiter_scan.proofs.Words.{refl, sym, ap, ap₂, subst, ◌∙◌, arith, slice_get, slice_range, string_bytes, Some}
+use Rattle.jiter_scan.proofs.Words.{if◌then◌else◌, list_any, IsAscii, nat_tests, slice_get-get_or, slice_get_within}
+use Rattle.jiter_scan.proofs.Words.{IsAscii-append, IsAscii-cons, IsAscii-nil, is_digit, digit_run_end, is_float_byte}
+use Rattle.jiter_scan.proofs.Words.{is_integral, exponent_at, extent_then, number_extent, GoesTo, HoldsNumber, IsBegun}
+use Rattle.jiter_scan.proofs.Words.{is_int_stage, number_from, tail_at, within_room, taken, Stands, Extent, Stage}
 use Rattle.std.proofs.lemmas.List.Folds.{list_any-append}
-use Rattle.std.proofs.lemmas.Bool.Decides.{nat_tests}
-use Rattle.std.proofs.lemmas.Option.{slice_get-get_or, slice_get_within}
-use Rattle.std.proofs.lemmas.Str.{IsAscii-append}
-use Rattle.std.proofs.lemmas.Str.Ascii.{IsAscii-cons, IsAscii-nil}
-use Rattle.jiter_scan.specs.Digits.{is_digit, digit_run_end}
-use Rattle.jiter_scan.specs.Number.{is_float_byte, is_integral}
-use Rattle.jiter_scan.specs.NumberReading.{exponent_at, extent_then, number_extent}
-use Rattle.jiter_scan.specs.PartialNumber.{BeginsThere, BeginsTo, Fits, GoesTo, HoldsNumber, IsBegun, is_int_stage, Leads}
-use Rattle.jiter_scan.specs.PartialNumber.{LeadsOver, number_from, tail_at, within_room}
+use Rattle.jiter_scan.specs.PartialNumber.{BeginsThere, BeginsTo, Fits, Leads}
+use Rattle.jiter_scan.specs.PartialNumber.{LeadsOver}
 use Rattle.jiter_scan.specs.declared.partial_number.PartialNumber.{PartialNumber}
-use Rattle.jiter_scan.specs.Scanned.{taken}
-use Rattle.jiter_scan.specs.Stands.{Stands}
-use Rattle.jiter_scan.specs.Word.{Extent}
-use Rattle.jiter_scan.specs.declared.partial_number.Stage.{Stage}
 use Rattle.jiter_scan.specs.declared.partial_number.Stage.TheVariants as stage
 use Rattle.jiter_scan.specs.declared.partial_number.Went.TheVariants as went
 use Rattle.jiter_scan.proofs.Digits.{digit-bounds}

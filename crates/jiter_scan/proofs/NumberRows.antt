@@ -5,21 +5,15 @@
 -- byte, go on after one, and read one part after another. Its instances: what is read is spelled, and what is
 -- refused can be ended (NumberSound); and two texts with the same bytes before a place are read the same
 -- (jiter_steps, SameNumbers).
-use Rattle.std.proofs.Common.{◌≡◌, ◌≢◌, ◌⊎◌, inl, inr, ℕ, ◌+◌, ◌≤◌, Bool, true, ◌||◌, List, [], ◌∷◌, ◌++◌, length}
-use Rattle.std.proofs.Common.{refl, sym, ap, ◌∙◌, subst, arith}
-use Rattle.std.specs.Prelude.{slice_get, Option, Some, None, ◌==◌, if◌then◌else◌, codes}
-use Rattle.std.proofs.lemmas.Bool.Decides.{nat_tests}
-use Rattle.std.proofs.lemmas.Bool.{eqb-true, eqb-false, or_cases}
-use Rattle.jiter_scan.specs.Digits.{is_digit, digit_run_end}
-use Rattle.jiter_scan.specs.Kind.{Kind, eof_value, expected_ident, expected_value, invalid_number}
-use Rattle.jiter_scan.specs.Number.{IsDigits, IsMinus, IsIntPart, IsFraction, IsSign, IsExponent, IsDecimal}
-use Rattle.jiter_scan.specs.Number.{IsNumberText, digit_limit}
-use Rattle.jiter_scan.specs.NumberReading.{extent_then, digits_from, after_zero, within_limit, int_part_from}
-use Rattle.jiter_scan.specs.NumberReading.{int_part_at}
-use Rattle.jiter_scan.specs.NumberReading.{fraction_from, fraction_at, power_from, exponent_from, exponent_at}
-use Rattle.jiter_scan.specs.NumberReading.{decimal_at, after_minus, extent_from, number_extent}
-use Rattle.jiter_scan.specs.Scanned.{taken, failed}
-use Rattle.jiter_scan.specs.Word.{Extent, byte_then, word_at}
+use Rattle.jiter_scan.proofs.Words.{◌≡◌, ◌≢◌, ◌⊎◌, inl, inr, ℕ, ◌+◌, ◌≤◌, Bool, true, ◌||◌, List, [], ◌∷◌, ◌++◌, length}
+use Rattle.jiter_scan.proofs.Words.{refl, sym, ap, ◌∙◌, subst, arith, slice_get, Option, Some, None, ◌==◌}
+use Rattle.jiter_scan.proofs.Words.{if◌then◌else◌, codes, nat_tests, eqb-true, eqb-false, is_digit, digit_run_end, Kind}
+use Rattle.jiter_scan.proofs.Words.{eof_value, expected_ident, expected_value, invalid_number, IsDigits, IsMinus}
+use Rattle.jiter_scan.proofs.Words.{IsIntPart, IsFraction, IsSign, IsExponent, IsDecimal, IsNumberText, digit_limit}
+use Rattle.jiter_scan.proofs.Words.{extent_then, digits_from, after_zero, within_limit, int_part_from, int_part_at}
+use Rattle.jiter_scan.proofs.Words.{fraction_from, fraction_at, power_from, exponent_from, exponent_at, decimal_at}
+use Rattle.jiter_scan.proofs.Words.{after_minus, extent_from, number_extent, taken, failed, Extent, byte_then, word_at}
+use Rattle.std.proofs.lemmas.Bool.{or_cases}
 use Rattle.jiter_scan.proofs.Choices.{if_both}
 
 -- ---- what the bytes of a part are

@@ -1,23 +1,17 @@
 -- What is read as a number is a number's text; a fault stands within the text, and a zero or nothing ends what is
 -- before it, unless the input is over, the digits are too many or a name is another word.
-use Rattle.std.proofs.Common.{◌≡◌, ◌≢◌, ◌⊎◌, inl, inr, ℕ, ◌+◌, ◌≤◌, Bool, true, false, List, [], ◌∷◌, ◌++◌, length}
-use Rattle.std.proofs.Common.{drop, refl, sym, ap, ◌∙◌, subst, arith, append-nil, append_assoc}
-use Rattle.std.specs.Prelude.{slice_get, slice_range, Option, Some, None, nat_le, codes}
-use Rattle.std.specs.List.{prefix_len}
-use Rattle.std.proofs.lemmas.Bool.{leb-true, leb-false, false≢true}
-use Rattle.std.proofs.lemmas.Option.{slice_get_within}
-use Rattle.jiter_scan.specs.Digits.{is_digit, digit_run_end}
-use Rattle.jiter_scan.specs.Kind.{Kind, is_end_kind, out_of_memory, eof_value, expected_ident, expected_value}
-use Rattle.jiter_scan.specs.Kind.{invalid_number, number_out_of_range}
-use Rattle.jiter_scan.specs.Number.{Number, number_value, AreDigits, IsDigits, IsFraction, IsExponent, IsNumberText}
-use Rattle.jiter_scan.specs.Number.{digit_limit}
-use Rattle.jiter_scan.specs.NumberReading.{extent_then, digits_from, after_zero, within_limit, int_part_at}
-use Rattle.jiter_scan.specs.NumberReading.{fraction_at}
-use Rattle.jiter_scan.specs.NumberReading.{power_from}
-use Rattle.jiter_scan.specs.NumberReading.{exponent_at, decimal_at, number_extent, with_value, number_at}
-use Rattle.jiter_scan.specs.Scanned.{taken, failed, FaultAt}
-use Rattle.jiter_scan.specs.Stands.{Stands}
-use Rattle.jiter_scan.specs.Word.{Extent, word_at}
+use Rattle.jiter_scan.proofs.Words.{◌≡◌, ◌≢◌, ◌⊎◌, inl, inr, ℕ, ◌+◌, ◌≤◌, Bool, true, false, List, [], ◌∷◌, ◌++◌}
+use Rattle.jiter_scan.proofs.Words.{length, drop, refl, sym, ap, ◌∙◌, subst, arith, append-nil, append_assoc, slice_get}
+use Rattle.jiter_scan.proofs.Words.{slice_range, Option, Some, None, nat_le, codes, prefix_len, leb-true, false≢true}
+use Rattle.jiter_scan.proofs.Words.{slice_get_within, is_digit, digit_run_end, Kind, eof_value, expected_ident}
+use Rattle.jiter_scan.proofs.Words.{expected_value, invalid_number, number_out_of_range, Number, number_value}
+use Rattle.jiter_scan.proofs.Words.{AreDigits, IsDigits, IsFraction, IsExponent, IsNumberText, digit_limit, extent_then}
+use Rattle.jiter_scan.proofs.Words.{digits_from, after_zero, within_limit, int_part_at, fraction_at, power_from}
+use Rattle.jiter_scan.proofs.Words.{exponent_at, decimal_at, number_extent, with_value, number_at, taken, failed}
+use Rattle.jiter_scan.proofs.Words.{Stands, Extent, word_at}
+use Rattle.std.proofs.lemmas.Bool.{leb-false}
+use Rattle.jiter_scan.specs.Kind.{is_end_kind, out_of_memory}
+use Rattle.jiter_scan.specs.Scanned.{FaultAt}
 use Rattle.jiter_scan.proofs.Choices.{if_case, failed-taken, same_taken}
 use Rattle.jiter_scan.proofs.NumberRows.{Part, Joined, IsWord, IntPart, Power, Magnitude, Over, Ended, AllocFailed, Rows}
 use Rattle.jiter_scan.proofs.NumberRows.{digits, zero, word, int_part, fraction, power, exponent, decimal, number}

@@ -1,24 +1,18 @@
 -- What a number begins with, after its minus: a name or a digit.
-use Rattle.std.proofs.Common.{◌≡◌, ◌≢◌, inl, inr, ℕ, ◌+◌, ◌<◌, ◌≤◌, ◌==◌, Bool, true, false, List, length, get_or}
-use Rattle.std.proofs.Common.{◌||◌, refl, sym, ap, ◌∙◌, subst, arith}
-use Rattle.std.proofs.Common.{◌-◌, ◌&&◌, ◌∷◌, [], drop, take, slice_range}
+use Rattle.jiter_scan.proofs.Words.{◌≡◌, ◌≢◌, inl, inr, ℕ, ◌+◌, ◌<◌, ◌≤◌, ◌==◌, Bool, true, false, List, length, get_or}
+use Rattle.jiter_scan.proofs.Words.{◌||◌, refl, sym, ap, ◌∙◌, subst, arith, ◌-◌, ◌&&◌, ◌∷◌, [], drop, take, slice_range}
+use Rattle.jiter_scan.proofs.Words.{Option, Some, None, slice_get, if◌then◌else◌, codes, cases_lt, eq-eqb, eqb-true}
+use Rattle.jiter_scan.proofs.Words.{eqb-false, false≢true, ne_eqb, slice_get-get_or, slice_get_within}
+use Rattle.jiter_scan.proofs.Words.{get_or_from_slice_get, is_float_byte, is_integral, number_value, IsMinusTo}
+use Rattle.jiter_scan.proofs.Words.{IsExtent, minus_end, after_minus, extent_from, extent_then, fraction_at}
+use Rattle.jiter_scan.proofs.Words.{exponent_at, decimal_at, int_part_at, number_extent, int_at, int_part_from}
+use Rattle.jiter_scan.proofs.Words.{int_seen, integer_after, integer_after_minus, integer_from, integer_or_float}
+use Rattle.jiter_scan.proofs.Words.{is_float_sign, GoesTo, is_int_stage, number_from, tail_at, taken, Stands, Extent}
+use Rattle.jiter_scan.proofs.Words.{word_at, Stage}
 use Rattle.std.proofs.Math.Bool.{and-false}
-use Rattle.std.specs.Prelude.{Option, Some, None, slice_get, if◌then◌else◌, codes}
-use Rattle.std.proofs.lemmas.Bool.{cases_lt, eq-eqb, eqb-true, eqb-false, false≢true, ne_eqb}
-use Rattle.std.proofs.lemmas.Option.{same_Some, slice_get-get_or, slice_get_within, get_or_from_slice_get}
-use Rattle.jiter_scan.specs.Number.{is_float_byte, is_integral, number_value}
-use Rattle.jiter_scan.specs.NumberDecoder.{IsMinusTo}
-use Rattle.jiter_scan.specs.NumberExtent.{IsNameFrom, IsDecimalFrom, IsExtent, IsFloatText}
-use Rattle.jiter_scan.specs.NumberExtent.{minus_end, name_extent}
-use Rattle.jiter_scan.specs.NumberReading.{after_minus, extent_from, extent_then, fraction_at, exponent_at}
-use Rattle.jiter_scan.specs.NumberReading.{decimal_at, int_part_at, number_extent}
-use Rattle.jiter_scan.specs.NumberReading.{int_at, int_part_from, int_seen, integer_after, integer_after_minus, integer_from}
-use Rattle.jiter_scan.specs.NumberReading.{integer_or_float, is_float_sign}
-use Rattle.jiter_scan.specs.PartialNumber.{GoesTo, is_int_stage, number_from, tail_at}
-use Rattle.jiter_scan.specs.Scanned.{taken}
-use Rattle.jiter_scan.specs.Stands.{Stands}
-use Rattle.jiter_scan.specs.Word.{Extent, word_at}
-use Rattle.jiter_scan.specs.declared.partial_number.Stage.{Stage}
+use Rattle.std.proofs.lemmas.Option.{same_Some}
+use Rattle.jiter_scan.specs.NumberExtent.{IsNameFrom, IsDecimalFrom, IsFloatText}
+use Rattle.jiter_scan.specs.NumberExtent.{name_extent}
 use Rattle.jiter_scan.specs.declared.partial_number.Stage.TheVariants as stage
 use Rattle.jiter_scan.specs.declared.number_extent.Extent.TheVariants as found
 use Rattle.jiter_scan.proofs.Choices.{if_case, if_gives, if-true, if-false}

@@ -1,26 +1,18 @@
 -- The tests of the grammar of numbers hold exactly where its facts do; and so does reading to the last byte.
-use Rattle.std.proofs.Common.{◌≡◌, ◌⊎◌, ℕ, ◌-◌, ◌≤◌, ◌++◌, ◌∷◌, [], Bool, true, false, List, length, refl, sym, ap}
-use Rattle.std.proofs.Common.{◌∙◌, subst, arith, Decides, inl, inr}
-use Rattle.std.specs.Prelude.{slice_range, IfSome, nat_le, ◌==◌, ◌&&◌, ◌||◌}
-use Rattle.std.specs.List.{list_all}
-use Rattle.std.proofs.lemmas.Bool.{eqb-true, eq-eqb, false≢true}
+use Rattle.jiter_scan.proofs.Words.{◌≡◌, ◌⊎◌, ℕ, ◌-◌, ◌≤◌, ◌++◌, ◌∷◌, [], Bool, true, false, List, length, refl, sym}
+use Rattle.jiter_scan.proofs.Words.{ap, ◌∙◌, subst, arith, inl, inr, slice_range, IfSome, nat_le, ◌==◌, ◌&&◌, ◌||◌}
+use Rattle.jiter_scan.proofs.Words.{list_all, eqb-true, eq-eqb, false≢true, nat_tests, take_all, slice_get_past}
+use Rattle.jiter_scan.proofs.Words.{is_digit, Stands, AreDigits, IsDigits, IsMinus, IsIntPart, IsFraction, IsSign}
+use Rattle.jiter_scan.proofs.Words.{IsExponent, digit_limit, IsDecimal, IsName, IsNumberText, number_extent}
+use Rattle.jiter_scan.proofs.Words.{is_number_text, taken, failed, Extent, continues_number}
+use Rattle.std.proofs.Common.{Decides}
 use Rattle.std.proofs.lemmas.Bool.Decides.{Decides-and, Decides-or, Decides-like, Decides-eqb, Decides-not}
-use Rattle.std.proofs.lemmas.Bool.Decides.{nat_tests, same_from_decides}
-use Rattle.std.proofs.lemmas.List.{take_all}
-use Rattle.std.proofs.lemmas.Option.{slice_get_past}
+use Rattle.std.proofs.lemmas.Bool.Decides.{same_from_decides}
 use Rattle.std.proofs.lemmas.Slice.Eq.{bytes_eq-Decides}
 use Rattle.jiter_scan.specs.Ascii as ascii
-use Rattle.jiter_scan.specs.Digits.{is_digit}
-use Rattle.jiter_scan.specs.Stands.{Stands}
-use Rattle.jiter_scan.specs.Number.{AreDigits, IsDigits, IsMinus, IsIntPart, IsFraction, IsSign, IsExponent}
-use Rattle.jiter_scan.specs.Number.{digit_limit, IsDecimal, IsName, IsNumberText}
-use Rattle.jiter_scan.specs.NumberReading.{number_extent}
 use Rattle.jiter_scan.specs.NumberTests.{is_parted, are_some_digits, is_minus, is_int_part, is_fraction, is_sign}
 use Rattle.jiter_scan.specs.NumberTests.{is_exponent}
-use Rattle.jiter_scan.specs.NumberTests.{is_magnitude, is_name, is_number_text}
-use Rattle.jiter_scan.specs.Scanned.{taken, failed}
-use Rattle.jiter_scan.specs.Word.{Extent}
-use Rattle.jiter_scan.specs.NumberWithin.{continues_number}
+use Rattle.jiter_scan.specs.NumberTests.{is_magnitude, is_name}
 use Rattle.jiter_scan.proofs.NumberComplete.{number_extent-complete}
 use Rattle.jiter_scan.proofs.NumberSound.{number_extent-sound}
 use Rattle.jiter_scan.proofs.Standing.{stands-slice}

@@ -1,20 +1,13 @@
 -- What a number's text stands for.
-use Rattle.std.proofs.Common.{◌≡◌, ◌≢◌, ◌⊎◌, inl, inr, ℕ, ◌^◌, ◌<◌, ◌≤◌, ◌==◌, ◌||◌, min, Bool, true, false, cond}
-use Rattle.std.proofs.Common.{length, List, [], ◌∷◌, ◌++◌, refl, sym, ap, ◌∙◌, subst, slice_range, arith, nat_le}
-use Rattle.std.proofs.Common.{nat_lt, pos}
-use Rattle.std.specs.Prelude.{Some, slice_get, if◌then◌else◌}
-use Rattle.std.specs.List.{list_any}
-use Rattle.std.proofs.lemmas.Bool.{cases_lt, or_right}
-use Rattle.std.proofs.lemmas.Bool.Decides.{nat_tests}
-use Rattle.jiter_scan.specs.Digits.{is_digit, decimal_of}
-use Rattle.jiter_scan.specs.Number.{Number, AreDigits, IsIntPart, IsFraction, IsExponent, float, big, integer}
-use Rattle.jiter_scan.specs.Number.{is_float_byte, number_value, positive_value, negative_value, integral_value}
-use Rattle.jiter_scan.specs.Number.{minus_of}
-use Rattle.jiter_scan.specs.NumberReading.{extent_then, int_part_at, fraction_at, exponent_at}
-use Rattle.jiter_scan.specs.NumberDecoder.{magnitude_of, IsMinusTo}
-use Rattle.jiter_scan.specs.Scanned.{taken}
-use Rattle.jiter_scan.specs.Stands.{Stands}
-use Rattle.jiter_scan.specs.Word.{word_at}
+use Rattle.jiter_scan.proofs.Words.{◌≡◌, ◌≢◌, ◌⊎◌, inl, inr, ℕ, ◌^◌, ◌<◌, ◌≤◌, ◌==◌, ◌||◌, min, Bool, true, false, cond}
+use Rattle.jiter_scan.proofs.Words.{length, List, [], ◌∷◌, ◌++◌, refl, sym, ap, ◌∙◌, subst, slice_range, arith, nat_le}
+use Rattle.jiter_scan.proofs.Words.{nat_lt, pos, Some, slice_get, if◌then◌else◌, list_any, cases_lt, nat_tests}
+use Rattle.jiter_scan.proofs.Words.{is_digit, decimal_of, Number, AreDigits, IsIntPart, IsFraction, IsExponent, float}
+use Rattle.jiter_scan.proofs.Words.{big, integer, is_float_byte, number_value, integral_value, minus_of, extent_then}
+use Rattle.jiter_scan.proofs.Words.{int_part_at, fraction_at, exponent_at, magnitude_of, IsMinusTo, taken, Stands}
+use Rattle.jiter_scan.proofs.Words.{word_at}
+use Rattle.std.proofs.lemmas.Bool.{or_right}
+use Rattle.jiter_scan.specs.Number.{positive_value, negative_value}
 use Rattle.jiter_scan.proofs.Choices.{if-false, extent_then-taken}
 use Rattle.jiter_scan.proofs.NumberSound.{int_part_at-sound, fraction_at-sound, exponent_at-sound}
 use Rattle.jiter_scan.proofs.Standing.{stands-append, stands-length, stands-slice, slice-stands}

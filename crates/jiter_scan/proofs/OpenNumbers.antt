@@ -1,16 +1,12 @@
 -- A number that arrives in pieces: what its reading is from the byte at a place on, and at the end of the input.
-use Rattle.std.proofs.Common.{◌≡◌, ℕ, ◌+◌, ◌-◌, ◌<◌, ◌==◌, ◌||◌, Bool, true, false, List, [], ◌∷◌, ◌++◌, length}
-use Rattle.std.proofs.Common.{refl, sym, ap, ◌∙◌, arith, nat_le}
-use Rattle.std.specs.Prelude.{slice_get, Some, None, if◌then◌else◌}
-use Rattle.std.proofs.lemmas.Bool.Decides.{nat_tests}
-use Rattle.jiter_scan.specs.Digits.{is_digit, digit_run_end}
-use Rattle.jiter_scan.specs.Kind.{number_out_of_range}
-use Rattle.jiter_scan.specs.NumberReading.{extent_then, after_minus, after_zero, digits_from, power_from, int_part_from, int_part_at, decimal_at}
-use Rattle.jiter_scan.specs.NumberReading.{extent_from, number_extent, fraction_from, exponent_from, exponent_at}
-use Rattle.jiter_scan.specs.PartialNumber.{within_room, tail_at, begins_decimal, number_from, is_whole, at_end}
-use Rattle.jiter_scan.specs.declared.partial_number.Stage.{Stage}
+use Rattle.jiter_scan.proofs.Words.{◌≡◌, ℕ, ◌+◌, ◌-◌, ◌<◌, ◌==◌, ◌||◌, Bool, true, false, List, [], ◌∷◌, ◌++◌, length}
+use Rattle.jiter_scan.proofs.Words.{refl, sym, ap, ◌∙◌, arith, nat_le, slice_get, Some, None, if◌then◌else◌, nat_tests}
+use Rattle.jiter_scan.proofs.Words.{is_digit, digit_run_end, number_out_of_range, extent_then, after_minus, after_zero}
+use Rattle.jiter_scan.proofs.Words.{digits_from, power_from, int_part_from, int_part_at, decimal_at, extent_from}
+use Rattle.jiter_scan.proofs.Words.{number_extent, fraction_from, exponent_from, exponent_at, within_room, tail_at}
+use Rattle.jiter_scan.proofs.Words.{number_from, is_whole, at_end, Stage, taken, failed}
+use Rattle.jiter_scan.specs.PartialNumber.{begins_decimal}
 use Rattle.jiter_scan.specs.declared.partial_number.Stage.TheVariants as stage
-use Rattle.jiter_scan.specs.Scanned.{taken, failed}
 use Rattle.jiter_scan.proofs.Choices.{if-true, if-false}
 use Rattle.jiter_scan.proofs.Runs.{run_end-ahead, run_end-more, run_end-here}
 

@@ -1,27 +1,16 @@
 -- The value of a number that was read byte by byte.
-use Rattle.std.proofs.Common.{◌≡◌, inl, inr, ℕ, ◌-◌, ◌^◌, ◌<◌, ◌≤◌, ◌==◌, Bool, true, false, List, [], ◌∷◌}
-use Rattle.std.proofs.Common.{◌++◌}
-use Rattle.std.proofs.Common.{append-nil, length, length-append, refl, sym, ap, subst, ◌∙◌, arith, nat_le, nat_lt, ℤ}
-use Rattle.std.specs.Prelude.{codes, slice_get, slice_range, Option, Some, None, IfSome, if◌then◌else◌}
-use Rattle.std.proofs.lemmas.List.{take_all}
-use Rattle.std.proofs.lemmas.Bool.{cases_lt}
-use Rattle.jiter_scan.specs.Digits.{decimal_of}
-use Rattle.jiter_scan.specs.Number.{Number, integer, big, float, is_integral, integral_value}
-use Rattle.jiter_scan.specs.Number.{number_value}
-use Rattle.jiter_scan.specs.Number.{IsName, IsNumberText}
-use Rattle.jiter_scan.specs.Kind.{invalid_number}
-use Rattle.jiter_scan.specs.NumberReading.{after_minus}
-use Rattle.jiter_scan.specs.NumberExtent.{minus_end}
-use Rattle.jiter_scan.specs.NumberReading.{decimal_at, int_part_at, number_extent, number_at, with_value}
-use Rattle.jiter_scan.specs.PartialNumber.{number_from, tail_at, is_whole, is_int_stage, at_end, IsBegun, int_of}
-use Rattle.jiter_scan.specs.Scanned.{taken, failed}
-use Rattle.jiter_scan.specs.Stands.{Stands}
-use Rattle.jiter_scan.specs.Word.{word_at}
-use Rattle.jiter_scan.specs.declared.partial_number.Stage.{Stage}
+use Rattle.jiter_scan.proofs.Words.{◌≡◌, inl, inr, ℕ, ◌-◌, ◌^◌, ◌<◌, ◌≤◌, ◌==◌, Bool, true, false, List, [], ◌∷◌, ◌++◌}
+use Rattle.jiter_scan.proofs.Words.{append-nil, length, length-append, refl, sym, ap, subst, ◌∙◌, arith, nat_le, nat_lt}
+use Rattle.jiter_scan.proofs.Words.{codes, slice_get, slice_range, Option, Some, None, IfSome, if◌then◌else◌, take_all}
+use Rattle.jiter_scan.proofs.Words.{cases_lt, decimal_of, Number, integer, big, float, is_integral, integral_value}
+use Rattle.jiter_scan.proofs.Words.{number_value, IsName, IsNumberText, invalid_number, after_minus, minus_end}
+use Rattle.jiter_scan.proofs.Words.{decimal_at, int_part_at, number_extent, number_at, with_value, number_from, tail_at}
+use Rattle.jiter_scan.proofs.Words.{is_whole, is_int_stage, at_end, IsBegun, int_of, taken, failed, Stands, word_at}
+use Rattle.jiter_scan.proofs.Words.{Stage, continues_number}
+use Rattle.std.proofs.Common.{ℤ}
 use Rattle.jiter_scan.specs.declared.partial_number.Stage.TheVariants as stage
 use Rattle.jiter_scan.proofs.Choices.{if-true, if-false, if_case, if_gives, failed-taken, extent_then-taken}
 use Rattle.jiter_scan.proofs.NumberBytes.{number-not_empty}
-use Rattle.jiter_scan.specs.NumberWithin.{continues_number}
 use Rattle.jiter_scan.proofs.NumberComplete.{number_extent-complete}
 use Rattle.jiter_scan.proofs.NumberExtents.{extent-digits}
 use Rattle.jiter_scan.proofs.NumberSound.{number_extent-sound, int_part_at-sound, fraction_at-sound, exponent_at-sound}

@@ -1,8 +1,7 @@
 -- A text that is laid down in two parts, one over the other.
-use Rattle.std.proofs.Common.{◌≡◌, ℕ, ◌+◌, ◌-◌, ◌≤◌, List, ◌++◌, length, take, drop, sym, ap, ◌∙◌, arith, append_assoc}
-use Rattle.std.proofs.Common.{take-take, length-take-le, take-append-drop}
-use Rattle.std.proofs.Math.Seq.{take-append-add}
-use Rattle.std.proofs.lemmas.List.{take_all, length-drop}
+use Rattle.jiter_scan.proofs.Words.{◌≡◌, ℕ, ◌+◌, ◌-◌, ◌≤◌, List, ◌++◌, length, take, drop, sym, ap, ◌∙◌, arith}
+use Rattle.jiter_scan.proofs.Words.{append_assoc, take-take, length-take-le, take-append-add, take_all, length-drop}
+use Rattle.std.proofs.Common.{take-append-drop}
 
 -- the first half of the bytes stands, and from a place in it on the last half is laid down
 pub ends-placed : (a b c text : List ℕ) (at half : ℕ) → at ≤ length a → half ≤ length text → length text ≤ half + half

@@ -1,19 +1,16 @@
 -- Whether the plain bytes of a string are ASCII, chunk by chunk and byte by byte.
-use Rattle.std.proofs.Common.{◌≡◌, ℕ, ◌+◌, ◌-◌, ◌<◌, ◌≤◌, Bool, true, false, not, ◌&&◌, cond, eqb, leb, List, [], ◌∷◌}
-use Rattle.std.proofs.Common.{length, drop, take, get_or, refl, sym, ap, ap₂, ◌∙◌, arith, zero, suc, take-add}
-use Rattle.std.proofs.Common.{take-take, drop-drop, drop-cons, inl, inr, add-one}
-use Rattle.std.specs.Prelude.{◌↔◌, IsTrue, slice_range}
+use Rattle.jiter_scan.proofs.Words.{◌≡◌, ℕ, ◌+◌, ◌-◌, ◌<◌, ◌≤◌, Bool, true, false, not, ◌&&◌, cond, eqb, leb, List, []}
+use Rattle.jiter_scan.proofs.Words.{◌∷◌, length, drop, take, get_or, refl, sym, ap, ap₂, ◌∙◌, arith, zero, suc}
+use Rattle.jiter_scan.proofs.Words.{take-add, take-take, drop-drop, drop-cons, inl, inr, IsTrue, slice_range}
+use Rattle.jiter_scan.proofs.Words.{length-chunk, list_all-append, prefix_len-le-length, AllPass-from_list_all}
+use Rattle.jiter_scan.proofs.Words.{cases_eq, le-leb, nat_tests, prefix_len, list_all, chunk, count_trailing_zeros}
+use Rattle.jiter_scan.proofs.Words.{is_plain, is_ascii, scan_stop, IsAsciiTo, failing, ascii_from}
+use Rattle.std.proofs.Common.{add-one}
+use Rattle.std.specs.Prelude.{◌↔◌}
 use Rattle.std.proofs.Math.Bool.{and_assoc}
-use Rattle.std.proofs.lemmas.Simd.{length-chunk}
-use Rattle.std.proofs.lemmas.List.Folds.{list_all-append}
-use Rattle.std.proofs.lemmas.List.Sums.{prefix_len-le-length, AllPass-from_list_all, list_all-from_AllPass}
-use Rattle.std.proofs.lemmas.Bool.{cases_eq, le-leb, lt-leb}
-use Rattle.std.proofs.lemmas.Bool.Decides.{nat_tests}
-use Rattle.std.specs.List.{prefix_len, list_all}
-use lib.Lanes.{chunk}
-use lib.Count.{count_trailing_zeros}
-use Rattle.jiter_scan.specs.Scan.{is_stop, is_plain, is_ascii, scan_stop, IsAsciiTo}
-use Rattle.jiter_scan.specs.Simd.{failing, ascii_from}
+use Rattle.std.proofs.lemmas.List.Sums.{list_all-from_AllPass}
+use Rattle.std.proofs.lemmas.Bool.{lt-leb}
+use Rattle.jiter_scan.specs.Scan.{is_stop}
 use Rattle.jiter_scan.proofs.Chunks.{list_all-failing, prefix_len-all, prefix_len-failing, prefix_len-through}
 use Rattle.jiter_scan.proofs.Chunks.{prefix_len-inside, none_fails, one_fails}
 

@@ -1,15 +1,10 @@
 -- Runs of bytes that pass a test.
-use Rattle.std.proofs.Common.{◌≡◌, ℕ, ◌+◌, ◌-◌, ◌<◌, ◌≤◌, Bool, true, false, List, [], ◌∷◌, length, drop, get_or, zero}
-use Rattle.std.proofs.Common.{suc, refl, sym, ap, ◌∙◌, subst, arith}
-use Rattle.std.specs.Prelude.{slice_get, Option, Some, None, IfSome}
-use Rattle.std.specs.List.{prefix_len}
-use Rattle.std.proofs.lemmas.List.{length-drop, get_or-drop}
+use Rattle.jiter_scan.proofs.Words.{◌≡◌, ℕ, ◌+◌, ◌-◌, ◌<◌, ◌≤◌, Bool, true, false, List, [], ◌∷◌, length, drop, get_or}
+use Rattle.jiter_scan.proofs.Words.{zero, suc, refl, sym, ap, ◌∙◌, subst, arith, slice_get, Option, Some, None, IfSome}
+use Rattle.jiter_scan.proofs.Words.{prefix_len, length-drop, get_or-drop, prefix_len-le-length, slice_get_within}
+use Rattle.jiter_scan.proofs.Words.{get_or_from_slice_get, is_digit, run_end, Pass, Stands}
 use Rattle.std.proofs.lemmas.List.Sums.{prefix_len-drop_all, prefix_len-drop_no, prefix_len-drop_yes}
-use Rattle.std.proofs.lemmas.List.Sums.{prefix_len-le-length, prefix_len_passes, prefix_len_stops}
-use Rattle.std.proofs.lemmas.Option.{slice_get_within, get_or_from_slice_get}
-use Rattle.jiter_scan.specs.Digits.{is_digit}
-use Rattle.jiter_scan.specs.Scan.{run_end, Pass}
-use Rattle.jiter_scan.specs.Stands.{Stands}
+use Rattle.std.proofs.lemmas.List.Sums.{prefix_len_passes, prefix_len_stops}
 use Rattle.jiter_scan.proofs.Standing.{get-none}
 
 -- the end, or a byte that does not pass

@@ -1,8 +1,8 @@
 -- How far the reading of a scalar gets, and where its faults stand.
-use Rattle.std.proofs.Common.{◌≡◌, ℕ, ◌<◌, ◌≤◌, ◌∙◌, List, length, sym, ap, subst}
+use Rattle.jiter_scan.proofs.Words.{◌≡◌, ℕ, ◌<◌, ◌≤◌, ◌∙◌, List, length, sym, ap, subst, Scanned, taken, failed}
 use Rattle.std.specs.Prelude.{Err}
 use Rattle.jiter_scan.specs.Kind.{kind_of, fault_kind}
-use Rattle.jiter_scan.specs.Scanned.{Scanned, taken, failed, AnswersAlone}
+use Rattle.jiter_scan.specs.Scanned.{AnswersAlone}
 use Rattle.jiter_scan.specs.declared.errors.Fault.{Fault}
 use Rattle.jiter_scan.specs.declared.errors.JsonError.{JsonError}
 pub use Rattle.jiter_scan.specs.Scanned.{FaultAt}

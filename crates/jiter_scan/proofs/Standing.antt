@@ -1,11 +1,9 @@
 -- Bytes that stand at a place of a text: joined, split, and cut out.
-use Rattle.std.proofs.Common.{◌≡◌, ℕ, zero, suc, ◌+◌, ◌-◌, ◌<◌, ◌≤◌, ◌⊎◌, inl, inr, List, [], ◌∷◌, ◌++◌, length, take}
-use Rattle.std.proofs.Common.{take-add, drop-drop, drop, get_or, refl, sym, ap, ◌∙◌, subst, arith}
-use Rattle.std.specs.Prelude.{slice_get, slice_range, Some, None, IfSome}
-use Rattle.std.proofs.lemmas.List.{drop_more}
-use Rattle.std.proofs.lemmas.Option.{slice_get-get_or, slice_get_within, get_or_from_slice_get, none-some}
-use Rattle.std.proofs.lemmas.Bool.{cases_lt}
-use Rattle.jiter_scan.specs.Stands.{Stands}
+use Rattle.jiter_scan.proofs.Words.{◌≡◌, ℕ, zero, suc, ◌+◌, ◌-◌, ◌<◌, ◌≤◌, ◌⊎◌, inl, inr, List, [], ◌∷◌, ◌++◌, length}
+use Rattle.jiter_scan.proofs.Words.{take, take-add, drop-drop, drop, get_or, refl, sym, ap, ◌∙◌, subst, arith}
+use Rattle.jiter_scan.proofs.Words.{slice_get, slice_range, Some, None, IfSome, drop_more, slice_get-get_or}
+use Rattle.jiter_scan.proofs.Words.{slice_get_within, get_or_from_slice_get, cases_lt, Stands}
+use Rattle.std.proofs.lemmas.Option.{none-some}
 
 -- P of the first byte, where there is one
 abbrev pub First : List ℕ → (ℕ → Type 0) → Type 0

@@ -1,13 +1,12 @@
 -- What a tape holds when more is written after its first bytes.
-use Rattle.std.proofs.Common.{◌≡◌, ℕ, ◌+◌, ◌-◌, ◌/◌, ◌%◌, ◌<◌, ◌≤◌, cond, List, [], ◌∷◌, ◌++◌, length, drop, take, refl}
-use Rattle.std.proofs.Common.{sym, ap, ◌∙◌, arith, append_assoc, take-take}
-use Rattle.std.specs.Prelude.{slice_range, slice_set, nat_lt}
+use Rattle.jiter_scan.proofs.Words.{◌≡◌, ℕ, ◌+◌, ◌-◌, ◌/◌, ◌%◌, ◌<◌, ◌≤◌, cond, List, [], ◌∷◌, ◌++◌, length, drop, take}
+use Rattle.jiter_scan.proofs.Words.{refl, sym, ap, ◌∙◌, arith, append_assoc, take-take, slice_range, nat_lt}
+use Rattle.jiter_scan.proofs.Words.{take-append-add, lt-ltb, length-take, chunk}
+use Rattle.std.specs.Prelude.{slice_set}
 use Rattle.std.specs.Char.{encode_utf8}
-use Rattle.std.proofs.Math.Seq.{take-append-add}
-use Rattle.std.proofs.lemmas.Bool.{lt-ltb, le-ltb}
+use Rattle.std.proofs.lemmas.Bool.{le-ltb}
 use Rattle.std.proofs.lemmas.Grind.{take-set_at}
-use Rattle.std.proofs.lemmas.List.{length-set, length-take}
-use lib.Lanes.{chunk}
+use Rattle.std.proofs.lemmas.List.{length-set}
 use Rattle.jiter_scan.proofs.Standing.{slice_range-split}
 
 -- where a chunk of the text is written after the first bytes, so many of its bytes stand after them

@@ -1,13 +1,8 @@
 -- A word is read just where its bytes stand.
-use Rattle.std.proofs.Common.{◌≡◌, ℕ, ◌+◌, ◌<◌, ◌≤◌, ◌≢◌, Bool, cond, List, [], ◌∷◌, length, drop, get_or, refl, ap}
-use Rattle.std.proofs.Common.{◌∙◌, subst, arith}
-use Rattle.std.specs.Prelude.{slice_get, Some, None, ◌==◌}
-use Rattle.std.proofs.lemmas.List.{drop_more, drop_all}
-use Rattle.std.proofs.lemmas.Bool.{eq-eqb, ne_eqb}
-use Rattle.jiter_scan.specs.Kind.{eof_value, expected_ident}
-use Rattle.jiter_scan.specs.Scanned.{taken, failed}
-use Rattle.jiter_scan.specs.Stands.{Stands}
-use Rattle.jiter_scan.specs.Word.{Extent, byte_then, word_at}
+use Rattle.jiter_scan.proofs.Words.{◌≡◌, ℕ, ◌+◌, ◌<◌, ◌≤◌, ◌≢◌, Bool, cond, List, [], ◌∷◌, length, drop, get_or, refl}
+use Rattle.jiter_scan.proofs.Words.{ap, ◌∙◌, subst, arith, slice_get, Some, None, ◌==◌, drop_more, eq-eqb, ne_eqb}
+use Rattle.jiter_scan.proofs.Words.{eof_value, expected_ident, taken, failed, Stands, Extent, byte_then, word_at}
+use Rattle.std.proofs.lemmas.List.{drop_all}
 use Rattle.jiter_scan.proofs.Choices.{if-true}
 use Rattle.jiter_scan.proofs.Scanning.{FaultAt}
 use Rattle.jiter_scan.proofs.NumberRows.{IsWord}

@@ -1,13 +1,9 @@
 -- What the rows compute: of each subject the definitions that a row on literals unfolds.
+use Rattle.jiter_steps.proofs.Words.{chars, is_utf8, utf8_valid_len, utf8_error_len, encode_utf8, word_at, past_blanks}
+use Rattle.jiter_steps.proofs.Words.{event_at, body_within, body_at, content_at, parts_at, inside_at, prefix_answer}
+use Rattle.jiter_steps.proofs.Words.{whole_answer}
 use Rattle.std.specs.Prelude.{⊤}
-use Rattle.std.specs.Str.{chars, is_utf8}
-use Rattle.std.specs.Str.Lossy.{utf8_valid_len, utf8_error_len}
-use Rattle.std.specs.Char.{encode_utf8}
-use Rattle.jiter_scan.specs.Word.{word_at}
 use Rattle.jiter_scan.proofs.Computed.{computed_numbers}
-use Rattle.jiter_steps.specs.Blank.{past_blanks}
-use Rattle.jiter_steps.specs.StringReading.{event_at, body_within, body_at, content_at}
-use Rattle.jiter_steps.specs.Read.{parts_at, inside_at, prefix_answer, whole_answer}
 
 unfoldable pub computed_literals : ⊤
 unfolding word_at

@@ -9,3 +9,4 @@ pub mod OpenTexts
 pub mod Reading
 pub mod StringsWithin
 pub mod Unique
+pub mod Words

@@ -1,24 +1,17 @@
 -- An escape that arrives in pieces: while it is cut it is short, and what ends it is found wherever it stands.
-use Rattle.std.proofs.Common.{◌≡◌, inl, inr, ℕ, zero, suc, ◌+◌, ◌-◌, ◌<◌, ◌≤◌, ◌==◌, Bool, true, false, List}
-use Rattle.std.proofs.Common.{[], ◌∷◌, ◌++◌}
-use Rattle.std.proofs.Common.{length, refl, sym, ap, ap₂, ◌∙◌, subst, arith, length-append}
-use Rattle.std.specs.Char.{encode_utf8}
-use Rattle.std.specs.Prelude.{slice_get, slice_index, Option, Some, None, if◌then◌else◌, nat_lt}
-use Rattle.std.proofs.Math.Seq.{take-append_seam}
-use Rattle.std.proofs.lemmas.Bool.{cases_lt, ltb-true, ltb-false, le-ltb, lt-ltb}
-use Rattle.std.proofs.lemmas.Option.{slice_get_past, slice_get_within, slice_get-get_or, get_or_from_slice_get}
-use Rattle.std.proofs.lemmas.List.{take_all}
-use Rattle.std.proofs.lemmas.Option.{none-some, same_Some}
-use Rattle.jiter_scan.specs.Kind.{Kind, invalid_escape, lone_surrogate, end_of_hex_escape, control_character}
-use Rattle.jiter_scan.specs.Stands.{Stands}
-use Rattle.jiter_scan.proofs.Choices.{if_case, if_both, if-true, if-false}
-use Rattle.jiter_scan.proofs.Standing.{get-none, slice-stands}
-use Rattle.jiter_steps.specs.Escape.{short_escape, is_hex, unit_of, is_high, is_low}
-use Rattle.jiter_steps.specs.PartialEscape.{IsSpelled}
-use Rattle.jiter_steps.specs.StringReading.{closed, unclosed, cut, wrong, Event, part, over, bad_digit, unit_at}
-use Rattle.jiter_steps.specs.StringReading.{HexDigits, few, hex_digits_or, hex_digits_at, after, unit_then}
-use Rattle.jiter_steps.specs.StringReading.{surrogate_pair, after_high_backslash, after_high, single, unicode_escape}
-use Rattle.jiter_steps.specs.StringReading.{short, after_backslash, event_by, event_at}
+use Rattle.jiter_steps.proofs.Words.{◌≡◌, inl, inr, ℕ, zero, suc, ◌+◌, ◌-◌, ◌<◌, ◌≤◌, ◌==◌, Bool, true, false, List, []}
+use Rattle.jiter_steps.proofs.Words.{◌∷◌, ◌++◌, length, refl, sym, ap, ap₂, ◌∙◌, subst, arith, length-append}
+use Rattle.jiter_steps.proofs.Words.{encode_utf8, slice_get, slice_index, Option, Some, None, if◌then◌else◌, nat_lt}
+use Rattle.jiter_steps.proofs.Words.{take-append_seam, cases_lt, ltb-true, ltb-false, le-ltb, lt-ltb, slice_get_past}
+use Rattle.jiter_steps.proofs.Words.{slice_get_within, slice_get-get_or, get_or_from_slice_get, take_all, none-some}
+use Rattle.jiter_steps.proofs.Words.{same_Some, Kind, invalid_escape, lone_surrogate, end_of_hex_escape}
+use Rattle.jiter_steps.proofs.Words.{control_character, Stands, if_case, if-true, if-false, get-none, slice-stands}
+use Rattle.jiter_steps.proofs.Words.{short_escape, is_hex, unit_of, is_high, is_low, IsSpelled, unclosed, cut, wrong}
+use Rattle.jiter_steps.proofs.Words.{Event, part, over, bad_digit, unit_at, HexDigits, few, hex_digits_or}
+use Rattle.jiter_steps.proofs.Words.{hex_digits_at, after, unit_then, surrogate_pair, after_high_backslash, after_high}
+use Rattle.jiter_steps.proofs.Words.{single, unicode_escape, short, after_backslash, event_by, event_at}
+use Rattle.jiter_scan.proofs.Choices.{if_both}
+use Rattle.jiter_steps.specs.StringReading.{closed}
 use Rattle.jiter_steps.specs.declared.partial_escape.Spelled.TheVariants as spelled
 use Rattle.jiter_steps.proofs.Cut.DocumentPrefixes.{prefix-stands}
 use Rattle.jiter_steps.proofs.Grammar.Places.{Explains, event_at-explains}

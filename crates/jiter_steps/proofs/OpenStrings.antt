@@ -1,32 +1,23 @@
 -- A string that arrives in pieces: what its next bytes make of it, and what ends it.
-use Rattle.std.proofs.Common.{◌≡◌, ℕ, zero, suc, ◌+◌, ◌-◌, ◌<◌, ◌≤◌, ◌||◌, Bool, true, false, List, [], ◌∷◌, ◌++◌}
-use Rattle.std.proofs.Common.{length, take, drop, refl, sym, ap, ap₂, ◌∙◌, subst, arith, append-nil, append_assoc}
-use Rattle.std.proofs.Common.{length-append, take-take}
-use Rattle.std.specs.Prelude.{slice_get, slice_range, Option, Some, None, IfOk, IfSome, Result, Ok, Err, is_some}
-use Rattle.std.specs.Char.{encode_utf8}
-use Rattle.std.specs.Str.{IsAscii, IsUtf8}
-use Rattle.std.proofs.lemmas.Bool.{and_parts, false≢true, lt-ltb, ltb-true, ne_eqb}
-use Rattle.std.proofs.lemmas.Bool.Decides.{nat_tests}
-use Rattle.std.proofs.lemmas.Option.{slice_get_within}
+use Rattle.jiter_steps.proofs.Words.{◌≡◌, ℕ, zero, suc, ◌+◌, ◌-◌, ◌<◌, ◌≤◌, ◌||◌, Bool, true, false, List, [], ◌∷◌}
+use Rattle.jiter_steps.proofs.Words.{◌++◌, length, take, drop, refl, sym, ap, ap₂, ◌∙◌, subst, arith, append-nil}
+use Rattle.jiter_steps.proofs.Words.{append_assoc, length-append, take-take, slice_get, slice_range, Option, Some, None}
+use Rattle.jiter_steps.proofs.Words.{IfOk, IfSome, Result, Ok, Err, is_some, encode_utf8, IsAscii, IsUtf8, and_parts}
+use Rattle.jiter_steps.proofs.Words.{false≢true, lt-ltb, ltb-true, ne_eqb, nat_tests, slice_get_within, fault_kind}
+use Rattle.jiter_steps.proofs.Words.{control_character, eof_string, is_plain, scan_stop, failed, taken, Stands}
+use Rattle.jiter_steps.proofs.Words.{prefix_len-pass, stands-length, stands-append, stands-slice, stands-split}
+use Rattle.jiter_steps.proofs.Words.{slice-one, slice-stands, IsSpelled, HasTaken, IsTextWithin, HoldsBytes, HoldsText}
+use Rattle.jiter_steps.proofs.Words.{SoFar, Body, Form, Stop, before, body_at, checked, content_at, cut, is_cut, kept}
+use Rattle.jiter_steps.proofs.Words.{over, part, event_at, text_form, text_in_form, unclosed, whole, wrong, FaultKind}
+use Rattle.jiter_steps.proofs.Words.{length-take, length-drop}
 use Rattle.std.proofs.lemmas.Str.Ascii.{IsAscii-cons, IsAscii-nil}
-use Rattle.jiter_scan.specs.Kind.{fault_kind, control_character, eof_string}
-use Rattle.jiter_scan.specs.Scan.{Pass, is_plain, is_plain_ascii, scan_stop}
-use Rattle.jiter_scan.specs.Scanned.{failed, taken}
-use Rattle.jiter_scan.specs.Stands.{Stands}
-use Rattle.jiter_scan.proofs.Chunks.{prefix_len-pass}
-use Rattle.jiter_scan.proofs.Standing.{stands-length, stands-append, stands-slice, stands-split, slice-one}
-use Rattle.jiter_scan.proofs.Standing.{slice-stands}
-use Rattle.jiter_steps.specs.PartialEscape.{IsSpelled}
-use Rattle.jiter_steps.specs.PartialString.{Goes, HasTaken, HasTakenFrom, IsEven, IsTextWithin, grown, held_bytes}
-use Rattle.jiter_steps.specs.PartialText.{HoldsBytes, HoldsText, SoFar, with_text}
-use Rattle.jiter_steps.specs.StringReading.{Body, Form, Stop, before, body_at, checked, closed, content_at}
-use Rattle.jiter_steps.specs.StringReading.{cut, is_cut, kept, over, part, event_at, text_form}
-use Rattle.jiter_steps.specs.StringReading.{text_in_form, unclosed, whole, wrong}
+use Rattle.jiter_scan.specs.Scan.{Pass, is_plain_ascii}
+use Rattle.jiter_steps.specs.PartialString.{Goes, HasTakenFrom, IsEven, grown, held_bytes}
+use Rattle.jiter_steps.specs.PartialText.{with_text}
+use Rattle.jiter_steps.specs.StringReading.{closed}
 use Rattle.jiter_steps.specs.declared.partial_escape.Spelled.TheVariants as spelled
 use Rattle.jiter_steps.specs.declared.partial_string.PartialString.{PartialString}
 use Rattle.jiter_steps.specs.declared.partial_string.Went.TheVariants as went
-use Rattle.jiter_scan.specs.declared.errors.FaultKind.{FaultKind}
-use Rattle.std.proofs.lemmas.List.{length-take, length-drop}
 use Rattle.jiter_steps.proofs.Cut.DocumentPrefixes.{prefix-length, prefix-range}
 use Rattle.jiter_steps.proofs.Grammar.StringComplete.{ArePrinted, IsPrinted, bytes-read, event_by-escape}
 use Rattle.jiter_steps.proofs.Grammar.StringComplete.{event_by-quote}

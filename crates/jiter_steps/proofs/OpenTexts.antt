@@ -1,24 +1,18 @@
 -- A text that arrives in parts: what bytes after its characters make of it, and what it is when they are all.
-use Rattle.std.proofs.Common.{◌≡◌, ◌⊎◌, inl, inr, ℕ, zero, suc, ◌+◌, ◌-◌, ◌<◌, ◌≤◌, ◌==◌, Bool, true, false, not}
-use Rattle.std.proofs.Common.{List, [], ◌∷◌, ◌++◌, length, take, drop, refl, sym, ap, ◌∙◌, subst, arith}
-use Rattle.std.proofs.Common.{append-nil, append_assoc, length-append, nat_eq}
-use Rattle.std.specs.Prelude.{Option, Some, None, is_some, if◌then◌else◌}
-use Rattle.std.specs.Int.{is_in_range}
-use Rattle.std.specs.Str.{IsUtf8, IsValidUpTo, all_scalars}
-use Rattle.std.specs.Str.Lossy.{utf8_valid_len, utf8_error_len, second_byte_min, second_byte_max}
-use Rattle.std.proofs.Math.Seq.{take-append_seam, drop-append_seam, take-append-add, take-add}
-use Rattle.std.proofs.lemmas.Bool.{cases_lt, le-ltb, and_parts, eq-eqb, ne_eqb}
-use Rattle.std.proofs.lemmas.List.{take-append-drop, take-append-le, length-drop}
-use Rattle.std.proofs.lemmas.Option.{none-some}
-use Rattle.std.proofs.lemmas.Str.{IsUtf8-append, IsUtf8-drop, IsUtf8-encode, IsCharBoundary-from_take}
-use Rattle.std.proofs.lemmas.Str.{utf8_valid_len-IsUtf8, utf8_valid_len-IsValidUpTo}
-use lib.Utf8.{encode, encodes}
-use Rattle.jiter_scan.specs.Kind.{invalid_code_point}
-use Rattle.jiter_scan.specs.Scanned.{Scanned, taken, failed}
-use Rattle.jiter_scan.proofs.Choices.{if_gives, if-true, if-false}
-use Rattle.jiter_steps.specs.Tree.{Text}
-use Rattle.jiter_steps.specs.StringReading.{if_utf8, valid_prefix, valid_prefix_by, checked}
-use Rattle.jiter_steps.specs.PartialText.{BeginsNoText, IsUnfinished, IsBroken, HoldsBytes, SoFar, HoldsText}
+use Rattle.jiter_steps.proofs.Words.{◌≡◌, ◌⊎◌, inl, inr, ℕ, zero, suc, ◌+◌, ◌-◌, ◌<◌, ◌≤◌, ◌==◌, Bool, true, false, not}
+use Rattle.jiter_steps.proofs.Words.{List, [], ◌∷◌, ◌++◌, length, take, drop, refl, sym, ap, ◌∙◌, subst, arith}
+use Rattle.jiter_steps.proofs.Words.{append-nil, append_assoc, length-append, nat_eq, Option, Some, None, is_some}
+use Rattle.jiter_steps.proofs.Words.{if◌then◌else◌, is_in_range, IsUtf8, IsValidUpTo, all_scalars, utf8_valid_len}
+use Rattle.jiter_steps.proofs.Words.{utf8_error_len, second_byte_min, second_byte_max, take-append_seam}
+use Rattle.jiter_steps.proofs.Words.{drop-append_seam, cases_lt, le-ltb, and_parts, eq-eqb, ne_eqb, take-append-drop}
+use Rattle.jiter_steps.proofs.Words.{length-drop, none-some, IsUtf8-append, IsUtf8-drop, IsUtf8-encode}
+use Rattle.jiter_steps.proofs.Words.{IsCharBoundary-from_take, utf8_valid_len-IsUtf8, utf8_valid_len-IsValidUpTo}
+use Rattle.jiter_steps.proofs.Words.{encode, encodes, invalid_code_point, Scanned, taken, failed, if_gives, if-true}
+use Rattle.jiter_steps.proofs.Words.{if-false, Text, if_utf8, valid_prefix, valid_prefix_by, checked, IsUnfinished}
+use Rattle.jiter_steps.proofs.Words.{IsBroken, HoldsBytes, SoFar, HoldsText}
+use Rattle.std.proofs.Math.Seq.{take-append-add, take-add}
+use Rattle.std.proofs.lemmas.List.{take-append-le}
+use Rattle.jiter_steps.specs.PartialText.{BeginsNoText}
 use Rattle.jiter_steps.proofs.Cut.CutCharacters.{IsPrefix, prefix-unfinished}
 use Rattle.jiter_steps.proofs.Grammar.Utf8Shape.{lead}
 

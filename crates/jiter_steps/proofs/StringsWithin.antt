@@ -1,15 +1,10 @@
 -- A string that lies whole in a piece is read as the same text wherever its bytes stand.
-use Rattle.std.proofs.Common.{◌≡◌, ℕ, ◌+◌, ◌<◌, ◌≤◌, Bool, true, false, List, [], ◌∷◌, ◌++◌, length, sym, ap}
-use Rattle.std.proofs.Common.{◌∙◌, subst, arith}
-use Rattle.std.specs.Prelude.{slice_get, slice_range, Some}
-use Rattle.std.specs.Str.{IsUtf8}
-use Rattle.jiter_scan.proofs.Standing.{slice-one, slice_range-split, slice-stands, stands-split}
-use Rattle.jiter_scan.specs.Scanned.{taken}
-use Rattle.jiter_scan.specs.Stands.{Stands}
-use Rattle.jiter_steps.specs.PartialString.{IsTextWithin}
-use Rattle.jiter_steps.specs.StringReading.{Body, Stop, before, body_at, closed, content_at, over, part}
-use Rattle.jiter_steps.specs.StringReading.{checked, is_cut, event_at, string_at, text_form, text_in_form, whole}
-use Rattle.jiter_steps.specs.Tree.{Text}
+use Rattle.jiter_steps.proofs.Words.{◌≡◌, ℕ, ◌+◌, ◌<◌, ◌≤◌, Bool, true, false, List, [], ◌∷◌, ◌++◌, length, sym, ap}
+use Rattle.jiter_steps.proofs.Words.{◌∙◌, subst, arith, slice_get, slice_range, Some, IsUtf8, slice-one}
+use Rattle.jiter_steps.proofs.Words.{slice_range-split, slice-stands, stands-split, taken, Stands, IsTextWithin, Body}
+use Rattle.jiter_steps.proofs.Words.{Stop, before, body_at, content_at, over, part, checked, is_cut, event_at}
+use Rattle.jiter_steps.proofs.Words.{string_at, text_form, text_in_form, whole, Text}
+use Rattle.jiter_steps.specs.StringReading.{closed}
 use Rattle.jiter_steps.proofs.Calls.StringAnswers.{string-checked, string_closed}
 use Rattle.jiter_steps.proofs.Grammar.Places.{Explains}
 use Rattle.jiter_steps.proofs.Grammar.StringComplete.{event_by-byte, event_by-escape, event_by-quote}

@@ -1,14 +1,17 @@
 -- The codes that equality compares tell what a tree holds, and no more.
-use Rattle.std.proofs.Common.{◌≡◌, ℕ, ℤ, pos, negsuc, Bool, true, false, List, [], ◌∷◌, ◌++◌, length, take, drop, refl}
-use Rattle.std.proofs.Common.{sym, ap, ap₂, ◌∙◌, append_assoc, append-nil}
-use Rattle.std.proofs.Math.Seq.{take-append_seam, drop-append_seam}
+use Rattle.jiter_value.proofs.Words.{◌≡◌, ℕ, ℤ, pos, Bool, true, false, List, [], ◌∷◌, ◌++◌, length, take, drop, refl}
+use Rattle.jiter_value.proofs.Words.{sym, ap, ap₂, ◌∙◌, append_assoc, take-append_seam, Decides, Text, Tree, null}
+use Rattle.jiter_value.proofs.Words.{boolean, int, float, string, array, object, Items, no_items, item, Members}
+use Rattle.jiter_value.proofs.Words.{no_members, member, owned_text, owned_tree, HoldSame}
+use Rattle.std.proofs.Common.{negsuc}
+use Rattle.std.proofs.Common.{append-nil}
+use Rattle.std.proofs.Math.Seq.{drop-append_seam}
 use Rattle.std.proofs.lemmas.Slice.Eq.{slice_eq-Decides}
-use Rattle.std.specs.Bool.{Decides, one_answer}
+use Rattle.std.specs.Bool.{one_answer}
 use Rattle.std.specs.Cmp.{unsigned_Decides}
-use Rattle.jiter_steps.specs.Tree.{Text, Tree, null, boolean, int, big, float, string, array, object}
-use Rattle.jiter_steps.specs.Tree.{Items, no_items, item, Members, no_members, member}
+use Rattle.jiter_steps.specs.Tree.{big}
 use Rattle.jiter_value.specs.Equality.{code, code_bool, code_int, code_bytes, code_items, code_members, same_content}
-use Rattle.jiter_value.specs.Owned.{owned_text, owned_tree, owned_items, owned_members, HoldSame}
+use Rattle.jiter_value.specs.Owned.{owned_items, owned_members}
 use Rattle.jiter_value.proofs.Equal.{along}
 
 -- ---- where texts lie has no part in a code

@@ -1,29 +1,25 @@
 -- Sets of keys: what they have once keys are put in or members are gone, and which key is new.
-use Rattle.std.proofs.Common.{◌≡◌, ◌⊎◌, ⊎_elim, inl, inr, ℕ, suc, ◌+◌, ◌<◌, ◌≤◌, Bool, true, false, List, [], ◌∷◌, ◌++◌}
-use Rattle.std.proofs.Common.{length, drop, get_or, refl, sym, ap, ◌∙◌, arith, subst, length-append}
-use Rattle.std.specs.Prelude.{◌||◌, ◌≢◌, ◌*◌, ◌%◌, ◌^◌, All, set}
-use Rattle.std.specs.Str.{bytes_eq}
+use Rattle.jiter_value.proofs.Words.{◌≡◌, ◌⊎◌, inl, inr, ℕ, suc, ◌+◌, ◌<◌, ◌≤◌, Bool, true, false, List, [], ◌∷◌, ◌++◌}
+use Rattle.jiter_value.proofs.Words.{length, drop, get_or, refl, sym, ap, ◌∙◌, arith, subst, length-append, ◌||◌, ◌≢◌}
+use Rattle.jiter_value.proofs.Words.{◌^◌, All, bytes_eq, Global, CowStr, false_from_ne_true, length-map, length-drop}
+use Rattle.jiter_value.proofs.Words.{at_drop_more, bytes_eq-Decides, text_view, AreTaken, HasKeys, IsNowhere, IsPlaceOf}
+use Rattle.jiter_value.proofs.Words.{IsUpToDate, has_text, mark_on, Member, keys_of, has_key}
+use Rattle.std.proofs.Common.{⊎_elim}
+use Rattle.std.specs.Prelude.{◌*◌, ◌%◌, set}
 use Rattle.std.specs.List.{list_any}
 use Rattle.std.specs.BTreeSet.{BTreeSet, insert_key}
 use Rattle.std.specs.BTreeMap.{is_at}
 use Rattle.std.specs.Cmp.Lexicographic.{slice_cmp}
 use Rattle.std.specs.Ordering.{match_ordering, nat_cmp}
-use Rattle.std.specs.declared.alloc.Global.{Global}
-use Rattle.std.specs.declared.borrow.CowStr.{CowStr}
 use Rattle.std.specs.declared.cmp.Ordering.{Ordering}
 use Rattle.std.specs.declared.cmp.Ordering.TheVariants.{Less, Equal, Greater}
 use Rattle.std.specs.Cow.{cow_str_bytes}
 use Rattle.std.proofs.Math.ListN.{get_or-append}
-use Rattle.std.proofs.lemmas.Bool.{or_right, false_from_ne_true, cases_eq}
-use Rattle.std.proofs.lemmas.List.{get_or-drop, drop-map, length-map, length-drop, get_or-map}
-use Rattle.std.proofs.lemmas.List.{at_drop_more, at_drop_all, get_or-set_other, get_or-set_same, length-set}
+use Rattle.std.proofs.lemmas.Bool.{or_right, cases_eq}
+use Rattle.std.proofs.lemmas.List.{get_or-drop, drop-map, get_or-map}
+use Rattle.std.proofs.lemmas.List.{at_drop_all, get_or-set_other, get_or-set_same, length-set}
 use Rattle.std.proofs.lemmas.List.Elements.{All-weaker}
-use Rattle.std.proofs.lemmas.Slice.Eq.{bytes_eq-Decides}
-use Rattle.jiter_steps.specs.StringDecoder.{text_view}
-use Rattle.jiter_value.specs.DuplicateKeys.{Adds, AreTaken, HasKeys, Holds, IsNowhere, IsPlaceOf, IsUpToDate, bucket_of}
-use Rattle.jiter_value.specs.DuplicateKeys.{has_text, mark_on}
-use Rattle.jiter_value.specs.Stacks.{Member, keys_of}
-use Rattle.jiter_value.specs.UniqueKeys.{has_key}
+use Rattle.jiter_value.specs.DuplicateKeys.{Adds, Holds, bucket_of}
 use Rattle.jiter_value.specs.declared.turns.duplicate_keys.DuplicateKeyIndex.{DuplicateKeyIndex}
 use Rattle.jiter_value.specs.declared.turns.duplicate_keys.Place.{Place}
 

@@ -1,28 +1,15 @@
 -- Where a reading begins, and where it has ended.
-use Rattle.std.proofs.Common.{◌≡◌, ◌≢◌, ◌∙◌, inl, inr, ℕ, ◌+◌, ◌<◌, ◌≤◌, List, [], ap₂, arith, length, refl, reverse}
-use Rattle.std.proofs.Common.{subst}
-use Rattle.std.specs.Prelude.{Err, IfOk}
-use Rattle.jiter_steps.specs.Parse.{Gives}
-use Rattle.jiter_steps.specs.Read.{done, value_at}
-use Rattle.jiter_steps.specs.ReadError.{WhereRefused}
-use Rattle.jiter_steps.specs.declared.read_error.ReadError.{ReadError}
+use Rattle.jiter_value.proofs.Words.{◌≡◌, ◌≢◌, ◌∙◌, inl, inr, ℕ, ◌+◌, ◌<◌, ◌≤◌, List, [], ap₂, arith, length, refl}
+use Rattle.jiter_value.proofs.Words.{reverse, subst, Err, IfOk, Gives, done, value_at, WhereRefused, ReadError}
+use Rattle.jiter_value.proofs.Words.{HoldsNothing, Keeping, rules_as, HaveKeys, Member, keys_of, held, held_in, size}
+use Rattle.jiter_value.proofs.Words.{GoesOn, HasCome, MayGrowFor, outcome, view, MayGrowBy, Settings, Stacks, State}
+use Rattle.jiter_value.proofs.Words.{JsonValue, past_blanks, lent}
 use Rattle.jiter_steps.specs.declared.read_error.ReadError.TheVariants as error
-use Rattle.jiter_value.specs.Scratch.{HoldsNothing}
-use Rattle.jiter_value.specs.Settings.{Keeping, rules_as}
-use Rattle.jiter_value.specs.Stacks.{HaveKeys, Member, keys_of}
-use Rattle.jiter_value.specs.Size.{held, held_in, size}
-use Rattle.jiter_value.specs.Turns.{GoesOn, HasCome, HasTurned, MayGrowFor, outcome}
+use Rattle.jiter_value.specs.Turns.{HasTurned}
 use Rattle.jiter_value.specs.declared.turns.Reading.{Reading}
-use Rattle.jiter_value.specs.Value.{view, MayGrowBy}
-use Rattle.jiter_value.specs.declared.settings.Settings.{Settings}
-use Rattle.jiter_value.specs.declared.stacks.Stacks.{Stacks}
-use Rattle.jiter_value.specs.declared.stacks.State.{State}
 use Rattle.jiter_value.specs.declared.stacks.State.TheVariants as state
-use Rattle.jiter_value.specs.declared.value.JsonValue.{JsonValue}
 use Rattle.jiter_value.proofs.StackTurns.{root-holds-nothing, root-stands}
-use Rattle.jiter_steps.specs.Blank.{past_blanks}
 use Rattle.jiter_value.specs.Machine.{HasEnded}
-use Rattle.jiter_value.specs.Settings.{lent}
 use Rattle.jiter_value.proofs.KeptKeys.{leaves-all}
 use Rattle.jiter_value.proofs.TurnOutcomes.{grows-borrowing, refused-any, refused-weaker}
 use Rattle.jiter_value.proofs.WholeTextAnswers.{answer-refused, begins-at-value, fails-gives, held-begun}

@@ -1,15 +1,8 @@
 -- What equality compares.
-use Rattle.std.proofs.Common.{◌≡◌, ℕ, zero, suc, ◌<◌, Bool, false, List, [], ◌∷◌, length, map, get_or, refl, sym, ap}
-use Rattle.std.proofs.Common.{◌∙◌, true≢false, Vec, Global}
-use Rattle.std.specs.Bool.{Decides}
-use Rattle.std.proofs.lemmas.Option.{slice_get_read}
-use Rattle.std.specs.Prelude.{slice_get, Some}
-use Rattle.jiter_steps.specs.Tree.{Text, Tree, array, object, Items, Members}
-use Rattle.jiter_steps.specs.Tree.{items_of, members_of}
-use Rattle.jiter_value.specs.Owned.{owned_text, owned_tree, owned_member, HoldSame}
-use Rattle.jiter_value.specs.Stacks.{Member, member_view}
-use Rattle.jiter_value.specs.Value.{view}
-use Rattle.jiter_value.specs.declared.value.JsonValue.{JsonValue, Array, Object}
+use Rattle.jiter_value.proofs.Words.{◌≡◌, ℕ, zero, suc, ◌<◌, Bool, false, List, [], ◌∷◌, length, map, get_or, refl, sym}
+use Rattle.jiter_value.proofs.Words.{ap, ◌∙◌, true≢false, Vec, Global, Decides, slice_get_read, slice_get, Some, Text}
+use Rattle.jiter_value.proofs.Words.{Tree, array, object, Items, Members, items_of, members_of, owned_text, owned_tree}
+use Rattle.jiter_value.proofs.Words.{owned_member, HoldSame, Member, member_view, view, JsonValue, Array, Object}
 use Rattle.jiter_value.proofs.MadeTexts.{items_as-of, members_as-of}
 use Rattle.jiter_value.proofs.Views.{view_array, view_object}
 

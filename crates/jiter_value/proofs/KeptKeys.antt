@@ -1,19 +1,13 @@
 -- Members that are left, put or pushed: which of the keys that there were they have.
-use Rattle.std.proofs.Common.{◌≡◌, ℕ, ◌≤◌, List, [], ◌∷◌, ◌++◌, length, take, get_or, refl, sym, ap, ◌∙◌}
-use Rattle.std.proofs.Common.{arith}
-use Rattle.std.specs.Prelude.{slice_set, min, OnOk}
+use Rattle.jiter_value.proofs.Words.{◌≡◌, ℕ, ◌≤◌, List, [], ◌∷◌, ◌++◌, length, take, get_or, refl, sym, ap, ◌∙◌, arith}
+use Rattle.jiter_value.proofs.Words.{slice_set, OnOk, take_all, take-take, take-append-le, length-map, length-take}
+use Rattle.jiter_value.proofs.Words.{map_push, Global, CowStr, text_view, HaveKeys, LeavesKeys, Member, keys_of}
+use Rattle.jiter_value.proofs.Words.{outcome, Stacks, State, JsonValue}
+use Rattle.std.specs.Prelude.{min}
 use Rattle.std.proofs.Math.Seq.{map-set_same}
-use Rattle.std.proofs.lemmas.List.{take_all, take-take, take-map, take-append-le, length-map, length-take}
-use Rattle.std.proofs.lemmas.List.{take_min, map_push}
-use Rattle.std.specs.declared.alloc.Global.{Global}
-use Rattle.std.specs.declared.borrow.CowStr.{CowStr}
-use Rattle.jiter_steps.specs.StringDecoder.{text_view}
-use Rattle.jiter_value.specs.Stacks.{HaveKeys, LeavesKeys, Member, keys_of}
-use Rattle.jiter_value.specs.Turns.{outcome}
-use Rattle.jiter_value.specs.declared.stacks.Stacks.{Stacks}
-use Rattle.jiter_value.specs.declared.stacks.State.{State}
+use Rattle.std.proofs.lemmas.List.{take-map}
+use Rattle.std.proofs.lemmas.List.{take_min}
 use Rattle.jiter_value.specs.declared.stacks.State.TheVariants as state
-use Rattle.jiter_value.specs.declared.value.JsonValue.{JsonValue}
 
 -- as many keys as members
 pub key_count : (ms : List Member) → length (keys_of ms) ≡ length ms

@@ -1,24 +1,22 @@
 -- Where a text lies that is read without a copy: where its bytes stand.
-use Rattle.std.proofs.Common.{◌≡◌, ◌∙◌, refl, sym, ap, subst, ℕ, ◌+◌, ◌<◌, ◌≤◌, Bool, true, false, List, [], ◌∷◌, ◌++◌}
+use Rattle.jiter_value.proofs.Words.{◌≡◌, ◌∙◌, refl, sym, ap, subst, ℕ, ◌+◌, ◌<◌, ◌≤◌, Bool, true, false, List, [], ◌∷◌}
+use Rattle.jiter_value.proofs.Words.{◌++◌, length, take, drop, arith, length-append, take-append_seam, length-take-le}
+use Rattle.jiter_value.proofs.Words.{length-drop, slice_range, Option, Some, None, nat_lt, ◌-◌, ◌^◌, Number, integer}
+use Rattle.jiter_value.proofs.Words.{number_at, taken, ScalarWithin, if_case, number_at-within, text_form, string_at}
+use Rattle.jiter_value.proofs.Words.{Text}
 use Rattle.std.proofs.Common.{◌==◌}
-use Rattle.std.proofs.Common.{length, take, drop, arith, length-append}
-use Rattle.std.proofs.Math.Seq.{take-append_seam}
-use Rattle.std.proofs.lemmas.List.{take-append-drop, length-take-le, length-drop}
-use Rattle.std.specs.Prelude.{slice_range, Option, Some, None, nat_lt, nat_le, ◌-◌, ◌^◌}
+use Rattle.std.proofs.lemmas.List.{take-append-drop}
+use Rattle.std.specs.Prelude.{nat_le}
 use Rattle.std.specs.Str.Lossy.{utf8_valid_len, utf8_error_len}
 use Rattle.jiter_scan.specs.Ascii as ascii
 use Rattle.jiter_scan.specs.Digits.{decimal_of}
-use Rattle.jiter_scan.specs.Number.{Number, integer, big, float, is_integral, negative_value, positive_value}
+use Rattle.jiter_scan.specs.Number.{big, float, is_integral, negative_value, positive_value}
 use Rattle.jiter_scan.specs.Number.{integral_value, number_value}
-use Rattle.jiter_scan.specs.NumberReading.{number_at}
-use Rattle.jiter_scan.specs.Scanned.{taken}
-use Rattle.jiter_scan.proofs.Scanning.{ScalarWithin}
-use Rattle.jiter_scan.proofs.Choices.{if_case, failed-taken, same_taken}
-use Rattle.jiter_scan.proofs.NumberLaws.{number_at-sound, number_at-within}
+use Rattle.jiter_scan.proofs.Choices.{failed-taken, same_taken}
+use Rattle.jiter_scan.proofs.NumberLaws.{number_at-sound}
 use Rattle.jiter_scan.proofs.Standing.{slice_range-split, slice-one}
 use Rattle.jiter_steps.specs.StringReading.{Stop, closed, unclosed, cut, wrong, part, over, Body, before, join, body_at}
-use Rattle.jiter_steps.specs.StringReading.{text_form, valid_prefix_by, text_in_form, kept, content_at, string_at}
-use Rattle.jiter_steps.specs.Tree.{Text}
+use Rattle.jiter_steps.specs.StringReading.{valid_prefix_by, text_in_form, kept, content_at}
 use Rattle.jiter_steps.proofs.Grammar.Places.{Explains}
 use Rattle.jiter_steps.proofs.Grammar.StringSound.{closed-text}
 use Rattle.jiter_steps.proofs.Reading.Bodies.{part-ahead, each-body}

@@ -24,3 +24,4 @@ pub mod Repeats
 pub mod Taking
 pub mod KeptKeys
 pub mod DuplicateKeys
+pub mod Words

@@ -1,14 +1,8 @@
 -- Items and members of a value, looked up.
-use Rattle.std.proofs.Common.{◌≡◌, ℕ, zero, suc, ◌+◌, ◌<◌, ◌≤◌, List, [], ◌∷◌, ◌++◌, length, take, get_or}
-use Rattle.std.proofs.Common.{refl, sym, ap, ◌∙◌, arith, option_map}
-use Rattle.std.specs.Prelude.{Bool, Option, Some, None, if◌then◌else◌, slice_get, true, false}
-use Rattle.std.proofs.lemmas.List.{take_more}
-use Rattle.std.proofs.lemmas.Option.{slice_get_read}
-use Rattle.jiter_steps.specs.Tree.{Tree}
-use Rattle.jiter_value.specs.Access.{item_of, last_such}
-use Rattle.jiter_value.specs.Stacks.{Member, member_view}
-use Rattle.jiter_value.specs.Value.{view, views, member_views}
-use Rattle.jiter_value.specs.declared.value.JsonValue.{JsonValue}
+use Rattle.jiter_value.proofs.Words.{◌≡◌, ℕ, zero, suc, ◌+◌, ◌<◌, ◌≤◌, List, [], ◌∷◌, ◌++◌, length, take, get_or, refl}
+use Rattle.jiter_value.proofs.Words.{sym, ap, ◌∙◌, arith, option_map, Bool, Option, Some, None, if◌then◌else◌}
+use Rattle.jiter_value.proofs.Words.{slice_get, true, false, take_more, slice_get_read, Tree, item_of, last_such}
+use Rattle.jiter_value.proofs.Words.{Member, member_view, view, views, member_views, JsonValue}
 
 item-there : (i : ℕ) (vs : List JsonValue) (v : JsonValue) → slice_get vs i ≡ Some v
     → Some (view v) ≡ item_of i (views vs)

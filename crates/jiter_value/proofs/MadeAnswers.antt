@@ -1,12 +1,6 @@
 -- What a whole text answers whose texts are lent, repeated keys and all.
-use Rattle.std.proofs.Common.{◌≡◌, ◌∙◌, refl, sym, subst, ℕ, List}
-use Rattle.std.specs.Prelude.{Result}
-use Rattle.jiter_steps.specs.declared.read_error.ReadError.{ReadError}
-use Rattle.jiter_value.specs.Parses.{as_read, reading_as}
-use Rattle.jiter_value.specs.Reading.{GivesWhole}
-use Rattle.jiter_value.specs.Settings.{lent, answer_as, answer_by}
-use Rattle.jiter_value.specs.declared.settings.Settings.{Settings}
-use Rattle.jiter_value.specs.declared.value.JsonValue.{JsonValue}
+use Rattle.jiter_value.proofs.Words.{◌≡◌, ◌∙◌, refl, sym, subst, ℕ, List, Result, ReadError, as_read, reading_as}
+use Rattle.jiter_value.proofs.Words.{GivesWhole, lent, answer_as, answer_by, Settings, JsonValue}
 use Rattle.jiter_value.proofs.MadeTexts.{answer_as-is, reading_as-it_is}
 use Rattle.jiter_value.proofs.ParsedDocuments.{as_read-is}
 

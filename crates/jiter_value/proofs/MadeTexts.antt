@@ -1,38 +1,24 @@
 -- Readings whose texts are made so: what is read then is made of what is read.
-use Rattle.std.proofs.Common.{◌≡◌, ◌∙◌, refl, sym, ap, ap₂, ℕ, ◌<◌, Bool, false, List, [], ◌∷◌, length, map, arith}
-use Rattle.std.specs.Prelude.{Option, Some, None, slice_get}
+use Rattle.jiter_value.proofs.Words.{◌≡◌, ◌∙◌, refl, sym, ap, ap₂, ℕ, ◌<◌, Bool, false, List, [], ◌∷◌, length, map}
+use Rattle.jiter_value.proofs.Words.{arith, Option, Some, None, slice_get, Kind, number_at, is_active, PartialMode, Off}
+use Rattle.jiter_value.proofs.Words.{On, TrailingStrings, Scanned, FaultAt, taken, failed, if_both, number_at-within}
+use Rattle.jiter_value.proofs.Words.{seen_as, value_form, whole_trees, answer_in, past_blanks, literal_at, literal_tree}
+use Rattle.jiter_value.proofs.Words.{Reading, Rules, done, fault, value_at, if_begun, if_last, to_end, prefix_answer}
+use Rattle.jiter_value.proofs.Words.{whole_answer, whole, string_at, Text, Tree, Items, no_items, item, Members}
+use Rattle.jiter_value.proofs.Words.{no_members, member, items_of, members_of, own_bytes, unique_answer_in, Literal}
+use Rattle.jiter_value.proofs.Words.{string_at-within, whole-is, Advances, as_it_is, tree_as, reading_as, Keeping, lent}
+use Rattle.jiter_value.proofs.Words.{lent_unique, rules_as, answer_with, answer_as, answer_by, Settings}
 use Rattle.std.proofs.lemmas.Option.{none-some}
-use Rattle.jiter_scan.specs.Kind.{Kind}
-use Rattle.jiter_scan.specs.NumberReading.{number_at}
-use Rattle.jiter_scan.specs.PartialMode.{is_active}
-use Rattle.jiter_scan.specs.declared.partial_mode.PartialMode.{PartialMode}
-use Rattle.jiter_scan.specs.declared.partial_mode.PartialMode.TheVariants.{Off, On, TrailingStrings}
-use Rattle.jiter_scan.specs.Scanned.{Scanned, FaultAt, taken, failed}
-use Rattle.jiter_scan.proofs.Choices.{if_both}
-use Rattle.jiter_scan.proofs.NumberLaws.{number_at-within}
-use Rattle.jiter_steps.specs.Answer.{seen_as, value_form, whole_trees, nothing_forgiven, answer_in}
-use Rattle.jiter_steps.specs.Blank.{past_blanks}
-use Rattle.jiter_steps.specs.Literal.{literal_at, literal_tree}
-use Rattle.jiter_steps.specs.Read.{Reading, Rules, done, fault, value_at, if_begun, if_last, to_end}
-use Rattle.jiter_steps.specs.Read.{prefix_answer, whole_answer}
-use Rattle.jiter_steps.specs.StringReading.{whole, string_at}
-use Rattle.jiter_steps.specs.Tree.{Text, Tree, Items, no_items, item, Members, no_members, member, items_of, members_of}
+use Rattle.jiter_steps.specs.Answer.{nothing_forgiven}
 use Rattle.jiter_steps.specs.Tree as tree
-use Rattle.jiter_steps.specs.Unique.{own_bytes, repeated_key, unique_answer_in}
-use Rattle.jiter_steps.specs.declared.parse.Literal.{Literal}
+use Rattle.jiter_steps.specs.Unique.{repeated_key}
 use Rattle.jiter_steps.specs.declared.parse.Literal.TheVariants as literal
-use Rattle.jiter_steps.proofs.Grammar.StringLaws.{string_at-within}
 use Rattle.jiter_steps.proofs.Reading.Fused.{AllTold, Leads, mapped, scanned_as, pairs, value_at-mapped}
 use Rattle.jiter_steps.proofs.Reading.Instances.{seen-within, literal_at-within, trees-advances}
 use Rattle.jiter_steps.proofs.Reading.Bounds.{either}
-use Rattle.jiter_steps.proofs.Reading.WholeTexts.{whole-is}
 use Rattle.jiter_steps.proofs.Unique.Within.{repeats-advance}
-use Rattle.jiter_steps.proofs.Reading.Values.{Advances}
-use Rattle.jiter_value.specs.Owned.{as_it_is, tree_as, items_as, members_as}
-use Rattle.jiter_value.specs.Parses.{reading_as}
-use Rattle.jiter_value.specs.Settings.{Keeping, lent, lent_unique, rules, refused_as, rules_as, answer_with, answer_as}
-use Rattle.jiter_value.specs.Settings.{answer_by}
-use Rattle.jiter_value.specs.declared.settings.Settings.{Settings}
+use Rattle.jiter_value.specs.Owned.{items_as, members_as}
+use Rattle.jiter_value.specs.Settings.{rules, refused_as}
 
 module _ (made : Text → Text) where
   pub items_as-of : (vs : List Tree) → items_as made (items_of vs) ≡ items_of (map (tree_as made) vs)

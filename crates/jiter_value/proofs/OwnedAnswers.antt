@@ -1,16 +1,9 @@
 -- What a parse promises, it promises once its value owns its texts.
-use Rattle.std.proofs.Common.{inl, inr, ℕ, Bool, List, length, refl, sym, ap, ◌∙◌, subst, arith}
-use Rattle.std.specs.Prelude.{Result, Ok, Err, IfErr}
-use Rattle.jiter_scan.specs.declared.errors.JsonError.{JsonError}
-use Rattle.jiter_scan.specs.declared.partial_mode.PartialMode.{PartialMode}
-use Rattle.jiter_steps.specs.Answer.{answer_in}
-use Rattle.jiter_steps.specs.Read.{Reading}
-use Rattle.jiter_steps.specs.Tree.{Tree}
+use Rattle.jiter_value.proofs.Words.{inl, inr, ℕ, Bool, List, length, refl, sym, ap, ◌∙◌, subst, arith, Result, Ok, Err}
+use Rattle.jiter_value.proofs.Words.{IfErr, JsonError, PartialMode, answer_in, Reading, Tree, owned_tree, Parses}
+use Rattle.jiter_value.proofs.Words.{as_read, reading_as, Answers, MayGrow, JsonValue}
 use Rattle.jiter_steps.proofs.Grammar.Blanks.{past_blanks-bound}
-use Rattle.jiter_value.specs.Owned.{owned_tree, IsOwnedAnswer, ReadHolds, OwnedMayGrow}
-use Rattle.jiter_value.specs.Parses.{Parses, as_read, reading_as}
-use Rattle.jiter_value.specs.Value.{Answers, MayGrow}
-use Rattle.jiter_value.specs.declared.value.JsonValue.{JsonValue}
+use Rattle.jiter_value.specs.Owned.{IsOwnedAnswer, ReadHolds, OwnedMayGrow}
 use Rattle.jiter_value.proofs.ParsedDocuments.{as_read-is, IsWanted, parses}
 
 owned-answers : (r s : Result JsonValue JsonError) (i : ℕ) (x : Reading Tree) → IsOwnedAnswer r i s → Answers r x

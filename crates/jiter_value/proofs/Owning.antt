@@ -1,13 +1,10 @@
 -- Copies of values, part by part.
-use Rattle.std.proofs.Common.{◌≡◌, ℕ, ◌+◌, ◌<◌, List, [], ◌∷◌, ◌++◌, length, map, take, get_or, refl, ap, ap₂, ◌∙◌}
-use Rattle.std.proofs.Common.{sym, arith, Vec, Global}
-use Rattle.std.proofs.lemmas.List.{map_push, take_more}
-use Rattle.std.specs.Prelude.{Result, Ok, Err, OnErr}
-use Rattle.jiter_steps.specs.Tree.{Text, array, object, items_of, members_of}
-use Rattle.jiter_value.specs.Owned.{owned_tree, owned_member, owned_text, HoldsSuchOrPart}
-use Rattle.jiter_value.specs.Stacks.{Member, member_view}
-use Rattle.jiter_value.specs.Value.{view}
-use Rattle.jiter_value.specs.declared.value.JsonValue.{JsonValue, Array, Object}
+use Rattle.jiter_value.proofs.Words.{◌≡◌, ℕ, ◌+◌, ◌<◌, List, [], ◌∷◌, ◌++◌, length, map, take, get_or, refl, ap, ap₂}
+use Rattle.jiter_value.proofs.Words.{◌∙◌, sym, arith, Vec, Global, map_push, take_more, Result, Ok, Err, Text, array}
+use Rattle.jiter_value.proofs.Words.{object, items_of, members_of, owned_tree, owned_member, owned_text, Member}
+use Rattle.jiter_value.proofs.Words.{member_view, view, JsonValue, Array, Object}
+use Rattle.std.specs.Prelude.{OnErr}
+use Rattle.jiter_value.specs.Owned.{HoldsSuchOrPart}
 use Rattle.jiter_value.proofs.MadeTexts.{items_as-of, members_as-of}
 use Rattle.jiter_value.proofs.Views.{view_array, view_object}
 

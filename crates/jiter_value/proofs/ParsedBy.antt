@@ -1,24 +1,13 @@
 -- What a parse promises in any manner, from its answer and where it may want memory.
-use Rattle.std.proofs.Common.{◌≡◌, ◌≢◌, ◌⊎◌, inl, inr, ℕ, ◌+◌, ◌≤◌, Bool, true, false, List, length, take, refl, sym}
-use Rattle.std.proofs.Common.{ap, ◌∙◌, subst}
-use Rattle.std.specs.Prelude.{Result, Ok, Err, IfOk, IfErr, MatchResult, Option, Some}
-use Rattle.std.specs.Option.{option_map}
+use Rattle.jiter_value.proofs.Words.{◌≡◌, ◌≢◌, ◌⊎◌, inl, inr, ℕ, ◌+◌, ◌≤◌, Bool, true, false, List, length, take, refl}
+use Rattle.jiter_value.proofs.Words.{sym, ap, ◌∙◌, subst, Result, Ok, Err, IfOk, IfErr, MatchResult, Option, Some}
+use Rattle.jiter_value.proofs.Words.{option_map, Kind, invalid_code_point, is_active, FaultAt, PartialMode, Off}
+use Rattle.jiter_value.proofs.Words.{past_blanks, can_go_on, CanBeCompleted, Node, end, value_of, Reading, done, fault}
+use Rattle.jiter_value.proofs.Words.{Tree, EndsEarly, Within, AnswersBy, reading_as, view, JsonValue}
 use Rattle.std.proofs.lemmas.Result.{IfErr-weaker}
-use Rattle.jiter_scan.specs.Kind.{Kind, is_end_kind, invalid_code_point, out_of_memory}
-use Rattle.jiter_scan.specs.PartialMode.{is_active}
-use Rattle.jiter_scan.specs.Scanned.{FaultAt}
-use Rattle.jiter_scan.specs.declared.partial_mode.PartialMode.{PartialMode}
-use Rattle.jiter_scan.specs.declared.partial_mode.PartialMode.TheVariants.{Off}
-use Rattle.jiter_steps.specs.Blank.{past_blanks}
-use Rattle.jiter_steps.specs.FirstFault.{IsDeadEnd, can_go_on, CanBeCompleted}
-use Rattle.jiter_steps.specs.Node.{Node, end, value_of}
-use Rattle.jiter_steps.specs.Read.{Reading, done, fault}
-use Rattle.jiter_steps.specs.Tree.{Tree}
-use Rattle.jiter_steps.proofs.Cut.Prefixes.{EndsEarly}
-use Rattle.jiter_steps.proofs.Reading.Bounds.{Within}
-use Rattle.jiter_value.specs.Parses.{Manner, BeginsNone, AnswersBy, ParsesBy, reading_as}
-use Rattle.jiter_value.specs.Value.{view}
-use Rattle.jiter_value.specs.declared.value.JsonValue.{JsonValue}
+use Rattle.jiter_scan.specs.Kind.{is_end_kind, out_of_memory}
+use Rattle.jiter_steps.specs.FirstFault.{IsDeadEnd}
+use Rattle.jiter_value.specs.Parses.{Manner, BeginsNone, ParsesBy}
 
 -- a fault is that of the reading, whatever becomes of its tree
 pub fault-read : (made : Tree → Tree) (x : Reading Tree) (k : Kind) (i stop : ℕ) → reading_as made x ≡ fault k i stop

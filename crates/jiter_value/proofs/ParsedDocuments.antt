@@ -1,31 +1,18 @@
 -- What a parse promises that keeps repeated keys, from its answer and where it may want memory.
-use Rattle.std.proofs.Common.{◌≡◌, ℕ, ◌≤◌, Bool, List, length, refl, sym, ap, ap₂, ◌∙◌, subst}
-use Rattle.std.specs.Prelude.{Result, Ok, Err, IfErr, MatchResult, Option, Some, None}
-use Rattle.std.specs.Option.{option_map}
+use Rattle.jiter_value.proofs.Words.{◌≡◌, ℕ, ◌≤◌, Bool, List, length, refl, sym, ap, ap₂, ◌∙◌, subst, Result, Ok, Err}
+use Rattle.jiter_value.proofs.Words.{IfErr, MatchResult, Option, Some, None, option_map, JsonError, PartialMode, answer}
+use Rattle.jiter_value.proofs.Words.{answer_in, past_blanks, cut, IsBegunContainer, IsCutContainer, Reading, done}
+use Rattle.jiter_value.proofs.Words.{fault, WhereRefused, Tree, ReadError, answer_in-cut, EndsEarly, alive, Parses}
+use Rattle.jiter_value.proofs.Words.{as_read, reading_as, GivesWhole, IsErrorOf, answer_by, view, Answers, Settings}
+use Rattle.jiter_value.proofs.Words.{JsonValue}
 use Rattle.jiter_scan.specs.Kind.{kind_of}
-use Rattle.jiter_scan.specs.declared.errors.JsonError.{JsonError}
 use Rattle.jiter_scan.specs.declared.errors.JsonErrorType.TheVariants.{OutOfMemory}
-use Rattle.jiter_scan.specs.declared.partial_mode.PartialMode.{PartialMode}
-use Rattle.jiter_steps.specs.Answer.{answer, answer_in}
-use Rattle.jiter_steps.specs.Blank.{past_blanks}
-use Rattle.jiter_steps.specs.Cut.{cut, IsBegunContainer}
-use Rattle.jiter_steps.specs.Node.{IsCutContainer}
-use Rattle.jiter_steps.specs.Read.{Reading, done, fault}
-use Rattle.jiter_steps.specs.ReadError.{WhereRefused}
-use Rattle.jiter_steps.specs.Tree.{Tree}
-use Rattle.jiter_steps.specs.declared.read_error.ReadError.{ReadError}
 use Rattle.jiter_steps.specs.declared.read_error.ReadError.TheVariants as error
-use Rattle.jiter_steps.proofs.Cut.CutLaw.{AnswersCut, answer_in-cut, answer_in-of}
-use Rattle.jiter_steps.proofs.Cut.Prefixes.{EndsEarly, prefix-refused}
-use Rattle.jiter_steps.proofs.Fault.Alive.{alive}
+use Rattle.jiter_steps.proofs.Cut.CutLaw.{AnswersCut, answer_in-of}
+use Rattle.jiter_steps.proofs.Cut.Prefixes.{prefix-refused}
 use Rattle.jiter_steps.proofs.Fault.Dead.{dead}
 use Rattle.jiter_steps.proofs.Grammar.Documents.{IsRead, answer-is}
-use Rattle.jiter_value.specs.Parses.{Parses, keeping_repeats, as_read, reading_as}
-use Rattle.jiter_value.specs.Reading.{GivesWhole, IsErrorOf}
-use Rattle.jiter_value.specs.Settings.{answer_by}
-use Rattle.jiter_value.specs.Value.{view, Answers}
-use Rattle.jiter_value.specs.declared.settings.Settings.{Settings}
-use Rattle.jiter_value.specs.declared.value.JsonValue.{JsonValue}
+use Rattle.jiter_value.specs.Parses.{keeping_repeats}
 use Rattle.jiter_value.proofs.ParsedBy as parsed
 use Rattle.jiter_value.proofs.WholeTextAnswers.{answer_in-within, error-answers}
 

@@ -1,44 +1,27 @@
 -- What a parse promises that refuses repeated keys, from its answer and where it may want memory.
-use Rattle.std.proofs.Common.{◌≡◌, inl, inr, ℕ, ◌≤◌, Bool, true, List, length, take, sym, ap, ap₂, ◌∙◌, subst, arith}
-use Rattle.std.proofs.Common.{refl}
-use Rattle.std.specs.Prelude.{Result, Ok, Err, Option, Some, None, slice_get}
-use Rattle.jiter_scan.specs.Kind.{Kind, duplicate_key}
-use Rattle.jiter_scan.specs.PartialMode.{is_active}
-use Rattle.jiter_scan.specs.declared.errors.JsonError.{JsonError}
-use Rattle.jiter_scan.specs.declared.partial_mode.PartialMode.{PartialMode}
-use Rattle.jiter_scan.specs.declared.partial_mode.PartialMode.TheVariants.{Off, On, TrailingStrings}
-use Rattle.jiter_steps.specs.Answer.{whole_trees, partial_answer}
-use Rattle.jiter_steps.specs.Blank.{past_blanks}
-use Rattle.jiter_steps.specs.Cut.{cut, IsBegunContainer}
-use Rattle.jiter_steps.specs.FirstFault.{can_go_on, CanBeCompleted}
-use Rattle.jiter_steps.specs.Node.{Node, end, value_of, IsCutContainer}
-use Rattle.jiter_steps.specs.Read.{Reading, done, fault, if_last, to_end, prefix_answer}
-use Rattle.jiter_steps.specs.Tree.{Tree}
-use Rattle.jiter_steps.specs.Unique.{HasUniqueKeys, IsUniqueDocument, own_bytes, unique_answer, unique_answer_in}
-use Rattle.jiter_steps.specs.declared.read_error.ReadError.{ReadError}
+use Rattle.jiter_value.proofs.Words.{◌≡◌, inl, inr, ℕ, ◌≤◌, Bool, true, List, length, take, sym, ap, ap₂, ◌∙◌, subst}
+use Rattle.jiter_value.proofs.Words.{arith, refl, Result, Ok, Err, Option, Some, None, slice_get, Kind, duplicate_key}
+use Rattle.jiter_value.proofs.Words.{is_active, JsonError, PartialMode, Off, On, TrailingStrings, whole_trees}
+use Rattle.jiter_value.proofs.Words.{past_blanks, cut, IsBegunContainer, can_go_on, CanBeCompleted, Node, end, value_of}
+use Rattle.jiter_value.proofs.Words.{IsCutContainer, Reading, done, fault, if_last, to_end, prefix_answer, Tree}
+use Rattle.jiter_value.proofs.Words.{own_bytes, unique_answer_in, ReadError, answer_in-cut, EndsEarly, alive, Within}
+use Rattle.jiter_value.proofs.Words.{whole-is, AnswersBy, as_read, reading_as, refusing_repeats, IsErrorOf}
+use Rattle.jiter_value.proofs.Words.{GivesUniqueWhole, WhereUniqueRefused, MayGrowBy, MayGrow, Stopped, JsonValue}
+use Rattle.jiter_steps.specs.Answer.{partial_answer}
+use Rattle.jiter_steps.specs.Unique.{HasUniqueKeys, IsUniqueDocument, unique_answer}
 use Rattle.jiter_steps.specs.declared.read_error.ReadError.TheVariants as error
-use Rattle.jiter_steps.proofs.Cut.CutLaw.{answer_in-cut}
-use Rattle.jiter_steps.proofs.Cut.Prefixes.{EndsEarly}
-use Rattle.jiter_steps.proofs.Fault.Alive.{alive}
-use Rattle.jiter_steps.proofs.Reading.Bounds.{Within}
-use Rattle.jiter_steps.proofs.Reading.WholeTexts.{whole-is}
 use Rattle.jiter_steps.proofs.Unique.Agreeing.{IsOfRepeat, IsRepeat, whole_answer-agrees}
 use Rattle.jiter_steps.proofs.Unique.Cuts.{unique-cut, unique-prefix_refused}
 use Rattle.jiter_steps.proofs.Unique.Dead.{unique-dead}
 use Rattle.jiter_steps.proofs.Unique.Documents.{unique-complete, unique-sound}
 use Rattle.jiter_steps.proofs.Unique.Tracking.{Tracks, strict, partial, prefix_answer-tracks}
 use Rattle.jiter_steps.proofs.Unique.Within.{unique_answer-within, unique_partial-within}
-use Rattle.jiter_value.specs.Parses.{AnswersBy, as_read, reading_as}
-use Rattle.jiter_value.specs.ParsesUnique.{ParsesUnique, refusing_repeats}
-use Rattle.jiter_value.specs.Reading.{IsErrorOf}
+use Rattle.jiter_value.specs.ParsesUnique.{ParsesUnique}
 use Rattle.jiter_value.specs.UniqueErrors.{unique_kind}
-use Rattle.jiter_value.specs.UniqueKeys.{GivesUniqueWhole, IsUniqueErrorOf, WhereUniqueRefused}
-use Rattle.jiter_value.specs.Value.{MayGrowBy, MayGrow}
-use Rattle.jiter_value.specs.declared.turns.unique.Stopped.{Stopped}
+use Rattle.jiter_value.specs.UniqueKeys.{IsUniqueErrorOf}
 use Rattle.jiter_value.specs.declared.turns.unique.Stopped.TheVariants as stopped
 use Rattle.jiter_value.specs.declared.unique_error.UniqueError.{UniqueError}
 use Rattle.jiter_value.specs.declared.unique_error.UniqueErrorType.TheVariants as cause
-use Rattle.jiter_value.specs.declared.value.JsonValue.{JsonValue}
 use Rattle.jiter_value.proofs.ParsedBy as parsed
 use Rattle.jiter_value.proofs.ParsedDocuments.{as_read-is, cut-left}
 use Rattle.jiter_value.proofs.TurnOutcomes.{grows-borrowing}

@@ -1,35 +1,17 @@
 -- Plain scalars, read and put where they belong.
-use Rattle.std.proofs.Common.{◌≡◌, ℕ, ◌+◌, ◌<◌, ◌≤◌, Bool, List, [], ◌∷◌, ◌++◌, length}
-use Rattle.std.proofs.Common.{Vec, refl, sym, ap, ◌∙◌, arith}
-use Rattle.std.specs.Prelude.{reverse, slice_index}
-use Rattle.jiter_scan.specs.Number.{Number}
-use Rattle.jiter_scan.specs.NumberReading.{number_at}
-use Rattle.jiter_scan.specs.Kind.{Kind, expected_value}
-use Rattle.jiter_scan.specs.Scanned.{failed, taken}
+use Rattle.jiter_value.proofs.Words.{◌≡◌, ℕ, ◌+◌, ◌<◌, ◌≤◌, Bool, List, [], ◌∷◌, ◌++◌, length, Vec, refl, sym, ap, ◌∙◌}
+use Rattle.jiter_value.proofs.Words.{arith, reverse, slice_index, Number, number_at, Kind, failed, taken, seen_as}
+use Rattle.jiter_value.proofs.Words.{value_form, start_of, literal_at, literal_tree, done, fault, scalar_at, value_at}
+use Rattle.jiter_value.proofs.Words.{string_at, whole, text_form, Text, Tree, string, Literal, Start, tree_as, Keeping}
+use Rattle.jiter_value.proofs.Words.{rules_as, size, value_size, after_size, Member, after, Stands, StandsAtKey, IsFree}
+use Rattle.jiter_value.proofs.Words.{view, Settings, Slot, Stacks, JsonValue, Global, CowStr, object_colon, text_view}
+use Rattle.jiter_scan.specs.Kind.{expected_value}
 use Rattle.jiter_scan.specs.PartialMode.{allows_trailing_strings}
-use Rattle.jiter_steps.specs.Answer.{seen_as, value_form}
-use Rattle.jiter_steps.specs.Literal.{start_of, literal_at, literal_tree}
 use Rattle.jiter_steps.specs.Node.{number_tree}
-use Rattle.jiter_steps.specs.Read.{done, fault, scalar_at, value_with, inside_at, value_at}
-use Rattle.jiter_steps.specs.StringReading.{string_at, whole, text_form}
-use Rattle.jiter_steps.specs.Tree.{Text, Tree, string}
-use Rattle.jiter_steps.specs.declared.parse.Literal.{Literal}
-use Rattle.jiter_steps.specs.declared.parse.Start.{Start}
+use Rattle.jiter_steps.specs.Read.{value_with, inside_at}
 use Rattle.jiter_steps.specs.declared.parse.Start.TheVariants as start
-use Rattle.jiter_value.specs.Owned.{tree_as}
-use Rattle.jiter_value.specs.Settings.{Keeping, rules_as}
-use Rattle.jiter_value.specs.Size.{size, value_size, after_size}
-use Rattle.jiter_value.specs.Stacks.{Member, resume_with, after, Stands, StandsAtKey, IsFree}
+use Rattle.jiter_value.specs.Stacks.{resume_with}
 use Rattle.jiter_value.specs.Turns.{IsPutAt, IsKeyAt}
-use Rattle.jiter_value.specs.Value.{view}
-use Rattle.jiter_value.specs.declared.settings.Settings.{Settings}
-use Rattle.jiter_value.specs.declared.stacks.Slot.{Slot}
-use Rattle.jiter_value.specs.declared.stacks.Stacks.{Stacks}
-use Rattle.jiter_value.specs.declared.value.JsonValue.{JsonValue}
-use Rattle.std.specs.declared.alloc.Global.{Global}
-use Rattle.std.specs.declared.borrow.CowStr.{CowStr}
-use Rattle.jiter_steps.specs.Step.{object_colon}
-use Rattle.jiter_steps.specs.StringDecoder.{text_view}
 use Rattle.jiter_value.proofs.StackTurns.{value-read, key-opens, key-above}
 use Rattle.jiter_value.proofs.Sizes.{key-size}
 

@@ -1,22 +1,18 @@
 -- Tokens of a pointer: where each ends, the index that one spells, and the names.
-use Rattle.std.proofs.Common.{◌≡◌, ◌≢◌, ◌↔◌, ℕ, zero, suc, ◌+◌, ◌^◌, ◌<◌, ◌≤◌, List, [], ◌∷◌, ◌++◌, length, drop}
-use Rattle.std.proofs.Common.{get_or, refl, sym, ap, subst, ◌∙◌, arith, ne_eqb, option_and_then, eqb, true≢false}
-use Rattle.std.specs.Prelude.{if◌then◌else◌, Bool, Option, Some, None, Result, Ok, Err, slice_index, true, false}
+use Rattle.jiter_value.proofs.Words.{◌≡◌, ◌≢◌, ◌↔◌, ℕ, zero, suc, ◌+◌, ◌^◌, ◌<◌, ◌≤◌, List, [], ◌∷◌, ◌++◌, length, drop}
+use Rattle.jiter_value.proofs.Words.{get_or, refl, sym, ap, subst, ◌∙◌, arith, option_and_then, eqb, true≢false}
+use Rattle.jiter_value.proofs.Words.{if◌then◌else◌, Bool, Option, Some, None, Result, Ok, Err, slice_index, true, false}
+use Rattle.jiter_value.proofs.Words.{slice_split, bytes_eq, false_from_ne_true, bytes_eq-Decides, Tree, item_of}
+use Rattle.jiter_value.proofs.Words.{token_of, pointed, is_slash, views, JsonValue}
+use Rattle.std.proofs.Common.{ne_eqb}
 use Rattle.std.specs.Fmt.{decimal}
-use Rattle.std.specs.List.{slice_split, onto_first}
+use Rattle.std.specs.List.{onto_first}
 use Rattle.std.specs.Result.{result_ok}
-use Rattle.std.specs.Str.{bytes_eq}
 use Rattle.std.specs.Str.Parse.{ParsesUnsigned, AllDigits, without_leading_plus, digits_value}
-use Rattle.std.proofs.lemmas.Bool.{false_from_ne_true}
 use Rattle.std.proofs.lemmas.Fmt.{decimal-digits_value, decimal_digit, decimal_injective, first_decimal, parse-decimal}
 use Rattle.std.proofs.lemmas.List.Splits.{slice_split-cons_no}
-use Rattle.std.proofs.lemmas.Slice.Eq.{bytes_eq-Decides}
 use Rattle.std.proofs.lemmas.Str.Parse.{numerals_by_value, tells_digits}
-use Rattle.jiter_steps.specs.Tree.{Tree}
-use Rattle.jiter_value.specs.Access.{item_of}
-use Rattle.jiter_value.specs.Pointer.{token_of, item_spelled, pointed, pointed_by, is_slash}
-use Rattle.jiter_value.specs.Value.{views}
-use Rattle.jiter_value.specs.declared.value.JsonValue.{JsonValue}
+use Rattle.jiter_value.specs.Pointer.{item_spelled, pointed_by}
 
 -- ---- Where a token ends.
 

@@ -1,11 +1,8 @@
 -- A key's printed form, piece by piece.
-use Rattle.std.proofs.Common.{◌≡◌, ◌∙◌, sym, ap, ℕ, ◌+◌, ◌<◌, ◌≤◌, List, [], ◌∷◌, ◌++◌, length, arith}
-use Rattle.std.proofs.Common.{append_assoc}
-use Rattle.std.specs.Prelude.{flat_map, slice_index, slice_range}
-use Rattle.std.proofs.lemmas.List.{at_drop_more}
+use Rattle.jiter_value.proofs.Words.{◌≡◌, ◌∙◌, sym, ap, ℕ, ◌+◌, ◌<◌, ◌≤◌, List, [], ◌∷◌, ◌++◌, length, arith}
+use Rattle.jiter_value.proofs.Words.{append_assoc, flat_map, slice_index, slice_range, at_drop_more, quoted_byte}
+use Rattle.jiter_value.proofs.Words.{quoted_from}
 use Rattle.std.proofs.lemmas.List.Edits.{between_more, between_none}
-use Rattle.jiter_scan.specs.Quoted.{quoted_byte}
-use Rattle.jiter_value.specs.QuotedKeys.{quoted_from}
 
 -- what a byte prints, and what follows it
 pub piece-more : (t w : List ℕ) (i : ℕ) → i < length t → w ≡ quoted_byte (slice_index t i)

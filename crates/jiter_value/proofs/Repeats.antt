@@ -1,40 +1,22 @@
 -- A key that its object has already, and what its reading is.
-use Rattle.std.proofs.Common.{◌≡◌, ◌≢◌, ℕ, zero, suc, ◌<◌, true, false, List, [], ◌∷◌, length}
-use Rattle.std.proofs.Common.{take, drop, map, refl, sym, ap, ◌∙◌, arith, cond, subst}
-use Rattle.std.specs.Prelude.{◌||◌, Bool, reverse, string_bytes, Option, Some, None, Result, Err}
-use Rattle.std.specs.Str.{bytes_eq}
-use Rattle.jiter_scan.specs.Kind.{Kind, duplicate_key}
-use Rattle.jiter_scan.specs.Scanned.{taken, failed}
-use Rattle.jiter_scan.specs.declared.partial_mode.PartialMode.{PartialMode}
-use Rattle.jiter_scan.specs.declared.partial_mode.PartialMode.TheVariants.{Off, On, TrailingStrings}
-use Rattle.jiter_steps.specs.Frames.{resume, object_in}
-use Rattle.jiter_steps.specs.Read.{Reading, Rules, Container, fault, if_forgiven, parts_at, value_at}
-use Rattle.jiter_steps.specs.Step.{step, colon, value_first}
-use Rattle.jiter_steps.specs.StringDecoder.{text_view}
-use Rattle.jiter_steps.specs.StringReading.{string_at, whole}
-use Rattle.jiter_steps.specs.Tree.{Text, Tree}
-use Rattle.jiter_steps.specs.Unique.{own_bytes, is_among, after_its_colon}
-use Rattle.jiter_steps.proofs.Calls.Resumed.{if_forgiven-no, resume-fault}
-use Rattle.jiter_value.specs.Settings.{Keeping, lent_unique, forgives, rules_as, answer_as}
-use Rattle.jiter_value.specs.Stacks.{Member, member_view, frames, HaveKeyBase, IsFree, StandsAtKey, refused_in, key_in}
-use Rattle.jiter_value.specs.Stacks.{meaning}
-use Rattle.jiter_value.specs.Turns.{IsKeyRead, Proceeds, IsWithin}
-use Rattle.jiter_value.specs.UniqueKeys.{has_key, innermost_base, StopsAtKey, GivesUnique, WhereUniqueRefused}
-use Rattle.jiter_value.specs.UniqueKeys.{GivesUniqueWhole, fault_at_key, object_has_key}
-use Rattle.jiter_value.specs.Reading.{GivesWhole}
+use Rattle.jiter_value.proofs.Words.{◌≡◌, ◌≢◌, ℕ, zero, suc, ◌<◌, true, false, List, [], ◌∷◌, length, take, drop, map}
+use Rattle.jiter_value.proofs.Words.{refl, sym, ap, ◌∙◌, arith, cond, subst, ◌||◌, Bool, reverse, string_bytes, Option}
+use Rattle.jiter_value.proofs.Words.{Some, None, Result, Err, bytes_eq, Kind, duplicate_key, taken, failed, PartialMode}
+use Rattle.jiter_value.proofs.Words.{Off, On, TrailingStrings, resume, object_in, Reading, Rules, Container, fault}
+use Rattle.jiter_value.proofs.Words.{value_at, step, colon, value_first, text_view, string_at, whole, Text, Tree}
+use Rattle.jiter_value.proofs.Words.{own_bytes, if_forgiven-no, resume-fault, Keeping, lent_unique, forgives, rules_as}
+use Rattle.jiter_value.proofs.Words.{answer_as, Member, member_view, frames, HaveKeyBase, IsFree, StandsAtKey}
+use Rattle.jiter_value.proofs.Words.{refused_in, key_in, meaning, IsKeyRead, Proceeds, IsWithin, has_key}
+use Rattle.jiter_value.proofs.Words.{WhereUniqueRefused, GivesUniqueWhole, object_has_key, GivesWhole, past_blanks}
+use Rattle.jiter_value.proofs.Words.{unique_answer_in, ReadError, Settings, Open, Stacks, State, Stopped, JsonValue}
+use Rattle.jiter_steps.specs.Read.{if_forgiven, parts_at}
+use Rattle.jiter_steps.specs.Unique.{is_among, after_its_colon}
+use Rattle.jiter_value.specs.UniqueKeys.{innermost_base, StopsAtKey, GivesUnique}
+use Rattle.jiter_value.specs.UniqueKeys.{fault_at_key}
 use Rattle.jiter_value.proofs.MadeTexts.{answer_as-unique}
 use Rattle.jiter_value.proofs.WholeTextAnswers.{answer-none, answer-fault, answer-refused}
-use Rattle.jiter_steps.specs.Blank.{past_blanks}
-use Rattle.jiter_steps.specs.Unique.{unique_answer_in}
-use Rattle.jiter_steps.specs.declared.read_error.ReadError.{ReadError}
-use Rattle.jiter_value.specs.declared.settings.Settings.{Settings}
-use Rattle.jiter_value.specs.declared.stacks.Open.{Open}
-use Rattle.jiter_value.specs.declared.stacks.Stacks.{Stacks}
-use Rattle.jiter_value.specs.declared.stacks.State.{State}
 use Rattle.jiter_value.specs.declared.stacks.State.TheVariants as state
-use Rattle.jiter_value.specs.declared.turns.unique.Stopped.{Stopped}
 use Rattle.jiter_value.specs.declared.turns.unique.Stopped.TheVariants as stopped
-use Rattle.jiter_value.specs.declared.value.JsonValue.{JsonValue}
 use Rattle.jiter_steps.specs.declared.read_error.ReadError.TheVariants as error
 
 has_key-among : (key : List ℕ) (ms : List Member)

@@ -1,33 +1,24 @@
 -- What arrays and objects have in common on the stacks: after a part, where they begin and where they end.
-use Rattle.std.proofs.Common.{◌≡◌, ◌≢◌, ℕ, ◌+◌, ◌<◌, ◌≤◌, List, [], ◌∷◌, ◌++◌, length, map, length-append, refl}
-use Rattle.std.proofs.Common.{sym, ap, ap₂, subst, ◌∙◌, arith, suc, inl, inr}
-use Rattle.std.specs.Prelude.{slice_index, reverse, IfOk, OnOk}
-use Rattle.std.proofs.lemmas.List.{reverse-append, length-reverse, take_all, drop_all}
+use Rattle.jiter_value.proofs.Words.{◌≡◌, ◌≢◌, ℕ, ◌+◌, ◌<◌, ◌≤◌, List, [], ◌∷◌, ◌++◌, length, map, length-append, refl}
+use Rattle.jiter_value.proofs.Words.{sym, ap, ap₂, subst, ◌∙◌, arith, suc, inl, inr, slice_index, reverse, IfOk, OnOk}
+use Rattle.jiter_value.proofs.Words.{reverse-append, length-reverse, take_all, recursion_limit, resolve_step, resume}
+use Rattle.jiter_value.proofs.Words.{parts_from, start_of, container_first, opening, Reading, fault, more, step, Tree}
+use Rattle.jiter_value.proofs.Words.{ContainerKind, Keeping, forgives, rules_as, from_value, Stands, HavePartBase}
+use Rattle.jiter_value.proofs.Words.{frames, parts_above, frames_below, member_view, Member, slot_in, LeavesKeys}
+use Rattle.jiter_value.proofs.Words.{frames_size, held, inside_size_in, parts_size, value_size, Proceeds, Reaches, left}
+use Rattle.jiter_value.proofs.Words.{outcome, MayGrowAs, MayGrowAt, view, Settings, Open, Slot, Stacks, WhereRefused}
+use Rattle.jiter_value.proofs.Words.{State}
+use Rattle.std.proofs.lemmas.List.{drop_all}
 use Rattle.smallvec.specs.SmallVec.{SmallVec}
 use Rattle.jiter_steps.specs.declared.parse.Start.TheVariants as start
-use Rattle.jiter_scan.specs.Kind.{recursion_limit}
-use Rattle.jiter_steps.specs.Frames.{resolve_step, resume, parts_from}
-use Rattle.jiter_steps.specs.Literal.{start_of}
-use Rattle.jiter_steps.specs.Step.{container_first, opening}
-use Rattle.jiter_steps.specs.Read.{Reading, fault}
-use Rattle.jiter_steps.specs.Step.{more, step, array_first}
-use Rattle.jiter_steps.specs.Tree.{Tree}
-use Rattle.jiter_steps.specs.declared.parse.ContainerKind.{ContainerKind}
+use Rattle.jiter_steps.specs.Step.{array_first}
 use Rattle.jiter_steps.specs.declared.parse.ContainerKind.TheVariants as shape
-use Rattle.jiter_value.specs.Settings.{Keeping, forgives, rules_as}
-use Rattle.jiter_value.specs.Stacks.{from_value, Stands}
-use Rattle.jiter_value.specs.Stacks.{StandsInside, HavePartBase, frames, parts_above, frames_below, member_view}
-use Rattle.jiter_value.specs.Stacks.{Member, slot_in, base_of, part_of, HasRoomIn, HoldsSame, LeavesKeys}
-use Rattle.jiter_value.specs.Size.{frames_size, held, inside_size, inside_size_in, parts_size, value_size}
-use Rattle.jiter_value.specs.Turns.{IsReady, Proceeds, Reaches, left, outcome}
-use Rattle.jiter_value.specs.Value.{LeadsOn, MayGrowAs, MayGrowAt, view}
-use Rattle.jiter_value.specs.declared.settings.Settings.{Settings}
-use Rattle.jiter_value.specs.declared.stacks.Open.{Open}
-use Rattle.jiter_value.specs.declared.stacks.Slot.{Slot}
+use Rattle.jiter_value.specs.Stacks.{StandsInside}
+use Rattle.jiter_value.specs.Stacks.{base_of, part_of, HasRoomIn, HoldsSame}
+use Rattle.jiter_value.specs.Size.{inside_size}
+use Rattle.jiter_value.specs.Turns.{IsReady}
+use Rattle.jiter_value.specs.Value.{LeadsOn}
 use Rattle.jiter_value.specs.declared.stacks.Slot.TheVariants as slot
-use Rattle.jiter_value.specs.declared.stacks.Stacks.{Stacks}
-use Rattle.jiter_steps.specs.ReadError.{WhereRefused}
-use Rattle.jiter_value.specs.declared.stacks.State.{State}
 use Rattle.jiter_value.proofs.KeptKeys.{kept-on}
 use Rattle.jiter_value.proofs.Sizes.{item-size}
 use Rattle.jiter_value.proofs.TurnOutcomes.{refused-any}

@@ -1,19 +1,12 @@
 -- Counting what the machine holds.
-use Rattle.std.proofs.Common.{◌≡◌, suc, ◌+◌, List, [], ◌∷◌, ◌++◌, length, drop, map, refl, ap, arith}
-use Rattle.std.specs.Prelude.{reverse}
-use Rattle.std.proofs.lemmas.List.{reverse-append, take-append-le}
-use Rattle.jiter_steps.specs.Frames.{Frame}
-use Rattle.jiter_steps.specs.Tree.{Text, Tree}
-use Rattle.jiter_steps.specs.StringDecoder.{text_view}
-use Rattle.jiter_steps.specs.declared.parse.ContainerKind.{ContainerKind}
+use Rattle.jiter_value.proofs.Words.{◌≡◌, suc, ◌+◌, List, [], ◌∷◌, ◌++◌, length, drop, map, refl, ap, arith, reverse}
+use Rattle.jiter_value.proofs.Words.{reverse-append, take-append-le, Frame, Text, Tree, text_view, ContainerKind, view}
+use Rattle.jiter_value.proofs.Words.{JsonValue, Open, Member, member_view, frames, PartTree, built, parts_above}
+use Rattle.jiter_value.proofs.Words.{frames_below, HaveBases, HaveKeyBase, slot_in, size, parts_size, frames_size}
+use Rattle.jiter_value.proofs.Words.{inside_size_in}
 use Rattle.jiter_steps.specs.declared.parse.ContainerKind.TheVariants as shape
-use Rattle.jiter_value.specs.Value.{view}
-use Rattle.jiter_value.specs.declared.value.JsonValue.{JsonValue}
-use Rattle.jiter_value.specs.declared.stacks.Open.{Open}
 use Rattle.jiter_value.specs.declared.stacks.Slot.TheVariants as slot
-use Rattle.jiter_value.specs.Stacks.{Member, member_view, frames, PartTree, built, parts_above, frames_below, HaveBases}
-use Rattle.jiter_value.specs.Stacks.{HaveKeyBase, slot_in}
-use Rattle.jiter_value.specs.Size.{size, items_size, members_size, parts_size, frames_size, inside_size_in}
+use Rattle.jiter_value.specs.Size.{items_size, members_size}
 use Rattle.jiter_value.specs.Size.{after_size_in}
 use Rattle.jiter_value.proofs.StackTurns.{value-frames, above-more}
 

@@ -1,48 +1,30 @@
 -- The turns of the machine, over its stacks.
-use Rattle.std.proofs.Common.{◌≡◌, ℕ, suc, ◌+◌, ◌-◌, ◌<◌, ◌≤◌, true, false, cond, List, [], ◌∷◌, ◌++◌, length, take}
-use Rattle.std.proofs.Common.{drop, map, get_or, refl, sym, ap, ap₂, ◌∙◌, arith, length-append}
-use Rattle.std.specs.Prelude.{reverse, slice_set, slice_index, None}
-use Rattle.std.specs.declared.alloc.Global.{Global}
-use Rattle.std.specs.declared.borrow.CowStr.{CowStr}
-use Rattle.std.proofs.Math.Seq.{set-append_seam, get_or-append_seam}
-use Rattle.std.proofs.lemmas.List.{reverse-append, map_push, drop-append-le, take-append-le, take_all, take_more}
-use Rattle.std.proofs.lemmas.List.{length-take-le, length-reverse, nil_from_length}
-use Rattle.jiter_scan.specs.Kind.{Kind, fault_kind, recursion_limit}
-use Rattle.jiter_scan.specs.Scanned.{Scanned, taken, failed}
-use Rattle.jiter_scan.specs.declared.partial_mode.PartialMode.{PartialMode}
-use Rattle.jiter_scan.specs.declared.partial_mode.PartialMode.TheVariants.{Off, On, TrailingStrings}
-use Rattle.jiter_steps.specs.Answer.{seen_as}
-use Rattle.jiter_steps.specs.Tree.{Text, Tree}
-use Rattle.jiter_steps.specs.Literal.{start_of}
-use Rattle.jiter_steps.specs.Step.{Step, more, closed, stuck, step, container_first, container_step, object_colon}
-use Rattle.jiter_steps.specs.Step.{opening}
-use Rattle.jiter_steps.specs.StringDecoder.{text_view}
-use Rattle.jiter_steps.specs.StringReading.{whole, string_at}
-use Rattle.jiter_steps.specs.Read.{Reading, Container, done, fault, value_at, scalar_at}
-use Rattle.jiter_steps.specs.declared.read_error.ReadError.{ReadError}
-use Rattle.jiter_steps.specs.Frames.{Frame, members_frame, resolve_step, resume, parts_from, parts_step, value_in}
-use Rattle.jiter_steps.specs.Frames.{array_in, object_in, value_from}
-use Rattle.jiter_steps.specs.declared.parse.ContainerKind.{ContainerKind}
+use Rattle.jiter_value.proofs.Words.{◌≡◌, ℕ, suc, ◌+◌, ◌-◌, ◌<◌, ◌≤◌, true, false, cond, List, [], ◌∷◌, ◌++◌, length}
+use Rattle.jiter_value.proofs.Words.{take, drop, map, get_or, refl, sym, ap, ap₂, ◌∙◌, arith, length-append, reverse}
+use Rattle.jiter_value.proofs.Words.{slice_set, slice_index, None, Global, CowStr, get_or-append_seam, reverse-append}
+use Rattle.jiter_value.proofs.Words.{map_push, take-append-le, take_all, take_more, length-take-le, length-reverse}
+use Rattle.jiter_value.proofs.Words.{Kind, fault_kind, recursion_limit, Scanned, taken, failed, PartialMode, Off, On}
+use Rattle.jiter_value.proofs.Words.{TrailingStrings, seen_as, Text, Tree, start_of, more, step, container_first}
+use Rattle.jiter_value.proofs.Words.{object_colon, opening, text_view, whole, string_at, Reading, Container, done}
+use Rattle.jiter_value.proofs.Words.{fault, value_at, scalar_at, ReadError, Frame, resolve_step, resume, parts_from}
+use Rattle.jiter_value.proofs.Words.{object_in, ContainerKind, Advances, if_forgiven-no, resume-fault, HoldsNothing}
+use Rattle.jiter_value.proofs.Words.{Keeping, forgives, rules_as, Member, member_view, frames, PartTree, built}
+use Rattle.jiter_value.proofs.Words.{parts_above, frames_below, HavePartBase, HaveBases, HaveKeyBase, key_in}
+use Rattle.jiter_value.proofs.Words.{container_fault_in, refused_in, slot_in, Stands, Fails, IsResolved, view, Settings}
+use Rattle.jiter_value.proofs.Words.{Slot, Open, Stacks, JsonValue}
+use Rattle.std.proofs.Math.Seq.{set-append_seam}
+use Rattle.std.proofs.lemmas.List.{drop-append-le}
+use Rattle.std.proofs.lemmas.List.{nil_from_length}
+use Rattle.jiter_steps.specs.Step.{Step, closed, stuck, container_step}
+use Rattle.jiter_steps.specs.Frames.{members_frame, parts_step, value_in}
+use Rattle.jiter_steps.specs.Frames.{array_in, value_from}
 use Rattle.jiter_steps.specs.declared.parse.ContainerKind.TheVariants as shape
-use Rattle.jiter_steps.proofs.Reading.Values.{Advances}
-use Rattle.jiter_steps.proofs.Calls.Resumed.{IgnoresBegin, value_in-levels, value_in-limit, if_forgiven-no}
-use Rattle.jiter_steps.proofs.Calls.Resumed.{resume-fault}
+use Rattle.jiter_steps.proofs.Calls.Resumed.{IgnoresBegin, value_in-levels, value_in-limit}
 use Rattle.jiter_steps.proofs.Calls.Resumed.{step-to, step-stuck, items-value, key-value, key-failed}
 use Rattle.jiter_steps.proofs.Calls.Resumed.{colon-failed, container-begins}
-use Rattle.jiter_value.specs.Scratch.{HoldsNothing}
-use Rattle.jiter_value.specs.Settings.{Keeping, forgives, rules_as}
-use Rattle.jiter_value.specs.Stacks.{Member, member_view, last_key_of, last_key, but_last, frames, PartTree, built}
-use Rattle.jiter_value.specs.Stacks.{parts_above, frames_below, HavePartBase, HaveBases, HaveKeyBase, key_in, container_fault_in}
-use Rattle.jiter_value.specs.Stacks.{refused_in}
-use Rattle.jiter_value.specs.Stacks.{after_in, container_in, slot_in, empty_tree, Stands}
-use Rattle.jiter_value.specs.Turns.{Fails, IsResolved}
-use Rattle.jiter_value.specs.Value.{view}
-use Rattle.jiter_value.specs.declared.settings.Settings.{Settings}
-use Rattle.jiter_value.specs.declared.stacks.Slot.{Slot}
+use Rattle.jiter_value.specs.Stacks.{last_key_of, last_key, but_last}
+use Rattle.jiter_value.specs.Stacks.{after_in, container_in, empty_tree}
 use Rattle.jiter_value.specs.declared.stacks.Slot.TheVariants as slot
-use Rattle.jiter_value.specs.declared.stacks.Open.{Open}
-use Rattle.jiter_value.specs.declared.stacks.Stacks.{Stacks}
-use Rattle.jiter_value.specs.declared.value.JsonValue.{JsonValue}
 use Rattle.jiter_value.proofs.MadeTexts.{rules_as-advances}
 
 -- a list's last, set

@@ -1,18 +1,12 @@
 -- A turn at a key: it leads on, or it is stopped.
-use Rattle.std.proofs.Common.{◌≡◌, ◌+◌, ◌++◌, ◌∙◌, ℕ, Bool, true, false, List, ap}
-use Rattle.std.specs.Prelude.{OnOk}
-use Rattle.jiter_scan.specs.Kind.{Kind}
+use Rattle.jiter_value.proofs.Words.{◌≡◌, ◌+◌, ◌++◌, ◌∙◌, ℕ, Bool, true, false, List, ap, OnOk, Kind, taken, failed}
+use Rattle.jiter_value.proofs.Words.{colon, object_colon, step, value_first, Keeping, HaveKeys, LeavesKeys, Member}
+use Rattle.jiter_value.proofs.Words.{keys_of, Proceeds, left, outcome, Settings, Stacks, State}
 use Rattle.jiter_scan.specs.NumberReading.{extent_then}
-use Rattle.jiter_scan.specs.Scanned.{taken, failed}
 use Rattle.jiter_scan.specs.Word.{Extent}
-use Rattle.jiter_steps.specs.Step.{colon, object_colon, step, value_first}
-use Rattle.jiter_value.specs.Settings.{Keeping}
 use Rattle.jiter_value.specs.Size.{key_size}
-use Rattle.jiter_value.specs.Stacks.{HaveKeys, LeavesKeys, Member, from_key, keys_of}
-use Rattle.jiter_value.specs.Turns.{HasTakenKey, Proceeds, left, outcome}
-use Rattle.jiter_value.specs.declared.settings.Settings.{Settings}
-use Rattle.jiter_value.specs.declared.stacks.Stacks.{Stacks}
-use Rattle.jiter_value.specs.declared.stacks.State.{State}
+use Rattle.jiter_value.specs.Stacks.{from_key}
+use Rattle.jiter_value.specs.Turns.{HasTakenKey}
 use Rattle.jiter_value.proofs.KeptKeys.{left-keys, weaker-on}
 use Rattle.jiter_value.proofs.Turning.{keys-left}
 

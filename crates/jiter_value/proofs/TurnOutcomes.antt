@@ -1,30 +1,19 @@
 -- What a turn leads on to, and where it may want memory.
-use Rattle.std.proofs.Common.{◌≡◌, ◌≢◌, ◌∙◌, ◌+◌, ◌<◌, inl, inr, ℕ, ◌≤◌, List, ap, arith, length, subst, sym}
-use Rattle.std.proofs.lemmas.Result.{IfOk-weaker, on_ok_weaker}
-use Rattle.std.specs.Prelude.{Result, Ok, Err, IfOk, OnOk, slice_index}
+use Rattle.jiter_value.proofs.Words.{◌≡◌, ◌≢◌, ◌∙◌, ◌+◌, ◌<◌, inl, inr, ℕ, ◌≤◌, List, ap, arith, length, subst, sym}
+use Rattle.jiter_value.proofs.Words.{IfOk-weaker, on_ok_weaker, Result, Ok, Err, IfOk, OnOk, slice_index, ReadError}
+use Rattle.jiter_value.proofs.Words.{WhereRefused, Reading, Tree, start_of, Start, Keeping, after_size, value_size}
+use Rattle.jiter_value.proofs.Words.{after, from_value, LeavesKeys, Proceeds, MayGrowFor, left, outcome, MayGrowAs}
+use Rattle.jiter_value.proofs.Words.{MayGrowAt, MayGrowBy, Slot, Settings, Stacks, State}
 use Rattle.jiter_scan.specs.declared.errors.Fault.{Fault}
-use Rattle.jiter_steps.specs.declared.read_error.ReadError.{ReadError}
 use Rattle.jiter_steps.specs.declared.read_error.ReadError.TheVariants as error
-use Rattle.jiter_steps.specs.ReadError.{WhereRefused}
-use Rattle.jiter_steps.specs.Read.{Reading}
-use Rattle.jiter_steps.specs.Tree.{Tree}
 use Rattle.jiter_scan.specs.declared.memory.AllocFailed.{AllocFailed}
-use Rattle.jiter_steps.specs.Literal.{start_of}
 use Rattle.jiter_steps.specs.StringDecoder.{WantsMemory}
-use Rattle.jiter_steps.specs.declared.parse.Start.{Start}
 use Rattle.jiter_steps.specs.declared.parse.Start.TheVariants as start
-use Rattle.jiter_value.specs.Settings.{Keeping}
-use Rattle.jiter_value.specs.Size.{after_size, value_size}
-use Rattle.jiter_value.specs.Stacks.{after, from_value, LeavesKeys}
-use Rattle.jiter_value.specs.Turns.{Proceeds, MayGrowFor, Turned, left, outcome}
-use Rattle.jiter_value.specs.Value.{BeginsContainer, MayGrowAs, MayGrowAt, MayGrowBy}
-use Rattle.jiter_value.specs.declared.stacks.Slot.{Slot}
+use Rattle.jiter_value.specs.Turns.{Turned}
+use Rattle.jiter_value.specs.Value.{BeginsContainer}
 use Rattle.jiter_value.specs.declared.stacks.Slot.TheVariants as slot
 use Rattle.jiter_value.specs.declared.turns.Reading.{Reading as Turning}
 use Rattle.jiter_value.proofs.KeptKeys.{leaves-on}
-use Rattle.jiter_value.specs.declared.settings.Settings.{Settings}
-use Rattle.jiter_value.specs.declared.stacks.Stacks.{Stacks}
-use Rattle.jiter_value.specs.declared.stacks.State.{State}
 use Rattle.jiter_value.specs.declared.stacks.State.TheVariants as state
 
 -- from a place before it, with more that is left and more that may be held

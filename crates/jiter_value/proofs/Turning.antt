@@ -1,23 +1,14 @@
 -- Where turns lead.
-use Rattle.std.proofs.Common.{◌≡◌, ◌≢◌, ◌∙◌, inl, inr, ℕ, ◌+◌, ◌≤◌, List, ap, arith, eqb, false, length, not, refl, subst, sym, take}
-use Rattle.std.proofs.Common.{take-take, true}
-use Rattle.std.proofs.lemmas.List.{length-take}
+use Rattle.jiter_value.proofs.Words.{◌≡◌, ◌≢◌, ◌∙◌, inl, inr, ℕ, ◌+◌, ◌≤◌, List, ap, arith, eqb, false, length, not}
+use Rattle.jiter_value.proofs.Words.{refl, subst, sym, take, take-take, true, length-take, OnOk, Result, Ok, Err}
+use Rattle.jiter_value.proofs.Words.{value_at, ReadError, Keeping, rules_as, held, value_size, HaveKeys, LeavesKeys}
+use Rattle.jiter_value.proofs.Words.{Member, from_value, keys_of, meaning, GoesOn, HasCome, IsWithin, MayGrowFor}
+use Rattle.jiter_value.proofs.Words.{Proceeds, Reaches, outcome, MayGrowBy, Settings, Slot, Stacks, State}
 use Rattle.jiter_value.proofs.KeptKeys.{key_count}
-use Rattle.std.specs.Prelude.{OnOk, Result, Ok, Err}
 use Rattle.jiter_steps.specs.Node.{nesting_limit}
-use Rattle.jiter_steps.specs.Read.{value_at}
-use Rattle.jiter_steps.specs.declared.read_error.ReadError.{ReadError}
 use Rattle.jiter_steps.specs.declared.read_error.ReadError.TheVariants as error
-use Rattle.jiter_value.specs.Settings.{Keeping, rules_as}
-use Rattle.jiter_value.specs.Size.{held, value_size}
-use Rattle.jiter_value.specs.Stacks.{HaveKeys, LeavesKeys, Member, from_value, keys_of, meaning, slot_of}
-use Rattle.jiter_value.specs.Turns.{GoesOn, HasCome, IsWithin, MayGrowFor, Proceeds, Reaches, outcome}
-use Rattle.jiter_value.specs.Value.{MayGrowBy}
-use Rattle.jiter_value.specs.declared.settings.Settings.{Settings}
-use Rattle.jiter_value.specs.declared.stacks.Slot.{Slot}
+use Rattle.jiter_value.specs.Stacks.{slot_of}
 use Rattle.jiter_value.specs.declared.stacks.Slot.TheVariants as slot
-use Rattle.jiter_value.specs.declared.stacks.Stacks.{Stacks}
-use Rattle.jiter_value.specs.declared.stacks.State.{State}
 use Rattle.jiter_value.specs.declared.stacks.State.TheVariants as state
 
 pub not-once : (n : ℕ) → not (eqb n 0) ≡ true → n ≡ 0 → ⊥

@@ -1,13 +1,9 @@
 -- The views of containers.
-use Rattle.std.proofs.Common.{◌≡◌, ℤ, Bool, List, [], ◌∷◌, map, refl, ap, ◌∙◌, rules, Vec}
-use Rattle.std.specs.declared.alloc.Global.{Global}
-use Rattle.std.specs.declared.borrow.CowStr.{CowStr}
-use Rattle.jiter_steps.specs.Tree.{null, boolean, int, float, string, array, object, member, items_of, members_of}
-use Rattle.jiter_steps.specs.StringDecoder.{text_view}
-use Rattle.jiter_value.specs.Value.{view, member_views}
-use Rattle.jiter_value.specs.Stacks.{member_view}
+use Rattle.jiter_value.proofs.Words.{◌≡◌, ℤ, Bool, List, [], ◌∷◌, map, refl, ap, ◌∙◌, rules, Vec, Global, CowStr, null}
+use Rattle.jiter_value.proofs.Words.{boolean, int, float, string, array, object, member, items_of, members_of}
+use Rattle.jiter_value.proofs.Words.{text_view, view, member_views, member_view, JsonValue, Array, Object}
 use Rattle.jiter_value.specs.declared.value.JsonValue as value
-use Rattle.jiter_value.specs.declared.value.JsonValue.{JsonValue, Null, Int, Float, Str, Array, Object, the_lemmas}
+use Rattle.jiter_value.specs.declared.value.JsonValue.{Null, Int, Float, Str, the_lemmas}
 
 pub member_views_is : (ms : List (CowStr Global × JsonValue)) → member_views ms ≡ members_of (map member_view ms)
 member_views_is [] = refl

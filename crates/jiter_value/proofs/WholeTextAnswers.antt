@@ -1,37 +1,18 @@
 -- What a whole text answers, by how its reading goes.
-use Rattle.std.proofs.Common.{◌≡◌, inl, inr, ℕ, ◌<◌, Bool, true, false, List, length, refl, sym, ap, ap₂, ◌∙◌}
-use Rattle.std.proofs.Common.{arith}
-use Rattle.std.proofs.lemmas.List.{length-reverse}
-use Rattle.std.specs.Prelude.{reverse, slice_get, Option, Some, None, Err, if◌then◌else◌}
-use Rattle.jiter_scan.specs.Kind.{Kind, fault_kind}
-use Rattle.jiter_scan.proofs.Choices.{if_case, if_both, if-true, if-false}
-use Rattle.jiter_scan.specs.PartialMode.{is_active}
-use Rattle.jiter_scan.specs.Scanned.{taken, failed}
-use Rattle.jiter_scan.specs.declared.errors.JsonError.{JsonError}
-use Rattle.jiter_scan.specs.declared.partial_mode.PartialMode.{PartialMode}
-use Rattle.jiter_scan.specs.declared.partial_mode.PartialMode.TheVariants.{Off, On, TrailingStrings}
-use Rattle.jiter_steps.specs.Answer.{answer_in}
-use Rattle.jiter_steps.specs.Blank.{past_blanks}
-use Rattle.jiter_steps.specs.Parse.{Gives}
-use Rattle.jiter_steps.specs.Read.{Reading, done, fault, Rules, value_at, if_begun, if_last, to_end, prefix_answer}
-use Rattle.jiter_steps.specs.Read.{whole_answer}
-use Rattle.jiter_steps.specs.Step.{step, value_first, document_end}
-use Rattle.jiter_steps.specs.Tree.{Text, Tree}
-use Rattle.jiter_steps.specs.declared.read_error.ReadError.{ReadError}
+use Rattle.jiter_value.proofs.Words.{◌≡◌, inl, inr, ℕ, ◌<◌, Bool, true, false, List, length, refl, sym, ap, ap₂, ◌∙◌}
+use Rattle.jiter_value.proofs.Words.{arith, length-reverse, reverse, slice_get, Option, Some, None, Err, if◌then◌else◌}
+use Rattle.jiter_value.proofs.Words.{Kind, fault_kind, if_case, if_both, is_active, taken, failed, JsonError}
+use Rattle.jiter_value.proofs.Words.{PartialMode, Off, On, TrailingStrings, answer_in, past_blanks, Gives, Reading}
+use Rattle.jiter_value.proofs.Words.{done, fault, Rules, value_at, if_begun, if_last, to_end, prefix_answer}
+use Rattle.jiter_value.proofs.Words.{whole_answer, step, value_first, Text, Tree, ReadError, whole-is, Within}
+use Rattle.jiter_value.proofs.Words.{GivesWhole, IsErrorOf, Keeping, answer_with, view, Answers, held, held_in, Stands}
+use Rattle.jiter_value.proofs.Words.{Fails, GoesOn, HasCome, Settings, Stacks, State}
+use Rattle.jiter_scan.proofs.Choices.{if-true, if-false}
+use Rattle.jiter_steps.specs.Step.{document_end}
 use Rattle.jiter_steps.specs.declared.read_error.ReadError.TheVariants as error
-use Rattle.jiter_steps.proofs.Reading.WholeTexts.{prefix-begins, whole-is}
-use Rattle.jiter_steps.proofs.Reading.Bounds.{Within}
+use Rattle.jiter_steps.proofs.Reading.WholeTexts.{prefix-begins}
 use Rattle.jiter_steps.proofs.Reading.Instances.{answer-within, partial_answer-within}
-use Rattle.jiter_value.specs.Reading.{GivesWhole, IsErrorOf}
-use Rattle.jiter_value.specs.Settings.{Keeping, answer_with}
-use Rattle.jiter_value.specs.Value.{view, Answers}
-use Rattle.jiter_value.specs.Size.{held, held_in}
-use Rattle.jiter_value.specs.Stacks.{Stands}
-use Rattle.jiter_value.specs.Turns.{Fails, GoesOn, HasCome}
-use Rattle.jiter_value.specs.declared.settings.Settings.{Settings}
 use Rattle.jiter_value.specs.declared.stacks.Slot.TheVariants as slot
-use Rattle.jiter_value.specs.declared.stacks.Stacks.{Stacks}
-use Rattle.jiter_value.specs.declared.stacks.State.{State}
 use Rattle.jiter_value.specs.declared.stacks.State.TheVariants as state
 use Rattle.jiter_value.proofs.StackTurns.{root-from, root-alone}
 

@@ -1,9 +1,7 @@
 -- A document that is read by steps, by computation.
-use Rattle.std.proofs.Common.{◌≡◌, ℕ, pos, ◌∷◌, refl, codes, Some, None}
+use Rattle.jiter.proofs.Words.{◌≡◌, ℕ, pos, ◌∷◌, refl, codes, Some, None, whole, ReaderState, gave, next, known}
+use Rattle.jiter.proofs.Words.{int_read, str_read, array_read, item_step, object_read, key_step, finish}
 use Rattle.jiter_scan.specs.Number as number
-use Rattle.jiter_steps.specs.StringReading.{whole}
-use Rattle.jiter.specs.Reader.{ReaderState, gave, next, known, int_read, str_read, array_read, item_step}
-use Rattle.jiter.specs.Reader.{object_read, key_step, finish}
 use Rattle.jiter.proofs.Rows.Tables.{computed_replies, named, borrowed}
 
 -- the reader of the document, at a place

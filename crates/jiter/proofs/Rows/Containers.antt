@@ -1,11 +1,10 @@
 -- What the steps through arrays and objects reply, and where the reader stands then, by computation.
-use Rattle.std.proofs.Common.{[], ◌∷◌, ◌++◌, refl, codes, Some, None}
-use Rattle.jiter_scan.specs.Kind.{eof_list, eof_object, eof_string, eof_value, invalid_number, invalid_code_point}
+use Rattle.jiter.proofs.Words.{[], ◌∷◌, ◌++◌, refl, codes, Some, None, eof_string, eof_value, invalid_number}
+use Rattle.jiter.proofs.Words.{invalid_code_point, trailing_comma, whole, raw, json_error, wrong_type, int, array}
+use Rattle.jiter.proofs.Words.{object, gave, refused, peek, next, array_read, item_step, object_read, key_step, finish}
+use Rattle.jiter_scan.specs.Kind.{eof_list, eof_object}
 use Rattle.jiter_scan.specs.Kind.{expected_colon, expected_list_comma_or_end, expected_object_comma_or_end}
-use Rattle.jiter_scan.specs.Kind.{key_must_be_a_string, trailing_comma, trailing_characters}
-use Rattle.jiter_steps.specs.StringReading.{whole, raw}
-use Rattle.jiter.specs.Cause.{json_error, wrong_type, int, array, object}
-use Rattle.jiter.specs.Reader.{gave, refused, peek, next, array_read, item_step, object_read, key_step, finish}
+use Rattle.jiter_scan.specs.Kind.{key_must_be_a_string, trailing_characters}
 use Rattle.jiter.proofs.Rows.Tables.{RepliesOn, computed_replies, at, partly, borrowed, owned}
 
 arrays : RepliesOn (λ s. next s (array_read s)) (

@@ -1,16 +1,11 @@
 -- What the words about a lending call say of a result and of where the reader stands, row by row. That it stands so
 -- when the loan ends (`LeavesReader`) is a formula of the toolchain's logic over these words, which no row computes.
-use Rattle.std.proofs.Common.{◌≡◌, ℕ, List, refl, arith, codes, Ok, Err, Some, None, Result, subst}
-use Rattle.std.specs.Prelude.{slice_get, Option}
-use Rattle.jiter_scan.specs.Kind.{trailing_comma}
+use Rattle.jiter.proofs.Words.{◌≡◌, ℕ, List, refl, arith, codes, Ok, Err, Some, None, Result, subst, slice_get, Option}
+use Rattle.jiter.proofs.Words.{trailing_comma, past_blanks, Text, json_error, wrong_type, int, string, reply_seen}
+use Rattle.jiter.proofs.Words.{text_bytes, ReaderState, Reply, gave, refused, next, str_read, Reads, never}
+use Rattle.jiter.proofs.Words.{string_memory, JiterError}
 use Rattle.jiter_scan.specs.declared.errors.JsonErrorType.TheVariants as kind
-use Rattle.jiter_steps.specs.Blank.{past_blanks}
-use Rattle.jiter_steps.specs.Tree.{Text}
-use Rattle.jiter.specs.Cause.{json_error, wrong_type, int, string}
-use Rattle.jiter.specs.Jiter.{TellsHere, EndsWithColon, reply_seen, text_bytes}
-use Rattle.jiter.specs.Reader.{ReaderState, Reply, gave, refused, next, str_read}
-use Rattle.jiter.specs.Reads.{Reads, never, string_memory}
-use Rattle.jiter.specs.declared.errors.JiterError.{JiterError}
+use Rattle.jiter.specs.Jiter.{TellsHere, EndsWithColon}
 use Rattle.jiter.specs.declared.errors.JiterErrorType.{JiterErrorType}
 use Rattle.jiter.specs.declared.errors.JiterErrorType.TheVariants as error
 use Rattle.jiter.specs.declared.errors.JsonType.TheVariants as type

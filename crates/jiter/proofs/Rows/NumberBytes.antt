@@ -1,8 +1,6 @@
 -- The bytes of numbers whose digits come in runs of some lengths, by computation.
-use Rattle.std.proofs.Common.{ℕ, List, [], ◌∷◌, ◌++◌, length, map, refl, codes}
-use Rattle.std.specs.Prelude.{replicate}
-use Rattle.std.specs.List.{flat_map}
-use Rattle.jiter.specs.Reader.{gave, next, number_bytes_read}
+use Rattle.jiter.proofs.Words.{ℕ, List, [], ◌∷◌, ◌++◌, length, map, refl, codes, replicate, flat_map, gave, next}
+use Rattle.jiter.proofs.Words.{number_bytes_read}
 use Rattle.jiter.proofs.Rows.Tables.{Row, RepliesOn, computed_replies, at}
 
 -- numbers of the digits d: alone, after a minus, of a fraction, of a power, and all at once

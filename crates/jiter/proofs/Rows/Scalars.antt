@@ -1,12 +1,11 @@
 -- What reads of scalars reply, and where the reader stands then, by computation.
-use Rattle.std.proofs.Common.{pos, negsuc, true, false, [], ◌∷◌, ◌++◌, refl, codes}
-use Rattle.jiter_scan.specs.Kind.{eof_string, eof_value, expected_ident, expected_value}
-use Rattle.jiter_scan.specs.Kind.{invalid_escape, invalid_number, invalid_code_point}
-use Rattle.jiter_scan.specs.Number.{Number}
+use Rattle.jiter.proofs.Words.{pos, true, false, [], ◌∷◌, ◌++◌, refl, codes, eof_string, eof_value, expected_ident}
+use Rattle.jiter.proofs.Words.{expected_value, invalid_escape, invalid_number, invalid_code_point, Number, json_error}
+use Rattle.jiter.proofs.Words.{wrong_type, null, bool, int, string, array, object, gave, refused, next, null_read}
+use Rattle.jiter.proofs.Words.{bool_read, number_read, int_read, number_bytes_read, str_read, bytes_read}
+use Rattle.std.proofs.Common.{negsuc}
 use Rattle.jiter_scan.specs.Number as number
-use Rattle.jiter.specs.Cause.{json_error, wrong_type, null, bool, int, float, string, array, object}
-use Rattle.jiter.specs.Reader.{gave, refused, next, null_read, bool_read, number_read, int_read, number_bytes_read}
-use Rattle.jiter.specs.Reader.{str_read, bytes_read}
+use Rattle.jiter.specs.Cause.{float}
 use Rattle.jiter.proofs.Rows.Tables.{RepliesOn, computed_replies, at, named, partly, borrowed, owned}
 
 nulls : RepliesOn (λ s. next s (null_read s)) (

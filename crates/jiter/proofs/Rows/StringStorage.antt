@@ -1,8 +1,8 @@
 -- Texts of causes, by computation.
-use Rattle.std.proofs.Common.{◌≡◌, ℕ, List, [], ◌∷◌, refl, codes, map}
+use Rattle.jiter.proofs.Words.{◌≡◌, ℕ, List, [], ◌∷◌, refl, codes, map, trailing_comma, Cause, json_error, wrong_type}
+use Rattle.jiter.proofs.Words.{null, bool, int, string, array, object}
 use Rattle.std.specs.Fmt.{digits}
-use Rattle.jiter_scan.specs.Kind.{trailing_comma}
-use Rattle.jiter.specs.Cause.{Cause, json_error, wrong_type, null, bool, int, float, string, array, object}
+use Rattle.jiter.specs.Cause.{float}
 use Rattle.jiter.specs.Cause.{cause_text, error_text, error_description}
 
 abbrev causes : List (Cause × List ℕ)

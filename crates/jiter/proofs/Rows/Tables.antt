@@ -1,9 +1,7 @@
 -- How a table is written, and what its rows compute.
-use Rattle.std.proofs.Common.{◌≡◌, ℕ, true, false, List, map}
+use Rattle.jiter.proofs.Words.{◌≡◌, ℕ, true, false, List, map, Text, ReaderState, Reply}
 use Rattle.std.specs.Prelude.{⊤}
 use Rattle.jiter_steps.proofs.Computed.{computed_readings}
-use Rattle.jiter_steps.specs.Tree.{Text}
-use Rattle.jiter.specs.Reader.{ReaderState, Reply}
 
 -- a reader, and what the call replies
 abbrev pub Row : Type 0 → Type 0

@@ -1,13 +1,12 @@
 -- What reads and skips of whole values reply, and where the reader stands then, by computation.
-use Rattle.std.proofs.Common.{ℕ, ◌+◌, pos, List, [], ◌∷◌, ◌++◌, refl, codes}
-use Rattle.std.specs.Prelude.{flat_map, replicate}
-use Rattle.jiter_scan.specs.Kind.{eof_string, eof_value, expected_ident, expected_value, invalid_escape}
-use Rattle.jiter_scan.specs.Kind.{invalid_number, invalid_code_point, control_character, lone_surrogate}
-use Rattle.jiter_scan.specs.Kind.{trailing_comma, end_of_hex_escape, recursion_limit}
-use Rattle.jiter_steps.specs.Tree.{Text, Tree, items_of}
+use Rattle.jiter.proofs.Words.{ℕ, ◌+◌, pos, List, [], ◌∷◌, ◌++◌, refl, codes, flat_map, replicate, eof_string}
+use Rattle.jiter.proofs.Words.{eof_value, expected_ident, expected_value, invalid_escape, invalid_number}
+use Rattle.jiter.proofs.Words.{invalid_code_point, trailing_comma, recursion_limit, Text, Tree, json_error, ReaderState}
+use Rattle.jiter.proofs.Words.{gave, refused, next, bytes_read, value_read, skip_read}
+use Rattle.jiter_scan.specs.Kind.{control_character, lone_surrogate}
+use Rattle.jiter_scan.specs.Kind.{end_of_hex_escape}
+use Rattle.jiter_steps.specs.Tree.{items_of}
 use Rattle.jiter_steps.specs.Tree as tree
-use Rattle.jiter.specs.Cause.{json_error}
-use Rattle.jiter.specs.Reader.{ReaderState, gave, refused, next, bytes_read, value_read, skip_read}
 use Rattle.jiter.proofs.Rows.Tables.{Row, RepliesOn, computed_replies, at, partly, borrowed}
 
 abbrev a_list : Tree

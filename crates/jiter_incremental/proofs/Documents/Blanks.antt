@@ -1,18 +1,18 @@
 -- Blanks of a document that arrives in chunks: a run of them is taken at once, and before the first byte that is none
 -- no memory is wanted.
-use Rattle.std.proofs.Common.{◌≡◌, ◌≢◌, ℕ, zero, suc, ◌+◌, ◌-◌, ◌<◌, ◌≤◌, true, false, List, [], ◌∷◌, ◌++◌, length, take, drop}
-use Rattle.std.proofs.Common.{◌⊎◌, get_or, inl, inr, refl, sym, ap, ◌∙◌, subst, arith, append_assoc, length-append}
-use Rattle.std.specs.Prelude.{slice_get, slice_range, Some, None, Result, Ok, Err, OnErr}
-use Rattle.std.proofs.lemmas.Bool.{cases_lt, false≢true}
-use Rattle.std.proofs.lemmas.List.{append-nil, get_or_append_left, take-append-drop, take_more}
-use Rattle.std.proofs.lemmas.Option.{get_or_from_slice_get, slice_get-get_or, slice_get_read, slice_get_within}
+use Rattle.jiter_incremental.proofs.Words.{◌≡◌, ◌≢◌, ℕ, zero, suc, ◌+◌, ◌-◌, ◌<◌, ◌≤◌, true, false, List, [], ◌∷◌, ◌++◌}
+use Rattle.jiter_incremental.proofs.Words.{length, take, drop, ◌⊎◌, get_or, inl, inr, refl, sym, ap, ◌∙◌, subst, arith}
+use Rattle.jiter_incremental.proofs.Words.{append_assoc, length-append, slice_get, slice_range, Some, None, Result, Ok}
+use Rattle.jiter_incremental.proofs.Words.{Err, OnErr, false≢true, append-nil, take-append-drop, take_more}
+use Rattle.jiter_incremental.proofs.Words.{get_or_from_slice_get, slice_get-get_or, slice_get_within, slice-one}
+use Rattle.jiter_incremental.proofs.Words.{slice_range-split, is_blank, past_blanks, IsScalarStart, Document}
+use Rattle.jiter_incremental.proofs.Words.{HasTakenIn, Holding, HoldsScalar, MayRefuseAt, Opened, anything}
+use Rattle.jiter_incremental.proofs.Words.{between_tokens, in_key, in_scalar, with_byte, Token}
+use Rattle.std.proofs.lemmas.Bool.{cases_lt}
+use Rattle.std.proofs.lemmas.List.{get_or_append_left}
+use Rattle.std.proofs.lemmas.Option.{slice_get_read}
 use Rattle.jiter_scan.proofs.Runs.{run_end-passes}
-use Rattle.jiter_scan.proofs.Standing.{slice-one, slice_range-split}
-use Rattle.jiter_steps.specs.Blank.{is_blank, past_blanks}
 use Rattle.jiter_steps.proofs.Grammar.Blanks.{no_blank-after, past_blanks-bound}
-use Rattle.jiter_incremental.specs.Between.{IsScalarStart}
-use Rattle.jiter_incremental.specs.Document.{Document, HasTakenIn, Holding, HoldsScalar, MayRefuseAt, Opened, anything, between_tokens, in_key, in_scalar, with_byte}
-use Rattle.jiter_incremental.specs.declared.reader.Token.{Token}
 use Rattle.jiter_incremental.specs.declared.reader.Token.TheVariants as token
 use Rattle.jiter_incremental.proofs.Documents.Ends.{name-starts, no-blank}
 use Rattle.jiter_incremental.proofs.Documents.{byte-first, known-any, taken-between, takes-byte}

@@ -1,13 +1,9 @@
 -- What the next byte is to a document that arrives, where no token is unfinished.
-use Rattle.std.proofs.Common.{◌≡◌, ◌+◌, ◌≤◌, ◌∷◌, ◌++◌, ◌∙◌, ℕ, List, [], ap, arith, get_or, length}
-use Rattle.std.proofs.lemmas.Option.{slice_get-get_or}
-use Rattle.std.specs.Prelude.{None, slice_range}
-use Rattle.jiter_scan.proofs.Standing.{slice-one, slice_range-split}
-use Rattle.jiter_steps.specs.Node.{nesting_limit}
-use Rattle.jiter_steps.specs.Tree.{Tree}
-use Rattle.jiter_incremental.specs.Arrived.{Arrived, IsLeft, OpenValue}
-use Rattle.jiter_incremental.specs.Between.{TakesByte}
-use Rattle.jiter_incremental.specs.Document.{Document, Follows, HasTakenIn, IsReadAs, IsScalarWithin, anything, between_tokens, with_byte}
+use Rattle.jiter_incremental.proofs.Words.{◌≡◌, ◌+◌, ◌≤◌, ◌∷◌, ◌++◌, ◌∙◌, ℕ, List, [], ap, arith, get_or, length}
+use Rattle.jiter_incremental.proofs.Words.{slice_get-get_or, None, slice_range, slice-one, slice_range-split}
+use Rattle.jiter_incremental.proofs.Words.{nesting_limit, Tree, Arrived, IsLeft, OpenValue, TakesByte, Document}
+use Rattle.jiter_incremental.proofs.Words.{Follows, HasTakenIn, IsReadAs, IsScalarWithin, anything, between_tokens}
+use Rattle.jiter_incremental.proofs.Words.{with_byte}
 use Rattle.jiter_incremental.specs.declared.reader.Token.TheVariants as token
 use Rattle.jiter_incremental.proofs.Documents.{known-any, taken-between, takes-byte}
 

@@ -1,72 +1,44 @@
 -- What the bytes of a document answer that have arrived so far, if the input ends after them.
-use Rattle.std.proofs.Common.{◌≡◌, ℕ, ◌+◌, ◌-◌, ◌<◌, ◌≤◌, ◌==◌, Bool, true, false, List, [], ◌∷◌, ◌++◌, length, refl}
-use Rattle.std.proofs.Common.{eqb-true, inl, sym, subst, ap, ◌∙◌, arith, get_or}
-use Rattle.std.specs.Prelude.{slice_get, Option, Some, None, if◌then◌else◌, string_bytes}
-use Rattle.std.proofs.lemmas.List.{append-nil}
-use Rattle.std.proofs.lemmas.Option.{slice_get_past, slice_get_within, get_or_from_slice_get, none-some, same_Some}
-use Rattle.std.specs.Prelude.{◌&&◌, ◌||◌, is_some, not, option_map}
-use Rattle.std.proofs.lemmas.Bool.{false≢true}
-use Rattle.jiter_scan.proofs.Choices.{if-true, if-false}
-use Rattle.jiter_scan.specs.Kind.{Kind, fault_kind, is_forgiven, eof_object, eof_value, eof_string}
-use Rattle.jiter_scan.specs.PartialMode.{is_active}
-use Rattle.jiter_scan.specs.Stands.{Stands}
-use Rattle.jiter_scan.specs.declared.errors.Fault.{Fault}
+use Rattle.jiter_incremental.proofs.Words.{◌≡◌, ℕ, ◌+◌, ◌-◌, ◌<◌, ◌≤◌, ◌==◌, Bool, true, false, List, [], ◌∷◌, ◌++◌}
+use Rattle.jiter_incremental.proofs.Words.{length, refl, eqb-true, inl, sym, subst, ap, ◌∙◌, arith, get_or, slice_get}
+use Rattle.jiter_incremental.proofs.Words.{Option, Some, None, if◌then◌else◌, string_bytes, append-nil, slice_get_past}
+use Rattle.jiter_incremental.proofs.Words.{slice_get_within, get_or_from_slice_get, none-some, same_Some, ◌&&◌, ◌||◌}
+use Rattle.jiter_incremental.proofs.Words.{is_some, not, option_map, false≢true, if-true, if-false, Kind, fault_kind}
+use Rattle.jiter_incremental.proofs.Words.{is_forgiven, eof_object, eof_value, is_active, Stands, Fault, slice-stands}
+use Rattle.jiter_incremental.proofs.Words.{invalid_code_point, extent_then, number_extent, is_whole}
+use Rattle.jiter_incremental.proofs.Words.{allows_trailing_strings, failed, FaultKind, Extent, is_blank, past_blanks}
+use Rattle.jiter_incremental.proofs.Words.{items_frame, members_frame, resume, value_in, value_from, key_from, start_of}
+use Rattle.jiter_incremental.proofs.Words.{done, fault, prefix_answer, whole_answer, to_end, if_last, container_step}
+use Rattle.jiter_incremental.proofs.Words.{step, end_kind_of, comma_kind_of, Text, Tree, array, object, items_of}
+use Rattle.jiter_incremental.proofs.Words.{members_of, ContainerKind, Start, past_blanks-other, past_blanks-end}
+use Rattle.jiter_incremental.proofs.Words.{resume-fault, if_forgiven-yes, key-failed, ended, inside_at-starts}
+use Rattle.jiter_incremental.proofs.Words.{nothing_forgiven, seen_as, value_form, text_or, scalar_at, content_at, kept}
+use Rattle.jiter_incremental.proofs.Words.{text_form, whole, string, colon, value_first, Arrived, at_end, at_value}
+use Rattle.jiter_incremental.proofs.Words.{between_parts, end_of, leads_on, owned, shown, value_then, IsScalarStart}
+use Rattle.jiter_incremental.proofs.Words.{after_value, text_of, BeginsAs, Document, EndsRight, HasCome, Holding}
+use Rattle.jiter_incremental.proofs.Words.{HoldsScalar, HoldsString, IsAllowed, Opened, ReadsAt, TakenFrom}
+use Rattle.jiter_incremental.proofs.Words.{between_tokens, in_key, in_scalar, opened_to, shown_as, strictly, token_tree}
+use Rattle.jiter_incremental.proofs.Words.{AnswersSo, IsEndFault, KeepsText, broken_as, is_broken, kind_at_end, so_far}
+use Rattle.jiter_incremental.proofs.Words.{name_start, OpenFrame, begun, filled, IsOfString, answer_as, rules_as, built}
+use Rattle.jiter_incremental.proofs.Words.{Settings, Awaits, owned_text, Name, Token, rules_as-advances}
+use Rattle.jiter_scan.specs.Kind.{eof_string}
 use Rattle.jiter_scan.proofs.OpenNumbers.{ended as number-ended}
-use Rattle.jiter_scan.proofs.Standing.{slice-stands}
 use Rattle.jiter_scan.proofs.WordLaws.{word_at-cut}
-use Rattle.jiter_scan.specs.Kind.{invalid_code_point}
-use Rattle.jiter_scan.specs.NumberReading.{extent_then, number_extent}
-use Rattle.jiter_scan.specs.PartialNumber.{is_whole}
 use Rattle.jiter_scan.specs.PartialNumber.{at_end as ended_so}
-use Rattle.jiter_scan.specs.PartialMode.{allows_trailing_strings}
-use Rattle.jiter_scan.specs.Scanned.{Scanned, failed}
-use Rattle.jiter_scan.specs.declared.errors.FaultKind.{FaultKind}
+use Rattle.jiter_scan.specs.Scanned.{Scanned}
 use Rattle.jiter_scan.specs.declared.errors.FaultKind.TheVariants as fault_of
-use Rattle.jiter_scan.specs.Word.{Extent}
-use Rattle.jiter_steps.specs.Blank.{is_blank, past_blanks}
-use Rattle.jiter_steps.specs.Frames.{items_frame, members_frame, resume, value_in, value_from, key_from}
-use Rattle.jiter_steps.specs.Literal.{start_of}
-use Rattle.jiter_steps.specs.Read.{done, fault, prefix_answer, whole_answer, to_end, if_last}
-use Rattle.jiter_steps.specs.Step.{container_step, step, end_kind_of, comma_kind_of}
-use Rattle.jiter_steps.specs.Tree.{Text, Tree, array, object, items_of, members_of}
-use Rattle.jiter_steps.specs.declared.parse.ContainerKind.{ContainerKind}
 use Rattle.jiter_steps.specs.declared.parse.ContainerKind.TheVariants as shape
-use Rattle.jiter_steps.specs.declared.parse.Start.{Start}
 use Rattle.jiter_steps.specs.declared.parse.Start.TheVariants as start
-use Rattle.jiter_steps.proofs.Grammar.Blanks.{past_blanks-other, past_blanks-end}
-use Rattle.jiter_steps.proofs.Calls.Resumed.{resume-fault}
-use Rattle.jiter_steps.proofs.Calls.Resumed.{if_forgiven-yes, key-failed}
-use Rattle.jiter_steps.proofs.OpenStrings.{ended}
-use Rattle.jiter_steps.proofs.Reading.Values.{inside_at-starts}
-use Rattle.jiter_steps.specs.Answer.{nothing_forgiven, seen_as, value_form}
-use Rattle.jiter_steps.specs.PartialString.{text_or}
-use Rattle.jiter_steps.specs.Read.{if_forgiven, scalar_at}
-use Rattle.jiter_steps.specs.StringReading.{content_at, kept, text_form, whole}
-use Rattle.jiter_steps.specs.Tree.{string}
-use Rattle.jiter_steps.specs.Step.{colon, value_first}
-use Rattle.jiter_incremental.specs.Arrived.{Arrived, at_end, at_value, between_parts, end_of, leads_on, owned, shown, value_then}
-use Rattle.jiter_incremental.specs.Between.{IsScalarStart, after_value, text_of}
-use Rattle.jiter_incremental.specs.Document.{BeginsAs, Document, EndsRight, HasCome, Holding, HoldsScalar, HoldsString, IsAllowed, Opened, ReadsAt, TakenFrom, between_tokens, in_key, in_scalar, opened_to, shown_as, strictly, token_tree}
-use Rattle.jiter_incremental.specs.Ends.{AnswersSo, IsEndFault, KeepsText, broken_as, is_broken, kind_as, kind_at_end, so_far}
-use Rattle.jiter_incremental.specs.Names.{name_start}
-use Rattle.jiter_incremental.specs.Slot.{OpenFrame, begun, filled}
-use Rattle.jiter_incremental.specs.Strings.{IsOfString}
-use Rattle.jiter_value.specs.Settings.{answer_as, rules_as}
-use Rattle.jiter_value.specs.Stacks.{built}
+use Rattle.jiter_steps.specs.Read.{if_forgiven}
+use Rattle.jiter_incremental.specs.Ends.{kind_as}
 use Rattle.jiter_incremental.specs.declared.reader.Awaits.TheVariants as awaits
-use Rattle.jiter_value.specs.declared.settings.Settings.{Settings}
-use Rattle.jiter_incremental.specs.declared.reader.Awaits.{Awaits}
-use Rattle.jiter_value.specs.Owned.{owned_text}
-use Rattle.jiter_incremental.specs.declared.names.Name.{Name}
 use Rattle.jiter_incremental.specs.declared.names.Name.TheVariants as name
-use Rattle.jiter_incremental.specs.declared.reader.Token.{Token}
 use Rattle.jiter_incremental.specs.declared.reader.Token.TheVariants as token
 use Rattle.jiter_incremental.proofs.Arrivals.{Sticks, all-close, fault-closes, led-answers, led-end, off-answers}
 use Rattle.jiter_incremental.proofs.Between.{scalar-read}
 use Rattle.jiter_incremental.proofs.Documents.{ends-after, prefix-fault}
 use Rattle.jiter_incremental.proofs.Documents.Strings.{begin_of, is-held, is-placed, text-low}
 use Rattle.jiter_incremental.proofs.Documents.Tokens.{held-end, held-stands, number-done, number-failed, word-failed}
-use Rattle.jiter_value.proofs.MadeTexts.{rules_as-advances}
 
 -- A byte that begins a scalar is neither a blank, a comma nor a closer.
 not-such : (c d : ℕ) → IsScalarStart (start_of c) → (IsScalarStart (start_of d) → ⊥) → (c == d) ≡ false

@@ -1,25 +1,16 @@
 -- The name of a float after a minus, in a document that arrives in chunks.
-use Rattle.std.proofs.Common.{◌≡◌, ℕ, ◌+◌, ◌==◌, true, false, List, [], ◌∷◌, ◌++◌, length, refl, sym, subst, ap, ◌∙◌}
-use Rattle.std.proofs.Common.{arith, append_assoc, codes, drop}
-use Rattle.std.specs.Prelude.{slice_get, Option, Some, None}
-use Rattle.std.proofs.lemmas.Bool.{eqb-true}
+use Rattle.jiter_incremental.proofs.Words.{◌≡◌, ℕ, ◌+◌, ◌==◌, true, false, List, [], ◌∷◌, ◌++◌, length, refl, sym}
+use Rattle.jiter_incremental.proofs.Words.{subst, ap, ◌∙◌, arith, append_assoc, codes, drop, slice_get, Option, Some}
+use Rattle.jiter_incremental.proofs.Words.{None, eqb-true, failed-taken, stands-length, word_at-complete, word_at-sound}
+use Rattle.jiter_incremental.proofs.Words.{eof_value, invalid_number, after_minus, extent_from, number_extent}
+use Rattle.jiter_incremental.proofs.Words.{HoldsNumber, IsBegun, word_from, taken, failed, Stands, Extent, word_at}
+use Rattle.jiter_incremental.proofs.Words.{PartialNumber, IsLeft, at_value, BeginsAs, Document, HasTakenIn, HoldsMinus}
+use Rattle.jiter_incremental.proofs.Words.{HoldsScalar, HoldsWord, IsAllowed, IsRefused, Known, anything, in_scalar}
+use Rattle.jiter_incremental.proofs.Words.{name_start, OpenFrame}
 use Rattle.std.proofs.lemmas.List.{nil_from_length}
-use Rattle.jiter_scan.proofs.Choices.{failed-taken, if_both}
-use Rattle.jiter_scan.proofs.Standing.{stands-length}
-use Rattle.jiter_scan.proofs.WordLaws.{word_at-complete, word_at-sound}
-use Rattle.jiter_scan.specs.Kind.{eof_value, invalid_number}
-use Rattle.jiter_scan.specs.NumberReading.{after_minus, decimal_at, extent_from, name_at, number_extent}
-use Rattle.jiter_scan.specs.PartialNumber.{HoldsNumber, IsBegun}
-use Rattle.jiter_scan.specs.PartialWord.{word_from}
-use Rattle.jiter_scan.specs.Scanned.{taken, failed}
-use Rattle.jiter_scan.specs.Stands.{Stands}
-use Rattle.jiter_scan.specs.Word.{Extent, word_at}
-use Rattle.jiter_scan.specs.declared.partial_number.PartialNumber.{PartialNumber}
+use Rattle.jiter_scan.proofs.Choices.{if_both}
+use Rattle.jiter_scan.specs.NumberReading.{decimal_at, name_at}
 use Rattle.jiter_scan.specs.declared.partial_number.Stage.TheVariants as stage
-use Rattle.jiter_incremental.specs.Arrived.{IsLeft, at_value}
-use Rattle.jiter_incremental.specs.Document.{BeginsAs, Document, HasTakenIn, HoldsMinus, HoldsScalar, HoldsWord, IsAllowed, IsRefused, Known, anything, in_scalar}
-use Rattle.jiter_incremental.specs.Names.{name_start}
-use Rattle.jiter_incremental.specs.Slot.{OpenFrame}
 use Rattle.jiter_incremental.specs.declared.names.Name.TheVariants as name
 use Rattle.jiter_incremental.specs.declared.reader.Token.TheVariants as token
 use Rattle.jiter_incremental.specs.declared.reader.Awaits.TheVariants as awaits

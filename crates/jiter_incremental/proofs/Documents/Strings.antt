@@ -1,53 +1,37 @@
 -- What the bytes of a string or a key make of a document that arrives in chunks.
-use Rattle.std.proofs.Common.{◌≡◌, ℕ, ◌+◌, ◌-◌, ◌<◌, ◌≤◌, inl, inr, Bool, true, false, List, [], ◌∷◌, ◌++◌}
-use Rattle.std.proofs.Common.{get_or, length, refl, sym, ap, subst, ◌∙◌, arith, append_assoc, append-nil, length-append}
-use Rattle.std.proofs.Math.Seq.{get_or-append_seam}
-use Rattle.std.specs.Prelude.{slice_get, slice_range, Option, Some, None, ◌==◌}
+use Rattle.jiter_incremental.proofs.Words.{◌≡◌, ℕ, ◌+◌, ◌-◌, ◌<◌, ◌≤◌, inl, inr, Bool, true, false, List, [], ◌∷◌, ◌++◌}
+use Rattle.jiter_incremental.proofs.Words.{get_or, length, refl, sym, ap, subst, ◌∙◌, arith, append_assoc, append-nil}
+use Rattle.jiter_incremental.proofs.Words.{length-append, get_or-append_seam, slice_get, slice_range, Option, Some}
+use Rattle.jiter_incremental.proofs.Words.{None, ◌==◌, slice_get-get_or, slice_get_within, get_or_from_slice_get}
+use Rattle.jiter_incremental.proofs.Words.{false≢true, if_case, failed-taken, slice-one, Kind, fault_kind, is_forgiven}
+use Rattle.jiter_incremental.proofs.Words.{invalid_code_point, allows_trailing_strings, is_active, Off, taken, failed}
+use Rattle.jiter_incremental.proofs.Words.{Stands, Fault, FaultKind, nothing_forgiven, seen_as, value_form}
+use Rattle.jiter_incremental.proofs.Words.{members_frame, resume, value_in, key_from, start_of, Goes, HasTaken, text_or}
+use Rattle.jiter_incremental.proofs.Words.{Rules, done, fault, scalar_at, to_end, whole, text_form, content_at, Text}
+use Rattle.jiter_incremental.proofs.Words.{Tree, string, PartialString, if_forgiven-no, key-failed, resume-fault}
+use Rattle.jiter_incremental.proofs.Words.{inside_at-starts, whole-is, IsLeft, OpenValue, at_value, owned, completed}
+use Rattle.jiter_incremental.proofs.Words.{text_of, Comes, Document, Follows, HasCome, HasTakenIn, Holding, HoldsScalar}
+use Rattle.jiter_incremental.proofs.Words.{HoldsString, IsReading, IsRefused, Known, Next, Opened, ReadsAt, Strictness}
+use Rattle.jiter_incremental.proofs.Words.{TakenFrom, anything, by_mode, fault_by, settings_by, strict, between_tokens}
+use Rattle.jiter_incremental.proofs.Words.{in_key, in_scalar, noted_in, opened_to, strictly, with_byte, with_first}
+use Rattle.jiter_incremental.proofs.Words.{OpenFrame, IsClosedAs, IsKeyAs, IsOfString, IsTextAs, owned_text, rules_as}
+use Rattle.jiter_incremental.proofs.Words.{Token, Settings, rules_as-advances}
 use Rattle.std.specs.Str.Lossy.{utf8_valid_len}
-use Rattle.std.proofs.lemmas.Option.{slice_get-get_or, slice_get_within, get_or_from_slice_get}
-use Rattle.std.proofs.lemmas.Bool.{false≢true}
-use Rattle.jiter_scan.proofs.Choices.{if_case, if_gives, failed-taken}
-use Rattle.jiter_scan.proofs.Standing.{slice-one}
-use Rattle.jiter_scan.specs.Kind.{Kind, fault_kind, is_forgiven, invalid_code_point}
-use Rattle.jiter_scan.specs.PartialMode.{allows_trailing_strings, is_active}
+use Rattle.jiter_scan.proofs.Choices.{if_gives}
 use Rattle.jiter_scan.specs.declared.partial_mode.PartialMode.{PartialMode}
-use Rattle.jiter_scan.specs.declared.partial_mode.PartialMode.TheVariants.{Off, On, TrailingStrings}
-use Rattle.jiter_scan.specs.Scanned.{taken, failed}
-use Rattle.jiter_scan.specs.Stands.{Stands}
-use Rattle.jiter_scan.specs.declared.errors.Fault.{Fault}
-use Rattle.jiter_scan.specs.declared.errors.FaultKind.{FaultKind}
+use Rattle.jiter_scan.specs.declared.partial_mode.PartialMode.TheVariants.{On, TrailingStrings}
 use Rattle.jiter_scan.specs.declared.errors.FaultKind.TheVariants as fault_of
-use Rattle.jiter_steps.specs.Answer.{nothing_forgiven, seen_as, value_form}
-use Rattle.jiter_steps.specs.Frames.{members_frame, resume, value_in, key_from}
-use Rattle.jiter_steps.specs.Literal.{start_of}
-use Rattle.jiter_steps.specs.PartialString.{Goes, HasTaken, text_or}
 use Rattle.jiter_steps.specs.PartialText.{HoldsBytes}
-use Rattle.jiter_steps.specs.Read.{Rules, done, fault, scalar_at, to_end}
-use Rattle.jiter_steps.specs.StringReading.{Form, Stop, whole, text_form, text_in_form, content_at}
+use Rattle.jiter_steps.specs.StringReading.{Form, Stop, text_in_form}
 use Rattle.jiter_steps.specs.StringReading.{Body, body_at, closed, unclosed, cut, wrong}
-use Rattle.jiter_steps.specs.Tree.{Text, Tree, string}
-use Rattle.jiter_steps.specs.declared.partial_string.PartialString.{PartialString}
 use Rattle.jiter_steps.specs.declared.partial_string.Went.TheVariants as went
 use Rattle.jiter_steps.specs.declared.parse.Start.TheVariants as start
-use Rattle.jiter_steps.proofs.Calls.Resumed.{if_forgiven-no, key-failed, resume-fault}
 use Rattle.jiter_steps.proofs.Grammar.Places.{IsPlaceKind}
 use Rattle.jiter_steps.proofs.Reading.Bodies.{StopWithin, body_at-long, body_at-within}
 use Rattle.jiter_steps.proofs.Reading.StringForms.{content-kept}
-use Rattle.jiter_steps.proofs.Reading.Values.{inside_at-starts}
-use Rattle.jiter_steps.proofs.Reading.WholeTexts.{whole-is}
-use Rattle.jiter_incremental.specs.Arrived.{IsLeft, OpenValue, at_value, owned}
-use Rattle.jiter_incremental.specs.Between.{completed, text_of}
-use Rattle.jiter_incremental.specs.Document.{Comes, Document, Follows, HasCome, HasTakenIn, Holding, HoldsScalar, HoldsString, IsReading, IsRefused, Known, Next, Opened, ReadsAt, Strictness, TakenFrom, anything, by_mode, fault_by, settings_by, strict, between_tokens, in_key, in_scalar, noted_in, opened_to, strictly, with_byte, with_first}
-use Rattle.jiter_incremental.specs.Slot.{OpenFrame}
 use Rattle.jiter_incremental.proofs.Documents.{IsInside, ends-inside, known-as, known-in, known-on, noted-some, reads-after, same-inside}
-use Rattle.jiter_incremental.specs.Strings.{IsClosedAs, IsKeyAs, IsOfString, IsTextAs}
-use Rattle.jiter_value.specs.Owned.{owned_text}
-use Rattle.jiter_value.specs.Settings.{rules_as}
-use Rattle.jiter_incremental.specs.declared.reader.Token.{Token}
 use Rattle.jiter_incremental.specs.declared.reader.Token.TheVariants as token
 use Rattle.jiter_incremental.specs.declared.reader.Awaits.TheVariants as awaits
-use Rattle.jiter_value.specs.declared.settings.Settings.{Settings}
-use Rattle.jiter_value.proofs.MadeTexts.{rules_as-advances}
 
 -- the same document, with this string and this first fault
 abbrev pub turned : Document → PartialString → Option Fault → Document

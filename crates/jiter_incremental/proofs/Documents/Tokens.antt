@@ -1,57 +1,43 @@
 -- The tokens of a document that arrives in chunks: how they begin, go on, end and fail, whatever comes after them.
-use Rattle.std.proofs.Common.{◌≡◌, ◌⊎◌, inl, inr, ℕ, ◌+◌, ◌-◌, ◌<◌, ◌≤◌, ◌==◌, Bool, true, false, List, [], ◌∷◌, ◌++◌}
-use Rattle.std.proofs.Common.{length, take, drop, get_or, refl, sym, subst, ap, ◌∙◌, arith, append_assoc, length-append}
-use Rattle.std.proofs.Common.{slice_range, codes}
-use Rattle.std.specs.Prelude.{slice_get, string_bytes, Some, None}
+use Rattle.jiter_incremental.proofs.Words.{◌≡◌, ◌⊎◌, inl, inr, ℕ, ◌+◌, ◌-◌, ◌<◌, ◌≤◌, ◌==◌, Bool, true, false, List, []}
+use Rattle.jiter_incremental.proofs.Words.{◌∷◌, ◌++◌, length, take, drop, get_or, refl, sym, subst, ap, ◌∙◌, arith}
+use Rattle.jiter_incremental.proofs.Words.{append_assoc, length-append, slice_range, codes, slice_get, string_bytes}
+use Rattle.jiter_incremental.proofs.Words.{Some, None, append-nil, slice_get-get_or, get_or_from_slice_get, if_case}
+use Rattle.jiter_incremental.proofs.Words.{slice-one, slice_range-split, stands-length, slice-stands, word_at-complete}
+use Rattle.jiter_incremental.proofs.Words.{word_at-sound, Kind, expected_value, invalid_number, is_forgiven}
+use Rattle.jiter_incremental.proofs.Words.{number_value, after_minus, extent_from, number_extent, HoldsNumber, IsBegun}
+use Rattle.jiter_incremental.proofs.Words.{Leads, begins_decimal, number_by, number_from, word_by, word_from, is_active}
+use Rattle.jiter_incremental.proofs.Words.{taken, failed, Stands, Extent, word_at, PartialNumber, PartialWord}
+use Rattle.jiter_incremental.proofs.Words.{resume-fault, inside_at-starts, nothing_forgiven, seen_as, resume, value_in}
+use Rattle.jiter_incremental.proofs.Words.{literal_at, literal_tree, start_of, word_of, nesting_limit, number_tree}
+use Rattle.jiter_incremental.proofs.Words.{HasTaken, Rules, done, fault, prefix_answer, scalar_at, Text, Tree, Literal}
+use Rattle.jiter_incremental.proofs.Words.{Start, IsLeft, at_value, owned, BeginsAs, BeginsHere, Comes, Document}
+use Rattle.jiter_incremental.proofs.Words.{Follows, HasCome, HasTakenIn, Holding, HoldsMinus, HoldsScalar, HoldsString}
+use Rattle.jiter_incremental.proofs.Words.{HoldsWord, IsAllowed, IsNumberWithin, IsReadAs, IsReading, IsRefused, Known}
+use Rattle.jiter_incremental.proofs.Words.{NameBegins, Next, Opened, TakenFrom, WordBegins, anything, between_tokens}
+use Rattle.jiter_incremental.proofs.Words.{in_key, in_scalar, own_number, by_mode, strict, with_byte, name_start}
+use Rattle.jiter_incremental.proofs.Words.{name_tree, name_word, OpenFrame, owned_text, tree_as, rules_as, Name, Token}
+use Rattle.jiter_incremental.proofs.Words.{Settings}
 use Rattle.std.proofs.Math.Seq.{drop-append_seam, take-append_seam}
 use Rattle.std.proofs.lemmas.Bool.Decides.{nat_tests}
-use Rattle.std.proofs.lemmas.List.{append-nil}
-use Rattle.std.proofs.lemmas.Option.{slice_get-get_or, get_or_from_slice_get}
-use Rattle.jiter_scan.proofs.Choices.{if_case}
-use Rattle.jiter_scan.proofs.Standing.{slice-one, slice_range-split, stands-append, stands-length, stands-slice, stands-split, slice-stands}
-use Rattle.jiter_scan.proofs.WordLaws.{word_at-complete, word_at-same, word_at-sound}
-use Rattle.jiter_scan.specs.Kind.{Kind, expected_ident, expected_value, invalid_number, is_forgiven}
-use Rattle.jiter_scan.specs.Number.{number_value}
-use Rattle.jiter_scan.specs.NumberReading.{after_minus, extent_from, number_at, number_extent}
+use Rattle.jiter_scan.proofs.Standing.{stands-append, stands-slice, stands-split}
+use Rattle.jiter_scan.proofs.WordLaws.{word_at-same}
+use Rattle.jiter_scan.specs.Kind.{expected_ident}
+use Rattle.jiter_scan.specs.NumberReading.{number_at}
 use Rattle.jiter_scan.specs.NumberReading.{with_value}
-use Rattle.jiter_scan.specs.PartialNumber.{HoldsNumber, IsBegun, Leads, begins_decimal, number_by, number_from}
-use Rattle.jiter_scan.specs.PartialWord.{word_by, word_from}
-use Rattle.jiter_scan.specs.PartialMode.{is_active}
-use Rattle.jiter_scan.specs.Scanned.{taken, failed}
-use Rattle.jiter_scan.specs.Stands.{Stands}
-use Rattle.jiter_scan.specs.Word.{Extent, word_at}
-use Rattle.jiter_scan.specs.declared.partial_number.PartialNumber.{PartialNumber}
 use Rattle.jiter_scan.specs.declared.partial_number.Went.{Went}
 use Rattle.jiter_scan.specs.declared.partial_number.Went.TheVariants as went
-use Rattle.jiter_scan.specs.declared.partial_word.PartialWord.{PartialWord}
 use Rattle.jiter_scan.specs.declared.partial_word.Seen.TheVariants as seen
-use Rattle.jiter_steps.proofs.Calls.Resumed.{resume-fault}
-use Rattle.jiter_steps.proofs.Reading.Values.{inside_at-starts}
-use Rattle.jiter_steps.specs.Answer.{nothing_forgiven, seen_as}
-use Rattle.jiter_steps.specs.Frames.{resume, value_in}
-use Rattle.jiter_steps.specs.Literal.{literal_at, literal_tree, start_of, word_of}
-use Rattle.jiter_steps.specs.Node.{nesting_limit, number_tree}
-use Rattle.jiter_steps.specs.PartialString.{HasTaken}
-use Rattle.jiter_steps.specs.Read.{Rules, done, fault, prefix_answer, inside_at, scalar_at, value_with}
-use Rattle.jiter_steps.specs.Tree.{Text, Tree}
-use Rattle.jiter_steps.specs.declared.parse.Literal.{Literal}
+use Rattle.jiter_steps.specs.Read.{inside_at, value_with}
 use Rattle.jiter_steps.specs.declared.parse.Literal.TheVariants as literal
-use Rattle.jiter_steps.specs.declared.parse.Start.{Start}
 use Rattle.jiter_steps.specs.declared.parse.Start.TheVariants as start
 use Rattle.jiter_incremental.proofs.Chunks.{range-long}
 use Rattle.jiter_incremental.proofs.Documents.{Keeps, byte-first, follows-byte, known-as, known-in, reads-so}
-use Rattle.jiter_incremental.specs.Arrived.{IsLeft, at_value, owned}
-use Rattle.jiter_incremental.specs.Document.{BeginsAs, BeginsHere, Comes, Document, EndsBefore, Follows, HasCome, HasTakenIn, Holding, HoldsMinus, HoldsScalar, HoldsString, HoldsWord, IsAllowed, IsNumberWithin, IsReadAs, IsReading, IsRefused, Known, NameBegins, Next, Opened, TakenFrom, WordBegins, anything, between_tokens, in_key, in_scalar, own_number, by_mode, strict, with_byte}
-use Rattle.jiter_incremental.specs.Names.{name_bytes, name_extent, name_start, name_tree, name_word}
-use Rattle.jiter_incremental.specs.Slot.{OpenFrame}
-use Rattle.jiter_value.specs.Owned.{owned_text, tree_as}
-use Rattle.jiter_value.specs.Settings.{rules_as}
-use Rattle.jiter_incremental.specs.declared.names.Name.{Name}
+use Rattle.jiter_incremental.specs.Document.{EndsBefore}
+use Rattle.jiter_incremental.specs.Names.{name_bytes, name_extent}
 use Rattle.jiter_incremental.specs.declared.names.Name.TheVariants as name
-use Rattle.jiter_incremental.specs.declared.reader.Token.{Token}
 use Rattle.jiter_incremental.specs.declared.reader.Token.TheVariants as token
 use Rattle.jiter_incremental.specs.declared.reader.Awaits.TheVariants as awaits
-use Rattle.jiter_value.specs.declared.settings.Settings.{Settings}
 
 -- ---- bytes in a text
 

@@ -1,20 +1,11 @@
 -- A string or a key of a document that arrives, which lies whole in a chunk.
-use Rattle.std.proofs.Common.{◌≡◌, ℕ, ◌+◌, ◌<◌, List, ◌∷◌, ◌++◌, length, get_or, refl, ap, ◌∙◌, arith}
-use Rattle.std.proofs.Common.{Bool, false, length-append}
-use Rattle.std.proofs.lemmas.Option.{slice_get-get_or}
-use Rattle.std.specs.Prelude.{slice_get, slice_range, Some}
-use Rattle.jiter_scan.proofs.Standing.{slice-one, slice_range-split}
-use Rattle.jiter_scan.specs.PartialMode.{allows_trailing_strings}
-use Rattle.jiter_scan.specs.Scanned.{taken}
-use Rattle.jiter_scan.specs.Stands.{Stands}
-use Rattle.jiter_steps.specs.PartialString.{IsTextWithin}
-use Rattle.jiter_steps.specs.StringReading.{content_at, text_form}
-use Rattle.jiter_steps.specs.Tree.{Text, string}
+use Rattle.jiter_incremental.proofs.Words.{◌≡◌, ℕ, ◌+◌, ◌<◌, List, ◌∷◌, ◌++◌, length, get_or, refl, ap, ◌∙◌, arith}
+use Rattle.jiter_incremental.proofs.Words.{Bool, false, length-append, slice_get-get_or, slice_get, slice_range, Some}
+use Rattle.jiter_incremental.proofs.Words.{slice-one, slice_range-split, allows_trailing_strings, taken, Stands}
+use Rattle.jiter_incremental.proofs.Words.{IsTextWithin, content_at, text_form, Text, string, text_of, Document}
+use Rattle.jiter_incremental.proofs.Words.{Follows, IsScalarWithin, anything, with_byte, IsKeyAs}
 use Rattle.jiter_incremental.proofs.Documents.Strings.{key-done, scalar-done}
 use Rattle.jiter_incremental.proofs.Documents.Tokens.{held-stands}
-use Rattle.jiter_incremental.specs.Between.{text_of}
-use Rattle.jiter_incremental.specs.Document.{Document, Follows, IsScalarWithin, anything, with_byte}
-use Rattle.jiter_incremental.specs.Strings.{IsKeyAs}
 
 module _ (chunk : List ℕ) (at : ℕ) (text : List ℕ) (e : ℕ) (h : IsTextWithin chunk at text e) where
   abbrev bytes : List ℕ

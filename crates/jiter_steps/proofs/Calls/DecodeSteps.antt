@@ -1,20 +1,13 @@
 -- Steps of the decoder: a run of plain bytes, and the escape after it.
-use Rattle.std.proofs.Common.{◌≡◌, ℕ, ◌+◌, ◌<◌, ◌≤◌, true, false, List, ◌++◌, length, sym, arith, append_assoc}
-use Rattle.std.proofs.Common.{◌≢◌, ◌-◌, Bool, subst, append-nil, ◌&&◌, ◌∙◌, refl, ap, [], ◌∷◌, take}
-use Rattle.std.specs.Prelude.{slice_get, slice_range, Some, IsTrue, nat_lt}
-use Rattle.std.specs.List.{AllPass}
-use Rattle.std.specs.Str.{IsUtf8}
-use Rattle.std.proofs.lemmas.Str.{IsUtf8-append, IsUtf8-encode}
-use Rattle.std.proofs.lemmas.Bool.Decides.{nat_tests}
-use Rattle.jiter_scan.specs.Scan.{scan_stop, is_ascii, is_plain, IsAsciiTo}
-use Rattle.jiter_scan.proofs.Runs.{run_end-ahead, run_end-within}
-use Rattle.jiter_steps.specs.StringReading.{part, over, event_at, Stop, body_at, number, hex_digits_at}
-use Rattle.std.proofs.lemmas.Bool.{ne_eqb, lt-ltb, false≢true}
-use Rattle.jiter_scan.proofs.Choices.{if-true}
+use Rattle.jiter_steps.proofs.Words.{◌≡◌, ℕ, ◌+◌, ◌<◌, ◌≤◌, true, false, List, ◌++◌, length, sym, arith, append_assoc}
+use Rattle.jiter_steps.proofs.Words.{◌≢◌, ◌-◌, Bool, subst, append-nil, ◌&&◌, ◌∙◌, refl, ap, [], ◌∷◌, take, slice_get}
+use Rattle.jiter_steps.proofs.Words.{slice_range, Some, IsTrue, nat_lt, AllPass, IsUtf8, IsUtf8-append, IsUtf8-encode}
+use Rattle.jiter_steps.proofs.Words.{nat_tests, scan_stop, is_ascii, is_plain, run_end-ahead, run_end-within, part}
+use Rattle.jiter_steps.proofs.Words.{over, event_at, Stop, body_at, number, hex_digits_at, ne_eqb, lt-ltb, false≢true}
+use Rattle.jiter_steps.proofs.Words.{if-true, encode_utf8, IsScalar, short_escape, is_high, is_low}
+use Rattle.jiter_scan.specs.Scan.{IsAsciiTo}
 use Rattle.jiter_steps.proofs.Grammar.Places.{event_at-explains, Explains}
 use Rattle.jiter_steps.proofs.Reading.Bodies.{body_at-event_by, part-ahead}
-use Rattle.std.specs.Char.{encode_utf8, IsScalar}
-use Rattle.jiter_steps.specs.Escape.{short_escape, is_high, is_low}
 use Rattle.jiter_steps.proofs.Calls.PlainRuns.{plain_run_prefix}
 use Rattle.jiter_steps.proofs.Calls.FastAnswers.{plain-utf8}
 

@@ -1,11 +1,6 @@
 -- A string with a backslash, by what was decoded of it.
-use Rattle.std.proofs.Common.{◌≡◌, ℕ, ◌+◌, ◌<◌, ◌≤◌, Bool, true, false, List, length, take, arith}
-use Rattle.std.proofs.Common.{subst}
-use Rattle.std.proofs.lemmas.List.{length-take, take-take}
-use Rattle.jiter_scan.specs.Scanned.{taken}
-use Rattle.jiter_scan.proofs.Scanning.{ScalarWithin}
-use Rattle.jiter_steps.specs.Tree.{Text}
-use Rattle.jiter_steps.specs.StringReading.{text_form, whole, string_at}
+use Rattle.jiter_steps.proofs.Words.{◌≡◌, ℕ, ◌+◌, ◌<◌, ◌≤◌, Bool, true, false, List, length, take, arith, subst}
+use Rattle.jiter_steps.proofs.Words.{length-take, take-take, taken, ScalarWithin, Text, text_form, whole, string_at}
 use Rattle.jiter_steps.proofs.Grammar.StringLaws.{string_at-within}
 use Rattle.jiter_steps.proofs.Reading.StringForms.{content-kept}
 

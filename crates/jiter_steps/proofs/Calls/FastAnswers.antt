@@ -1,16 +1,9 @@
 -- What the plain way answers of literals and of strings that need no decoding.
-use Rattle.std.proofs.Common.{◌≡◌, ℕ, ◌+◌, ◌<◌, true, false, List, [], length, ◌∙◌, arith, ◌∷◌, refl, Bool}
-use Rattle.std.specs.Prelude.{slice_get, slice_range, Some}
-use Rattle.std.specs.List.{AllPass}
-use Rattle.std.proofs.lemmas.Bool.Decides.{nat_tests}
-use Rattle.jiter_scan.specs.Scan.{scan_stop, is_ascii}
-use Rattle.std.specs.Str.{IsAscii, IsUtf8}
+use Rattle.jiter_steps.proofs.Words.{◌≡◌, ℕ, ◌+◌, ◌<◌, true, false, List, [], length, ◌∙◌, arith, ◌∷◌, refl, Bool}
+use Rattle.jiter_steps.proofs.Words.{slice_get, slice_range, Some, AllPass, nat_tests, scan_stop, is_ascii, IsAscii}
+use Rattle.jiter_steps.proofs.Words.{IsUtf8, eq-eqb, taken, word_at, text_form, string_at, between}
 use Rattle.std.proofs.lemmas.Str.{IsUtf8-from_ascii}
 use Rattle.std.proofs.lemmas.Str.Ascii.{IsAscii-from_all}
-use Rattle.std.proofs.lemmas.Bool.{eq-eqb}
-use Rattle.jiter_scan.specs.Scanned.{taken}
-use Rattle.jiter_scan.specs.Word.{word_at}
-use Rattle.jiter_steps.specs.StringReading.{text_form, string_at, between}
 use Rattle.jiter_steps.proofs.Calls.StringAnswers.{string-quote, string-checked}
 
 -- Words whose bytes are known to stand.

@@ -1,26 +1,16 @@
 -- The plain way of skipping, as what its open containers complete the reading to.
-use Rattle.std.proofs.Common.{◌≡◌, ◌≢◌, ℕ, ◌+◌, ◌-◌, ◌<◌, ◌≤◌, Bool, true, false, List, ◌∷◌, length, refl, sym}
-use Rattle.std.proofs.Common.{ap, subst, ◌∙◌, arith}
-use Rattle.std.specs.Prelude.{slice_get, slice_index, slice_index_or, slice_set, IfSome, Option, Some, None}
-use Rattle.std.specs.Prelude.{Ok}
-use Rattle.jiter_scan.specs.NumberReading.{number_extent, extent_then}
-use Rattle.jiter_scan.specs.Scan.{is_plain, scan_stop}
-use Rattle.jiter_scan.specs.Scanned.{taken}
-use Rattle.jiter_steps.specs.Answer.{only_ends, seen_as}
-use Rattle.jiter_steps.specs.Blank.{is_blank, past_blanks}
-use Rattle.jiter_steps.specs.Frames.{Frame, resume, value_from}
-use Rattle.jiter_steps.specs.Literal.{start_of, literal_at}
-use Rattle.jiter_steps.specs.Read.{Reading, done, follow, inside_at, scalar_at, value_with}
-use Rattle.jiter_steps.specs.Skip.{value_inside, first_inside, next_inside, frame_of, open_frames, Continues}
-use Rattle.jiter_steps.specs.Skip.{inside, IsPlainEnd, LeadsAfter}
-use Rattle.jiter_steps.specs.Step.{opening, more, closed, step, begins_part, closer_of, container_first, container_step}
-use Rattle.jiter_steps.specs.Step.{container_comma, colon, value_first, object_colon}
-use Rattle.jiter_steps.specs.StringReading.{raw, string_at}
-use Rattle.jiter_steps.specs.declared.parse.Literal.{Literal}
-use Rattle.jiter_steps.specs.declared.parse.ContainerKind.{ContainerKind}
+use Rattle.jiter_steps.proofs.Words.{◌≡◌, ◌≢◌, ℕ, ◌+◌, ◌-◌, ◌<◌, ◌≤◌, Bool, true, false, List, ◌∷◌, length, refl, sym}
+use Rattle.jiter_steps.proofs.Words.{ap, subst, ◌∙◌, arith, slice_get, slice_index, slice_index_or, slice_set, IfSome}
+use Rattle.jiter_steps.proofs.Words.{Option, Some, None, Ok, number_extent, extent_then, is_plain, scan_stop, taken}
+use Rattle.jiter_steps.proofs.Words.{only_ends, seen_as, is_blank, past_blanks, Frame, resume, value_from, start_of}
+use Rattle.jiter_steps.proofs.Words.{literal_at, Reading, done, follow, inside_at, scalar_at, value_with, value_inside}
+use Rattle.jiter_steps.proofs.Words.{first_inside, next_inside, frame_of, open_frames, Continues, inside, opening, more}
+use Rattle.jiter_steps.proofs.Words.{closed, step, begins_part, closer_of, container_first, container_step}
+use Rattle.jiter_steps.proofs.Words.{container_comma, colon, value_first, object_colon, raw, string_at, Literal}
+use Rattle.jiter_steps.proofs.Words.{ContainerKind, run_end-stopping, run_end-stops}
+use Rattle.jiter_steps.specs.Skip.{IsPlainEnd, LeadsAfter}
 use Rattle.jiter_steps.specs.declared.parse.ContainerKind.TheVariants as shape
 use Rattle.jiter_steps.specs.declared.parse.Start.TheVariants as start
-use Rattle.jiter_scan.proofs.Runs.{run_end-stopping, run_end-stops}
 use Rattle.jiter_steps.proofs.Calls.RawStrings.{raw-closed, raw-over_run}
 use Rattle.jiter_steps.proofs.Calls.Resumed.{value_in-levels}
 use Rattle.jiter_steps.proofs.Calls.Skipping.{led_on, next_inside-is, first_inside-is, open_frames-opens}

@@ -1,9 +1,7 @@
 -- The table of the letters of escapes.
-use Rattle.std.proofs.Common.{◌≡◌, ◌≢◌, ℕ, ◌<◌, Bool, true, ap, arith, get_or, refl, ◌&&◌}
-use Rattle.std.specs.Prelude.{Option, Some, None, nat_lt, ◌==◌}
-use Rattle.std.proofs.lemmas.Bool.{agree_below_at, eqb-true}
-use Rattle.std.proofs.lemmas.Bool.Decides.{nat_tests}
-use Rattle.jiter_steps.specs.Escape.{short_escape}
+use Rattle.jiter_steps.proofs.Words.{◌≡◌, ◌≢◌, ℕ, ◌<◌, Bool, true, ap, arith, get_or, refl, ◌&&◌, Option, Some, None}
+use Rattle.jiter_steps.proofs.Words.{nat_lt, ◌==◌, eqb-true, nat_tests, short_escape}
+use Rattle.std.proofs.lemmas.Bool.{agree_below_at}
 use Rattle.jiter_steps.specs.declared.escape.TheConstants.{SIMPLE_ESCAPES}
 
 abbrev is_sign : Option ℕ → ℕ → Bool

@@ -1,22 +1,13 @@
 -- What a look at a string says of its reading.
-use Rattle.std.proofs.Common.{◌≡◌, ◌≢◌, ℕ, ◌+◌, ◌<◌, ◌≤◌, Bool, true, false, List, length, refl, sym, ap, ◌∙◌}
-use Rattle.std.proofs.Common.{arith, subst}
-use Rattle.std.specs.Prelude.{◌==◌, slice_get, slice_range, Option, Some, None}
-use Rattle.std.specs.Str.{IsUtf8}
-use Rattle.std.specs.Str.Lossy.{utf8_valid_len}
-use Rattle.std.proofs.lemmas.Option.{same_Some, slice_get_past}
-use Rattle.jiter_scan.specs.Kind.{control_character, eof_string, fault_kind}
-use Rattle.jiter_scan.specs.Scan.{IsFaultOf, IsLook, scan_stop}
-use Rattle.jiter_scan.specs.Scanned.{taken, failed}
-use Rattle.jiter_scan.specs.declared.errors.FaultKind.{FaultKind}
+use Rattle.jiter_steps.proofs.Words.{◌≡◌, ◌≢◌, ℕ, ◌+◌, ◌<◌, ◌≤◌, Bool, true, false, List, length, refl, sym, ap, ◌∙◌}
+use Rattle.jiter_steps.proofs.Words.{arith, subst, ◌==◌, slice_get, slice_range, Option, Some, None, IsUtf8}
+use Rattle.jiter_steps.proofs.Words.{utf8_valid_len, same_Some, slice_get_past, control_character, eof_string}
+use Rattle.jiter_steps.proofs.Words.{fault_kind, IsLook, scan_stop, taken, failed, FaultKind, Look, failed-taken}
+use Rattle.jiter_steps.proofs.Words.{if_gives, same_taken, get-none, between, checked, content_at, Form, kept, raw}
+use Rattle.jiter_steps.proofs.Words.{raw_form, raw_kept, string_at, text_form, text_in_form, unclosed, whole, Text}
+use Rattle.jiter_scan.specs.Scan.{IsFaultOf}
 use Rattle.jiter_scan.specs.declared.errors.FaultKind.TheVariants as fault
-use Rattle.jiter_scan.specs.declared.short_scan.Look.{Look}
 use Rattle.jiter_scan.specs.declared.short_scan.Look.TheVariants as look
-use Rattle.jiter_scan.proofs.Choices.{failed-taken, if_gives, same_taken}
-use Rattle.jiter_scan.proofs.Standing.{get-none}
-use Rattle.jiter_steps.specs.StringReading.{between, checked, content_at, Form, kept, raw, raw_form, raw_kept, string_at}
-use Rattle.jiter_steps.specs.StringReading.{text_form, text_in_form, unclosed, whole}
-use Rattle.jiter_steps.specs.Tree.{Text}
 use Rattle.jiter_steps.proofs.Calls.FastAnswers.{plain-quoted, plain-utf8}
 use Rattle.jiter_steps.proofs.Calls.PlainRuns.{plain_run-within}
 use Rattle.jiter_steps.proofs.Calls.RawStrings.{raw-closed, raw-over_run, raw-unclosed}

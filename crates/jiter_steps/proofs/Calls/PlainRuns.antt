@@ -1,13 +1,10 @@
 -- The plain bytes of a string stand for themselves, up to the first stop.
-use Rattle.std.proofs.Common.{◌≡◌, ℕ, zero, suc, ◌+◌, ◌<◌, ◌≤◌, true, false, List, [], length, drop, sym, ap, ◌∙◌}
-use Rattle.std.proofs.Common.{arith, ◌∷◌, refl}
-use Rattle.std.specs.Prelude.{slice_get, slice_range, slice_index, Option, Some, None, IfSome}
+use Rattle.jiter_steps.proofs.Words.{◌≡◌, ℕ, zero, suc, ◌+◌, ◌<◌, ◌≤◌, true, false, List, [], length, drop, sym, ap}
+use Rattle.jiter_steps.proofs.Words.{◌∙◌, arith, ◌∷◌, refl, slice_get, slice_range, slice_index, Option, Some, None}
+use Rattle.jiter_steps.proofs.Words.{IfSome, nat_tests, is_stop, is_plain, scan_stop, run_end-ahead, run_end-within}
+use Rattle.jiter_steps.proofs.Words.{run_end-passes, run_end-stops, part, before, body_at}
 use Rattle.std.specs.List.{prefix_len}
-use Rattle.std.proofs.lemmas.Bool.Decides.{nat_tests}
 use Rattle.std.proofs.lemmas.List.Edits.{between_none, between_more}
-use Rattle.jiter_scan.specs.Scan.{is_stop, is_plain, scan_stop}
-use Rattle.jiter_scan.proofs.Runs.{run_end-ahead, run_end-within, run_end-passes, run_end-stops}
-use Rattle.jiter_steps.specs.StringReading.{part, before, body_at}
 use Rattle.jiter_steps.proofs.Grammar.StringComplete.{IsPrinted, event_by-byte}
 use Rattle.jiter_steps.proofs.Grammar.Places.{got}
 use Rattle.jiter_steps.proofs.Reading.Bodies.{before-before, body_at-event_by}

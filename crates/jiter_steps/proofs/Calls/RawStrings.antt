@@ -1,15 +1,10 @@
 -- What the readers of raw strings answer, from where a content is over.
-use Rattle.std.proofs.Common.{◌≡◌, ◌≢◌, ℕ, ◌+◌, ◌-◌, ◌<◌, ◌≤◌, Bool, true, false, List, length, refl, sym, ap, ◌∙◌}
-use Rattle.std.proofs.Common.{subst, arith}
-use Rattle.std.specs.Prelude.{slice_get, Option, Some, None, IfSome, IsTrue}
-use Rattle.std.proofs.lemmas.Bool.Decides.{nat_tests}
-use Rattle.std.proofs.lemmas.Option.{none-some}
-use Rattle.jiter_scan.specs.Scan.{is_stop, scan_stop}
-use Rattle.jiter_scan.specs.Kind.{eof_string}
-use Rattle.jiter_scan.specs.Scanned.{taken, failed}
-use Rattle.jiter_steps.specs.StringReading.{Event, part, over, Stop, closed, unclosed, cut, event_by, event_at}
-use Rattle.jiter_steps.specs.StringReading.{Body}
-use Rattle.jiter_steps.specs.StringReading.{body_at, Form, raw, raw_kept, raw_form, between, text_in_form, content_at}
+use Rattle.jiter_steps.proofs.Words.{◌≡◌, ◌≢◌, ℕ, ◌+◌, ◌-◌, ◌<◌, ◌≤◌, Bool, true, false, List, length, refl, sym, ap}
+use Rattle.jiter_steps.proofs.Words.{◌∙◌, subst, arith, slice_get, Option, Some, None, IfSome, IsTrue, nat_tests}
+use Rattle.jiter_steps.proofs.Words.{none-some, is_stop, scan_stop, eof_string, taken, failed, Event, part, over, Stop}
+use Rattle.jiter_steps.proofs.Words.{unclosed, cut, event_by, event_at, Body, body_at, Form, raw, raw_kept, raw_form}
+use Rattle.jiter_steps.proofs.Words.{between, text_in_form, content_at}
+use Rattle.jiter_steps.specs.StringReading.{closed}
 use Rattle.jiter_steps.specs.RawString.{EndsAt}
 use Rattle.jiter_steps.proofs.Reading.Bodies.{body_at-event_by, part-ahead}
 use Rattle.jiter_steps.proofs.Grammar.Places.{Explains, event_at-explains, got}

@@ -1,20 +1,16 @@
 -- The turns of the machine, as what the open containers complete a reading to.
-use Rattle.std.proofs.Common.{◌≡◌, ℕ, suc, ◌+◌, ◌-◌, ◌<◌, ◌≤◌, true, false, List, [], ◌∷◌, length, refl, ap, ◌∙◌, arith}
-use Rattle.std.specs.Prelude.{slice_index, None}
-use Rattle.jiter_scan.specs.Kind.{Kind, recursion_limit}
-use Rattle.jiter_scan.specs.Scanned.{taken, failed}
-use Rattle.jiter_scan.proofs.Choices.{if_case}
-use Rattle.jiter_steps.specs.Literal.{start_of}
-use Rattle.jiter_steps.specs.Step.{Step, more, closed, stuck, step, opening, container_first, object_colon}
-use Rattle.jiter_steps.specs.Read.{Reading, done, fault, Rules, Container, if_forgiven, follow, after_part}
-use Rattle.jiter_steps.specs.Read.{container_at, value_with, inside_at, value_at}
-use Rattle.jiter_steps.specs.declared.parse.ContainerKind.{ContainerKind}
+use Rattle.jiter_steps.proofs.Words.{◌≡◌, ℕ, suc, ◌+◌, ◌-◌, ◌<◌, ◌≤◌, true, false, List, [], ◌∷◌, length, refl, ap, ◌∙◌}
+use Rattle.jiter_steps.proofs.Words.{arith, slice_index, None, Kind, recursion_limit, taken, failed, if_case, start_of}
+use Rattle.jiter_steps.proofs.Words.{Step, more, closed, stuck, step, opening, container_first, object_colon, Reading}
+use Rattle.jiter_steps.proofs.Words.{done, fault, Rules, Container, if_forgiven, follow, after_part, container_at}
+use Rattle.jiter_steps.proofs.Words.{value_with, inside_at, value_at, ContainerKind, Frame, resolve_step, parts_from}
+use Rattle.jiter_steps.proofs.Words.{parts_step, value_in, resume, value_from}
 use Rattle.jiter_steps.specs.declared.parse.ContainerKind.TheVariants as shape
 use Rattle.jiter_steps.proofs.Reading.Values.{Advances, Goes, inside_at-within, inside_at-suc, inside_at-starts}
 use Rattle.jiter_steps.proofs.Reading.Values.{inside_at-none, array_of-goes, object_of-goes, parts_at_is, parts-fault}
 use Rattle.jiter_steps.proofs.Reading.Values.{member-key, member-colon, member-value}
-use Rattle.jiter_steps.specs.Frames.{Frame, items_frame, members_frame, resolve_step, parts_from, parts_step}
-use Rattle.jiter_steps.specs.Frames.{value_in, array_in, object_in, after_value, resume, value_from, key_from}
+use Rattle.jiter_steps.specs.Frames.{items_frame, members_frame}
+use Rattle.jiter_steps.specs.Frames.{array_in, object_in, after_value, key_from}
 
 -- Where a container begins is not built into its value.
 pub record IgnoresBegin {K A : Type 0} (r : Rules K A) : Type 0 where

@@ -1,17 +1,8 @@
 -- The skip law: a skip ends where reading the value ends, and meets its fault, but for that of UTF-8.
-use Rattle.std.proofs.Common.{◌≡◌, ◌≢◌, ℕ, Bool, List, refl, sym, ap, ◌∙◌}
-use Rattle.std.proofs.lemmas.Bool.{false≢true}
-use Rattle.jiter_scan.specs.Kind.{Kind, invalid_code_point}
-use Rattle.jiter_scan.specs.Number.{Number}
-use Rattle.jiter_scan.specs.Scanned.{Scanned, taken, failed}
-use Rattle.jiter_scan.specs.Word.{Extent}
-use Rattle.jiter_scan.specs.NumberReading.{number_at}
-use Rattle.jiter_steps.specs.Answer.{seen_as, only_ends, whole_trees, read_at, skip_at}
-use Rattle.jiter_steps.specs.Literal.{literal_at}
-use Rattle.jiter_steps.specs.Node.{nesting_limit}
-use Rattle.jiter_steps.specs.Read.{Reading, done, fault}
-use Rattle.jiter_steps.specs.StringReading.{whole, raw, string_at}
-use Rattle.jiter_steps.specs.Tree.{Text, Tree}
+use Rattle.jiter_steps.proofs.Words.{◌≡◌, ◌≢◌, ℕ, Bool, List, refl, sym, ap, ◌∙◌, false≢true, Kind, invalid_code_point}
+use Rattle.jiter_steps.proofs.Words.{Number, Scanned, taken, failed, Extent, number_at, seen_as, only_ends, whole_trees}
+use Rattle.jiter_steps.proofs.Words.{read_at, skip_at, literal_at, nesting_limit, Reading, done, fault, whole, raw}
+use Rattle.jiter_steps.proofs.Words.{string_at, Text, Tree}
 use Rattle.jiter_steps.proofs.Reading.Fused.{ScansTo, MapsTo, Leads, value_at-told}
 use Rattle.jiter_steps.proofs.Grammar.StringLaws.{raw-whole, raw-whole-fault}
 

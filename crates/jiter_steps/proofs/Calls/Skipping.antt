@@ -1,31 +1,23 @@
 -- The turns of a skip, as what its open containers complete the reading to.
-use Rattle.std.proofs.Common.{◌≡◌, ◌≢◌, ℕ, zero, suc, ◌+◌, ◌-◌, ◌<◌, ◌≤◌, Bool, true, false, List, [], ◌∷◌, ◌++◌, None}
-use Rattle.std.proofs.Common.{length, refl, sym, ap, ap₂, ◌∙◌, arith}
-use Rattle.std.specs.Prelude.{slice_index, slice_index_or, slice_set, Result, Ok}
+use Rattle.jiter_steps.proofs.Words.{◌≡◌, ◌≢◌, ℕ, zero, suc, ◌+◌, ◌-◌, ◌<◌, ◌≤◌, Bool, true, false, List, [], ◌∷◌, ◌++◌}
+use Rattle.jiter_steps.proofs.Words.{None, length, refl, sym, ap, ap₂, ◌∙◌, arith, slice_index, slice_index_or}
+use Rattle.jiter_steps.proofs.Words.{slice_set, Result, Ok, Kind, recursion_limit, Scanned, taken, failed, Extent}
+use Rattle.jiter_steps.proofs.Words.{Fault, seen_as, only_ends, nothing_forgiven, start_of, Step, more, closed, stuck}
+use Rattle.jiter_steps.proofs.Words.{step, opening, container_first, container_step, object_colon, ContainerKind, raw}
+use Rattle.jiter_steps.proofs.Words.{string_at, Reading, done, fault, Container, with_key, after_colon, after_key}
+use Rattle.jiter_steps.proofs.Words.{follow, after_part, inside_at, parts_at, scalar_at, value_at, value_with, Frame}
+use Rattle.jiter_steps.proofs.Words.{resolve_step, parts_from, parts_step, value_in, resume, value_from, value_inside}
+use Rattle.jiter_steps.proofs.Words.{inside, first_inside, next_inside, frame_of, open_frames, Continues, with_value}
+use Rattle.jiter_steps.proofs.Words.{number_extent, number_at}
 use Rattle.std.proofs.lemmas.List.{get_or-set_same, get_or-set_other}
-use Rattle.jiter_scan.specs.Kind.{Kind, recursion_limit}
-use Rattle.jiter_scan.specs.Scanned.{Scanned, taken, failed}
-use Rattle.jiter_scan.specs.Word.{Extent}
-use Rattle.jiter_scan.specs.declared.errors.Fault.{Fault}
-use Rattle.jiter_steps.specs.Answer.{seen_as, only_ends, nothing_forgiven}
-use Rattle.jiter_steps.specs.Literal.{start_of}
-use Rattle.jiter_steps.specs.Step.{Step, more, closed, stuck, step, opening, container_first, container_step}
-use Rattle.jiter_steps.specs.Step.{object_colon}
-use Rattle.jiter_steps.specs.declared.parse.ContainerKind.{ContainerKind}
-use Rattle.jiter_steps.specs.StringReading.{raw, string_at}
 use Rattle.jiter_steps.specs.declared.parse.ContainerKind.TheVariants as shape
-use Rattle.jiter_steps.specs.Read.{Reading, done, fault, Container, with_key, after_colon, after_key, follow}
-use Rattle.jiter_steps.specs.Read.{after_part, inside_at, parts_at, scalar_at, value_at, value_with}
 use Rattle.jiter_steps.specs.declared.parse.Start.TheVariants as start
-use Rattle.jiter_steps.specs.Frames.{Frame, resolve_step, parts_from, parts_step, value_in, resume, value_from}
-use Rattle.jiter_steps.specs.Skip.{awaits_value, value_inside, inside, first_inside, next_inside, frame_of}
-use Rattle.jiter_steps.specs.Skip.{open_frames, Continues}
+use Rattle.jiter_steps.specs.Skip.{awaits_value}
 use Rattle.jiter_steps.proofs.Reading.Bounds.{Ahead, container_first-ahead, container_step-ahead}
 use Rattle.jiter_steps.proofs.Reading.Instances.{only_ends-advances}
 use Rattle.jiter_steps.proofs.Calls.Resumed.{IgnoresBegin, value_in-levels, value_in-limit, resume-fault, Part}
 use Rattle.jiter_steps.proofs.Calls.Resumed.{container_in, container-begins, container_in-goes}
 use Rattle.jiter_steps.proofs.Reading.Values.{Advances, parts_at_is, part-free}
-use Rattle.jiter_scan.specs.NumberReading.{with_value, number_extent, number_at}
 
 -- The end of a number alone, in the words of the reading that gives ends alone.
 extent-again : (t : List ℕ) (i : ℕ) (x : Extent) → seen_as (λ n e. tt {0}) (with_value t i x) ≡ x

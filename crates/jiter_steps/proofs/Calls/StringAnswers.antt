@@ -1,27 +1,18 @@
 -- What the reader of strings answers, from what it has found.
-use Rattle.std.proofs.Common.{◌≡◌, ◌≢◌, ℕ, ◌+◌, ◌<◌, ◌≤◌, Bool, true, false, List, length, refl, sym, ap, ◌∙◌}
-use Rattle.std.proofs.Common.{subst, arith, append-nil}
-use Rattle.std.specs.Prelude.{slice_get, slice_range, Some, None, Result, Ok, Err, IfOk, MatchResult, IsErrAnd, ◌==◌}
-use Rattle.std.specs.Prelude.{nat_lt}
-use Rattle.std.specs.Str.{IsUtf8}
+use Rattle.jiter_steps.proofs.Words.{◌≡◌, ◌≢◌, ℕ, ◌+◌, ◌<◌, ◌≤◌, Bool, true, false, List, length, refl, sym, ap, ◌∙◌}
+use Rattle.jiter_steps.proofs.Words.{subst, arith, append-nil, slice_get, slice_range, Some, None, Result, Ok, Err}
+use Rattle.jiter_steps.proofs.Words.{IfOk, ◌==◌, nat_lt, IsUtf8, ne_eqb, lt-ltb, eq-eqb, nat_tests, none-some}
+use Rattle.jiter_steps.proofs.Words.{same_Some, utf8_valid_len-IsUtf8, control_character, scan_stop, Fault, failed}
+use Rattle.jiter_steps.proofs.Words.{taken, if-true, if-false, ScalarWithin, Event, part, over, event_by, event_at}
+use Rattle.jiter_steps.proofs.Words.{Stop, unclosed, cut, wrong, is_cut, Body, before, join, body_at, Form, text_form}
+use Rattle.jiter_steps.proofs.Words.{checked, text_in_form, content_at, string_at}
+use Rattle.std.specs.Prelude.{MatchResult, IsErrAnd}
 use Rattle.std.specs.declared.alloc.Global.{Global}
 use Rattle.std.specs.declared.borrow.CowStr.{CowStr}
-use Rattle.std.proofs.lemmas.Bool.{ne_eqb, lt-ltb, eq-eqb}
-use Rattle.std.proofs.lemmas.Bool.Decides.{nat_tests}
-use Rattle.std.proofs.lemmas.Option.{none-some, same_Some}
-use Rattle.std.proofs.lemmas.Str.{utf8_valid_len-IsUtf8}
-use Rattle.jiter_scan.specs.Kind.{control_character}
-use Rattle.jiter_scan.specs.Scan.{scan_stop}
-use Rattle.jiter_scan.specs.declared.errors.Fault.{Fault}
-use Rattle.jiter_scan.specs.Scanned.{failed, Scans, with_end, taken}
-use Rattle.jiter_scan.proofs.Choices.{if-true, if-false}
-use Rattle.jiter_scan.proofs.Scanning.{ScalarWithin}
+use Rattle.jiter_scan.specs.Scanned.{Scans, with_end}
 use Rattle.jiter_steps.specs.ReadError.{UnlessRefused}
 use Rattle.jiter_steps.specs.StringDecoder.{text_view}
-use Rattle.jiter_steps.specs.StringReading.{Event, part, over, event_by, event_at, Stop, closed, unclosed, cut}
-use Rattle.jiter_steps.specs.StringReading.{wrong}
-use Rattle.jiter_steps.specs.StringReading.{is_cut, Body, before, join, body_at, Form, text_form, checked}
-use Rattle.jiter_steps.specs.StringReading.{text_in_form, content_at, string_at}
+use Rattle.jiter_steps.specs.StringReading.{closed}
 use Rattle.jiter_steps.specs.declared.read_error.ReadError.{ReadError}
 use Rattle.jiter_steps.specs.declared.read_error.ReadError.TheVariants as error
 use Rattle.jiter_steps.proofs.Calls.PlainRuns.{plain_run_to, plain_run_stops}

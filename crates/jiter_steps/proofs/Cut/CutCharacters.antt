@@ -1,17 +1,13 @@
 -- A text that ends within a character.
-use Rattle.std.proofs.Common.{◌≡◌, ◌⊎◌, inl, inr, ℕ, zero, suc, ◌<◌, ◌≤◌, Bool, true, ◌&&◌, List, [], ◌∷◌, ◌++◌}
-use Rattle.std.proofs.Common.{length, take, drop, None, refl, sym, ap, ap₂, ◌∙◌, subst, arith, length-append}
-use Rattle.std.proofs.Common.{append-nil, append_assoc}
-use Rattle.std.specs.Int.{is_in_range}
-use Rattle.std.specs.Char.{IsScalar}
-use Rattle.std.specs.Str.{IsUtf8, IsValidUpTo, all_scalars}
-use Rattle.std.specs.Str.Lossy.{utf8_valid_len, utf8_error_len, second_byte_min, second_byte_max}
-use Rattle.std.proofs.Math.Seq.{take-append_seam, drop-append_seam}
-use Rattle.std.proofs.lemmas.Bool.{le-leb}
-use Rattle.std.proofs.lemmas.List.{take-append-drop, length-take, length-drop, take-take, drop-append-le}
-use Rattle.std.proofs.lemmas.Str.{encode_same, IsUtf8-drop, IsCharBoundary-from_take, utf8_valid_len-IsUtf8}
-use Rattle.std.proofs.lemmas.Str.{utf8_valid_len-IsValidUpTo}
-use lib.Utf8.{encode, encodes, scalars}
+use Rattle.jiter_steps.proofs.Words.{◌≡◌, ◌⊎◌, inl, inr, ℕ, zero, suc, ◌<◌, ◌≤◌, Bool, true, ◌&&◌, List, [], ◌∷◌, ◌++◌}
+use Rattle.jiter_steps.proofs.Words.{length, take, drop, None, refl, sym, ap, ap₂, ◌∙◌, subst, arith, length-append}
+use Rattle.jiter_steps.proofs.Words.{append-nil, append_assoc, is_in_range, IsScalar, IsUtf8, IsValidUpTo, all_scalars}
+use Rattle.jiter_steps.proofs.Words.{utf8_valid_len, utf8_error_len, second_byte_min, second_byte_max, take-append_seam}
+use Rattle.jiter_steps.proofs.Words.{drop-append_seam, le-leb, take-append-drop, length-take, length-drop, take-take}
+use Rattle.jiter_steps.proofs.Words.{encode_same, IsUtf8-drop, IsCharBoundary-from_take, utf8_valid_len-IsUtf8}
+use Rattle.jiter_steps.proofs.Words.{utf8_valid_len-IsValidUpTo, encode, encodes}
+use Rattle.std.proofs.lemmas.List.{drop-append-le}
+use lib.Utf8.{scalars}
 use Rattle.jiter_steps.proofs.Grammar.Utf8Shape.{Follows, ContainerKind, of1, of2, of3, of4, shape}
 
 -- w is a prefix of a character's bytes, and not all of them

@@ -2,38 +2,23 @@
 -- the prefix answers exactly what the cut leaves of the document, with the marks of its texts, and never a fault.
 -- The prefix is read along the node (ReadPrefix): what ends by the cut is read whole, and what the cut falls into leaves
 -- what `Leaves` says, a scalar by its own laws and a container by induction over its parts.
-use Rattle.std.proofs.Common.{◌≡◌, ◌⊎◌, inl, inr, ℕ, ◌+◌, ◌<◌, ◌≤◌, Bool, true, false, Option, Some, None, List, []}
-use Rattle.std.proofs.Common.{◌∷◌, ◌++◌, length, take, refl, sym, ap, ap₂, ◌∙◌, subst, arith, if◌then◌else◌}
-use Rattle.std.proofs.Common.{append-nil, append_assoc}
-use Rattle.std.specs.Prelude.{slice_get, slice_range}
-use Rattle.std.specs.List.{cons_option}
-use Rattle.std.specs.Option.{option_map}
-use Rattle.std.proofs.lemmas.Bool.{cases_lt}
-use Rattle.std.proofs.lemmas.List.{take_all}
-use Rattle.jiter_scan.specs.Kind.{Kind, is_forgiven}
-use Rattle.jiter_scan.specs.Number.{Number}
-use Rattle.jiter_scan.specs.NumberReading.{number_at}
-use Rattle.jiter_scan.specs.NumberTests.{is_number_text}
-use Rattle.jiter_scan.specs.PartialMode.{is_active, allows_trailing_strings}
-use Rattle.jiter_scan.specs.Scanned.{Scanned, taken, failed}
-use Rattle.jiter_scan.specs.Stands.{Stands}
-use Rattle.jiter_scan.specs.Word.{Extent}
-use Rattle.jiter_scan.specs.declared.partial_mode.PartialMode.{PartialMode}
-use Rattle.jiter_scan.proofs.Choices.{if_case, if-true, if-false}
-use Rattle.jiter_steps.specs.Answer.{seen_as, value_form, partial_trees, partial_answer, answer_in}
-use Rattle.jiter_steps.specs.Cut.{cut, cut_number, cut_string, IsBegunContainer}
-use Rattle.jiter_steps.specs.Literal.{word_of, literal_at, literal_tree}
+use Rattle.jiter_steps.proofs.Words.{◌≡◌, ◌⊎◌, inl, inr, ℕ, ◌+◌, ◌<◌, ◌≤◌, Bool, true, false, Option, Some, None, List}
+use Rattle.jiter_steps.proofs.Words.{[], ◌∷◌, ◌++◌, length, take, refl, sym, ap, ap₂, ◌∙◌, subst, arith, if◌then◌else◌}
+use Rattle.jiter_steps.proofs.Words.{append-nil, append_assoc, slice_get, slice_range, cons_option, option_map}
+use Rattle.jiter_steps.proofs.Words.{cases_lt, take_all, Kind, is_forgiven, Number, number_at, is_number_text}
+use Rattle.jiter_steps.proofs.Words.{allows_trailing_strings, Scanned, taken, failed, Stands, Extent, PartialMode}
+use Rattle.jiter_steps.proofs.Words.{if_case, if-true, if-false, seen_as, value_form, partial_trees, partial_answer}
+use Rattle.jiter_steps.proofs.Words.{cut_number, cut_string, word_of, literal_at, literal_tree, Key, Node, begin, end}
+use Rattle.jiter_steps.proofs.Words.{SpellsNumber, Spells, nesting_round, nesting_round_members, nesting_limit, text_at}
+use Rattle.jiter_steps.proofs.Words.{number_tree, value_of, IsContainer, IsDocument, Piece, SpellsString, Reading, done}
+use Rattle.jiter_steps.proofs.Words.{fault, Rules, Container, scalar_at, with_key, if_forgiven, follow, parts_at}
+use Rattle.jiter_steps.proofs.Words.{container_at, array_of, object_of, Step, stuck, step, whole, kept, string_at, Text}
+use Rattle.jiter_steps.proofs.Words.{Tree, Literal}
+use Rattle.jiter_scan.specs.PartialMode.{is_active}
+use Rattle.jiter_steps.specs.Answer.{answer_in}
+use Rattle.jiter_steps.specs.Cut.{cut, IsBegunContainer}
 use Rattle.jiter_steps.specs.Node as grammar
-use Rattle.jiter_steps.specs.Node.{Key, Node, begin, end, SpellsNumber, Spells, nesting_round, nesting_round_members}
-use Rattle.jiter_steps.specs.Node.{nesting_limit, text_at, number_tree, value_of, IsContainer, IsDocument}
-use Rattle.jiter_steps.specs.Piece.{Piece, SpellsString}
-use Rattle.jiter_steps.specs.Read.{Reading, done, fault, Rules, Container, scalar_at, with_key, if_forgiven, follow}
-use Rattle.jiter_steps.specs.Read.{parts_at, container_at, array_of, object_of}
-use Rattle.jiter_steps.specs.Step.{Step, stuck, step}
-use Rattle.jiter_steps.specs.StringReading.{whole, kept, string_at}
 use Rattle.jiter_steps.specs.Tree as tree
-use Rattle.jiter_steps.specs.Tree.{Text, Tree}
-use Rattle.jiter_steps.specs.declared.parse.Literal.{Literal}
 use Rattle.jiter_steps.proofs.Reading.WholeTexts.{prefix-begins}
 use Rattle.jiter_steps.proofs.Cut.CutNodes.{values-listed, member_values-listed, item_seen, member_seen, part_left}
 use Rattle.jiter_steps.proofs.Cut.CutNodes.{parts_left, literal-left, number-left, cut_string_if, string-left}

@@ -1,21 +1,14 @@
 -- What a cut leaves of a node that k falls into, and of the parts of a container: the cuts that there are, as a list.
-use Rattle.std.proofs.Common.{◌≡◌, ℕ, ◌<◌, ◌≤◌, Bool, min, Option, Some, None, List, [], ◌∷◌, refl, ap, ap₂, ◌∙◌}
-use Rattle.std.proofs.Common.{arith, nat_le, map, sym, if◌then◌else◌, slice_range}
-use Rattle.std.specs.List.{filter_map, cons_option}
-use Rattle.std.specs.Option.{option_map}
-use Rattle.std.proofs.lemmas.Bool.{le-leb, lt-leb}
-use Rattle.jiter_scan.specs.PartialMode.{allows_trailing_strings}
-use Rattle.jiter_scan.specs.declared.partial_mode.PartialMode.{PartialMode}
-use Rattle.jiter_scan.proofs.Choices.{if_case, if-true, if-false}
-use Rattle.jiter_steps.specs.Cut.{cut, cut_number, cut_string, cut_items, cut_members, with_item, with_member}
-use Rattle.jiter_steps.specs.Literal.{literal_tree}
+use Rattle.jiter_steps.proofs.Words.{◌≡◌, ℕ, ◌<◌, ◌≤◌, Bool, min, Option, Some, None, List, [], ◌∷◌, refl, ap, ap₂, ◌∙◌}
+use Rattle.jiter_steps.proofs.Words.{arith, nat_le, map, sym, if◌then◌else◌, slice_range, cons_option, option_map}
+use Rattle.jiter_steps.proofs.Words.{le-leb, lt-leb, allows_trailing_strings, PartialMode, if_case, if-true, if-false}
+use Rattle.jiter_steps.proofs.Words.{cut_number, cut_string, literal_tree, Key, Node, Nodes, no_nodes, node}
+use Rattle.jiter_steps.proofs.Words.{NodeMembers, no_members, member, begin, end, Spells, text_at, value_of, values_of}
+use Rattle.jiter_steps.proofs.Words.{Piece, Text, Tree, items_of, members_of, Literal}
+use Rattle.std.specs.List.{filter_map}
+use Rattle.jiter_steps.specs.Cut.{cut, cut_items, cut_members, with_item, with_member}
 use Rattle.jiter_steps.specs.Node as grammar
-use Rattle.jiter_steps.specs.Node.{Key, Node, Nodes, no_nodes, node, NodeMembers, no_members, member, begin, end}
-use Rattle.jiter_steps.specs.Node.{Spells, text_at, value_of, values_of}
-use Rattle.jiter_steps.specs.Piece.{Piece}
 use Rattle.jiter_steps.specs.Tree as tree
-use Rattle.jiter_steps.specs.Tree.{Text, Tree, items_of, members_of}
-use Rattle.jiter_steps.specs.declared.parse.Literal.{Literal}
 use Rattle.jiter_steps.proofs.Grammar.Documents.{key_text, values-of, members-of}
 use Rattle.jiter_steps.proofs.Reading.Fused.{pairs}
 use Rattle.jiter_steps.proofs.Grammar.SpelledParts.{nodes_list, members_list, nodes-listed, members-listed, InOrder}

@@ -1,19 +1,11 @@
 -- A container in a prefix of the text: its parts before the cut are read, and then the input ends, between two parts or
 -- in one.
-use Rattle.std.proofs.Common.{◌≡◌, ◌⊎◌, inl, inr, ℕ, ◌+◌, ◌<◌, ◌≤◌, true, List, [], ◌∷◌, ◌++◌, length, map, take, None}
-use Rattle.std.proofs.Common.{refl, sym, ap, ◌∙◌, arith, append-nil, append_assoc}
-use Rattle.std.specs.Prelude.{Option}
-use Rattle.std.proofs.lemmas.Bool.{cases_lt}
-use Rattle.jiter_scan.specs.Kind.{Kind, is_end_kind, eof_object, eof_value}
-use Rattle.jiter_scan.specs.Scanned.{failed}
-use Rattle.jiter_scan.specs.NumberReading.{extent_then}
-use Rattle.jiter_scan.proofs.Choices.{if-false}
-use Rattle.jiter_steps.specs.Blank.{IsBlank}
-use Rattle.jiter_steps.specs.Node.{Node, begin, end, StandsAfter}
-use Rattle.jiter_steps.specs.Read.{Reading, done, Rules, Container, follow, parts_at, container_at}
-use Rattle.jiter_steps.specs.Step.{Step, more, closed, stuck, step, end_kind_of, container_first, container_comma}
-use Rattle.jiter_steps.specs.Step.{container_step, colon, value_first, object_colon}
-use Rattle.jiter_steps.specs.declared.parse.ContainerKind.{ContainerKind}
+use Rattle.jiter_steps.proofs.Words.{◌≡◌, ◌⊎◌, inl, inr, ℕ, ◌+◌, ◌<◌, ◌≤◌, true, List, [], ◌∷◌, ◌++◌, length, map, take}
+use Rattle.jiter_steps.proofs.Words.{None, refl, sym, ap, ◌∙◌, arith, append-nil, append_assoc, Option, cases_lt, Kind}
+use Rattle.jiter_steps.proofs.Words.{is_end_kind, eof_object, eof_value, failed, extent_then, if-false, IsBlank, Node}
+use Rattle.jiter_steps.proofs.Words.{begin, end, StandsAfter, Reading, done, Rules, Container, follow, parts_at}
+use Rattle.jiter_steps.proofs.Words.{container_at, Step, more, closed, stuck, step, end_kind_of, container_first}
+use Rattle.jiter_steps.proofs.Words.{container_comma, container_step, colon, value_first, object_colon, ContainerKind}
 use Rattle.jiter_steps.proofs.Reading.BothShapes.{end_kind-early, closer-no_comma}
 use Rattle.jiter_steps.proofs.Cut.DocumentPrefixes.{prefix-length, prefix-blank, prefix-after, row-cut}
 use Rattle.jiter_steps.proofs.Reading.Parts.{after-ahead, PartThen, MoreParts, Parts}

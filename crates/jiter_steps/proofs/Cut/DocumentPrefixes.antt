@@ -1,17 +1,10 @@
 -- The prefix of a text: its bytes, blanks and steps before the place k.
-use Rattle.std.proofs.Common.{◌≡◌, ◌⊎◌, inl, inr, ℕ, ◌+◌, ◌<◌, ◌≤◌, Bool, cond, List, [], ◌∷◌, length, take, refl}
-use Rattle.std.proofs.Common.{sym, ap, ◌∙◌, subst, arith}
-use Rattle.std.specs.Prelude.{slice_get, slice_index, slice_range, Option, Some, None, IfSome}
-use Rattle.std.proofs.lemmas.Bool.{cases_lt, eq-eqb}
-use Rattle.std.proofs.lemmas.List.{get_or-take, length-take-le}
-use Rattle.std.proofs.lemmas.Option.{slice_get-get_or, slice_get_past}
-use Rattle.jiter_scan.specs.Kind.{eof_value, expected_ident}
-use Rattle.jiter_scan.specs.Scanned.{failed}
-use Rattle.jiter_scan.specs.Stands.{Stands}
-use Rattle.jiter_scan.specs.Word.{byte_then, word_at}
-use Rattle.jiter_steps.specs.Blank.{past_blanks, IsBlankByte, IsBlank}
-use Rattle.jiter_steps.specs.Node.{StandsAfter, SpellsNumber}
-use Rattle.jiter_steps.specs.Step.{step}
+use Rattle.jiter_steps.proofs.Words.{◌≡◌, ◌⊎◌, inl, inr, ℕ, ◌+◌, ◌<◌, ◌≤◌, Bool, cond, List, [], ◌∷◌, length, take}
+use Rattle.jiter_steps.proofs.Words.{refl, sym, ap, ◌∙◌, subst, arith, slice_get, slice_index, slice_range, Option}
+use Rattle.jiter_steps.proofs.Words.{Some, None, IfSome, cases_lt, eq-eqb, get_or-take, slice_get-get_or}
+use Rattle.jiter_steps.proofs.Words.{slice_get_past, eof_value, expected_ident, failed, Stands, byte_then, word_at}
+use Rattle.jiter_steps.proofs.Words.{past_blanks, IsBlankByte, IsBlank, StandsAfter, SpellsNumber, step}
+use Rattle.std.proofs.lemmas.List.{length-take-le}
 use Rattle.jiter_steps.proofs.Grammar.Blanks.{blank-to_end}
 use Rattle.jiter_steps.proofs.Fault.SameSpelling.{stands-too, range-same, number-too, blanks-too, after-too}
 

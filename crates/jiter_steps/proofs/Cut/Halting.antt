@@ -1,20 +1,12 @@
 -- Where a partial reading halts in a container that the text leaves open: no container round it takes a byte there.
-use Rattle.std.proofs.Common.{◌≡◌, ◌≢◌, ℕ, ◌<◌, ◌≤◌, ◌==◌, Bool, true, false, List, length, take, refl, ap, ◌∙◌}
-use Rattle.std.proofs.Common.{subst, sym, arith, IfSome}
-use Rattle.std.specs.Prelude.{slice_get, Option, Some, None}
-use Rattle.std.proofs.lemmas.Bool.{ne_eqb}
-use Rattle.std.proofs.lemmas.Bool.Decides.{nat_tests}
-use Rattle.std.proofs.lemmas.Option.{slice_get_within}
-use Rattle.jiter_scan.specs.Kind.{Kind, is_end_kind, is_forgiven, expected_list_comma_or_end}
+use Rattle.jiter_steps.proofs.Words.{◌≡◌, ◌≢◌, ℕ, ◌<◌, ◌≤◌, ◌==◌, Bool, true, false, List, length, take, refl, ap, ◌∙◌}
+use Rattle.jiter_steps.proofs.Words.{subst, sym, arith, IfSome, slice_get, Option, Some, None, ne_eqb, nat_tests}
+use Rattle.jiter_steps.proofs.Words.{slice_get_within, Kind, is_end_kind, is_forgiven, if-false, get-none, is_blank}
+use Rattle.jiter_steps.proofs.Words.{start_of, Node, begin, Spells, Step, stuck, step, closer_of, end_kind_of}
+use Rattle.jiter_steps.proofs.Words.{comma_kind_of, container_step, ContainerKind}
+use Rattle.jiter_scan.specs.Kind.{expected_list_comma_or_end}
 use Rattle.jiter_scan.specs.Kind.{expected_object_comma_or_end}
-use Rattle.jiter_scan.proofs.Choices.{if-false}
-use Rattle.jiter_scan.proofs.Standing.{get-none}
-use Rattle.jiter_steps.specs.Blank.{is_blank}
-use Rattle.jiter_steps.specs.Literal.{start_of}
 use Rattle.jiter_steps.specs.Node as grammar
-use Rattle.jiter_steps.specs.Node.{Node, begin, Spells}
-use Rattle.jiter_steps.specs.Step.{Step, stuck, step, closer_of, end_kind_of, comma_kind_of, container_step}
-use Rattle.jiter_steps.specs.declared.parse.ContainerKind.{ContainerKind}
 use Rattle.jiter_steps.specs.declared.parse.Start.TheVariants as start
 use Rattle.jiter_steps.proofs.Grammar.Blanks.{past_blanks-end}
 use Rattle.jiter_steps.proofs.Reading.BothShapes.{end_kind-early, comma_kind-forgiven, closer-begins_none}

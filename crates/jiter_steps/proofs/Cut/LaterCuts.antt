@@ -1,28 +1,20 @@
 -- A later cut of a document goes on where an earlier one stopped.
-use Rattle.std.proofs.Common.{◌≡◌, ◌⊎◌, inl, inr, ℕ, zero, suc, ◌+◌, ◌<◌, ◌≤◌, Bool, Option, Some, None, List, []}
-use Rattle.std.proofs.Common.{◌∷◌, ◌++◌, ◌==◌, ◌||◌, true, refl, sym, ap, ap₂, ◌∙◌, subst, arith, nat_le, map, min}
-use Rattle.std.proofs.Common.{slice_range, append-nil}
-use Rattle.std.specs.List.{cons_option, list_any}
-use Rattle.std.specs.Option.{option_map}
-use Rattle.std.specs.Str.{encode_utf8_all}
-use Rattle.std.proofs.lemmas.Bool.{cases_lt, le-leb, leb-true}
+use Rattle.jiter_steps.proofs.Words.{◌≡◌, ◌⊎◌, inl, inr, ℕ, zero, suc, ◌+◌, ◌<◌, ◌≤◌, Bool, Option, Some, None, List}
+use Rattle.jiter_steps.proofs.Words.{[], ◌∷◌, ◌++◌, ◌==◌, ◌||◌, true, refl, sym, ap, ap₂, ◌∙◌, subst, arith, nat_le}
+use Rattle.jiter_steps.proofs.Words.{map, min, slice_range, append-nil, cons_option, list_any, option_map}
+use Rattle.jiter_steps.proofs.Words.{encode_utf8_all, cases_lt, le-leb, is_number_text, allows_trailing_strings}
+use Rattle.jiter_steps.proofs.Words.{PartialMode, if_case, if-true, number_text-decides, slice_range-split}
+use Rattle.jiter_steps.proofs.Words.{literal_tree, Piece, characters, text_of, pieces_to, Text, Tree, items_of}
+use Rattle.jiter_steps.proofs.Words.{members_of, Node, Nodes, no_nodes, node, NodeMembers, no_members, member, begin}
+use Rattle.jiter_steps.proofs.Words.{end, Spells, nesting, has_backslash, text_at, value_of, cut_number, cut_string}
+use Rattle.std.proofs.lemmas.Bool.{leb-true}
 use Rattle.std.proofs.lemmas.List.{map-append}
 use Rattle.std.proofs.lemmas.List.Folds.{list_any-append}
 use Rattle.std.proofs.lemmas.Str.{encodes-append}
-use Rattle.jiter_scan.specs.NumberTests.{is_number_text}
-use Rattle.jiter_scan.specs.PartialMode.{allows_trailing_strings}
-use Rattle.jiter_scan.specs.declared.partial_mode.PartialMode.{PartialMode}
-use Rattle.jiter_scan.proofs.Choices.{if_case, if-true}
-use Rattle.jiter_scan.proofs.NumberTests.{number_text-decides}
-use Rattle.jiter_scan.proofs.Standing.{slice_range-split}
-use Rattle.jiter_steps.specs.Literal.{literal_tree}
-use Rattle.jiter_steps.specs.Piece.{Piece, characters, text_of, pieces_to}
-use Rattle.jiter_steps.specs.Tree.{Text, Tree, Items, Members, items_of, members_of}
+use Rattle.jiter_steps.specs.Tree.{Items, Members}
 use Rattle.jiter_steps.specs.Tree as tree
-use Rattle.jiter_steps.specs.Node.{Node, Nodes, no_nodes, node, NodeMembers, no_members, member, begin, end, Spells}
-use Rattle.jiter_steps.specs.Node.{nesting, has_backslash, text_at, value_of}
 use Rattle.jiter_steps.specs.Node as grammar
-use Rattle.jiter_steps.specs.Cut.{cut, cut_number, cut_string}
+use Rattle.jiter_steps.specs.Cut.{cut}
 use Rattle.jiter_steps.specs.Extends.{Extends, ExtendsItems, ExtendsMembers, CutsNoNumber, CutsNoNumberOf}
 use Rattle.jiter_steps.specs.Extends.{CutsNoNumberOfMembers}
 use Rattle.jiter_steps.proofs.Cut.CutNodes.{values-listed, member_values-listed, begun, item_seen, member_seen}

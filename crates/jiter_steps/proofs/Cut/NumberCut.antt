@@ -1,15 +1,7 @@
 -- A number that a prefix of the text cuts: it is read up to the cut, or the input ends too early.
-use Rattle.std.proofs.Common.{◌≡◌, inl, inr, ℕ, ◌+◌, ◌<◌, ◌≤◌, Bool, true, false, List, length, take, refl, sym, ◌∙◌}
-use Rattle.std.proofs.Common.{arith}
-use Rattle.std.proofs.lemmas.Bool.{cases_lt}
-use Rattle.std.proofs.lemmas.Option.{slice_get_within}
-use Rattle.jiter_scan.specs.Kind.{Kind, is_end_kind}
-use Rattle.jiter_scan.specs.Number.{Number}
-use Rattle.jiter_scan.specs.NumberReading.{number_at}
-use Rattle.jiter_scan.specs.Scanned.{Scanned, taken, failed}
-use Rattle.jiter_scan.proofs.Choices.{failed-taken, same_taken}
-use Rattle.jiter_scan.proofs.NumberLaws.{number_at-within}
-use Rattle.jiter_scan.proofs.Scanning.{ScalarWithin}
+use Rattle.jiter_steps.proofs.Words.{◌≡◌, inl, inr, ℕ, ◌+◌, ◌<◌, ◌≤◌, Bool, true, false, List, length, take, refl, sym}
+use Rattle.jiter_steps.proofs.Words.{◌∙◌, arith, cases_lt, slice_get_within, Kind, is_end_kind, Number, number_at}
+use Rattle.jiter_steps.proofs.Words.{Scanned, taken, failed, failed-taken, same_taken, number_at-within, ScalarWithin}
 use Rattle.jiter_steps.proofs.Cut.DocumentPrefixes.{prefix-length, prefix-same}
 use Rattle.jiter_steps.proofs.Fault.SameNumbers.{Same, number-same}
 use Rattle.jiter_steps.proofs.Fault.SameSpelling.{SameBefore}

@@ -1,16 +1,8 @@
 -- A number that the prefix of a text cuts is read up to the cut exactly where its bytes up to there are a number's text.
-use Rattle.std.proofs.Common.{◌≡◌, ℕ, ◌<◌, ◌≤◌, Bool, true, false, List, length, take, sym, ap, ◌∙◌, subst, arith}
-use Rattle.std.proofs.Common.{refl, IfSome}
-use Rattle.std.specs.Prelude.{slice_range}
-use Rattle.jiter_scan.specs.Kind.{is_end_kind}
-use Rattle.jiter_scan.specs.Number.{Number, IsNumberText, number_value}
-use Rattle.jiter_scan.specs.NumberReading.{number_at}
-use Rattle.jiter_scan.specs.NumberTests.{is_number_text}
-use Rattle.jiter_scan.specs.Scanned.{Scanned, taken, failed}
-use Rattle.jiter_scan.proofs.Choices.{failed-taken}
-use Rattle.jiter_scan.proofs.NumberLaws.{continues_number}
-use Rattle.jiter_scan.proofs.NumberTests.{number_text-decides}
-use Rattle.jiter_steps.specs.Node.{SpellsNumber}
+use Rattle.jiter_steps.proofs.Words.{◌≡◌, ℕ, ◌<◌, ◌≤◌, Bool, true, false, List, length, take, sym, ap, ◌∙◌, subst}
+use Rattle.jiter_steps.proofs.Words.{arith, refl, IfSome, slice_range, is_end_kind, Number, IsNumberText, number_value}
+use Rattle.jiter_steps.proofs.Words.{number_at, is_number_text, Scanned, taken, failed, failed-taken, continues_number}
+use Rattle.jiter_steps.proofs.Words.{number_text-decides, SpellsNumber}
 use Rattle.jiter_steps.proofs.Cut.DocumentPrefixes.{prefix-length, prefix-if, prefix-past, prefix-range, number-prefix}
 use Rattle.jiter_steps.proofs.Cut.NumberCut.{CutAt, number_at-cut}
 use Rattle.jiter_steps.proofs.Grammar.ScalarLaws.{ScalarLaws, scalar-laws, EndsNumber}

@@ -1,29 +1,15 @@
 -- The prefix of a text, read as nodes: what ends before the cut is read as its node, and where a value is cut the input
 -- ends too early.
-use Rattle.std.proofs.Common.{◌≡◌, inl, inr, ℕ, ◌+◌, ◌<◌, ◌≤◌, Bool, true, false, List, [], ◌∷◌, ◌++◌, length, take}
-use Rattle.std.proofs.Common.{None}
-use Rattle.std.proofs.Common.{refl, sym, ap, ◌∙◌, subst, arith}
-use Rattle.std.specs.Prelude.{slice_range, Option}
-use Rattle.std.specs.Str.{chars}
+use Rattle.jiter_steps.proofs.Words.{◌≡◌, inl, inr, ℕ, ◌+◌, ◌<◌, ◌≤◌, Bool, true, false, List, [], ◌∷◌, ◌++◌, length}
+use Rattle.jiter_steps.proofs.Words.{take, None, refl, sym, ap, ◌∙◌, subst, arith, slice_range, Option, chars, Kind}
+use Rattle.jiter_steps.proofs.Words.{is_end_kind, Number, number_value, number_at, Scanned, taken, failed, Stands}
+use Rattle.jiter_steps.proofs.Words.{Extent, if-false, seen_as, word_of, literal_at, Key, Node, begin, end}
+use Rattle.jiter_steps.proofs.Words.{SpellsNumber, Spells, nesting, IsContainer, Piece, SpellsString, Reading, done}
+use Rattle.jiter_steps.proofs.Words.{fault, Rules, Container, scalar_at, with_key, if_forgiven, follow, parts_at}
+use Rattle.jiter_steps.proofs.Words.{array_of, object_of, value_at, Step, stuck, step, array_first, object_first, whole}
+use Rattle.jiter_steps.proofs.Words.{string_at, Text, Literal}
 use Rattle.std.proofs.lemmas.List.{map-id}
-use Rattle.jiter_scan.specs.Kind.{Kind, is_end_kind}
-use Rattle.jiter_scan.specs.Number.{Number, number_value}
-use Rattle.jiter_scan.specs.NumberReading.{number_at}
-use Rattle.jiter_scan.specs.Scanned.{Scanned, taken, failed}
-use Rattle.jiter_scan.specs.Stands.{Stands}
-use Rattle.jiter_scan.specs.Word.{Extent}
-use Rattle.jiter_scan.proofs.Choices.{if-false}
-use Rattle.jiter_steps.specs.Answer.{seen_as}
-use Rattle.jiter_steps.specs.Literal.{word_of, literal_at}
 use Rattle.jiter_steps.specs.Node as grammar
-use Rattle.jiter_steps.specs.Node.{Key, Node, begin, end, SpellsNumber, Spells, nesting, IsContainer}
-use Rattle.jiter_steps.specs.Piece.{Piece, SpellsString}
-use Rattle.jiter_steps.specs.Read.{Reading, done, fault, Rules, Container, scalar_at, with_key, if_forgiven, follow}
-use Rattle.jiter_steps.specs.Read.{parts_at, array_of, object_of, value_at}
-use Rattle.jiter_steps.specs.Step.{Step, stuck, step, array_first, object_first}
-use Rattle.jiter_steps.specs.StringReading.{whole, string_at}
-use Rattle.jiter_steps.specs.Tree.{Text}
-use Rattle.jiter_steps.specs.declared.parse.Literal.{Literal}
 use Rattle.jiter_steps.proofs.Grammar.SpelledParts.{nodes_list, members_list, nodes-listed, members-listed, key-taken}
 use Rattle.jiter_steps.specs.declared.parse.ContainerKind.TheVariants as shape
 use Rattle.jiter_steps.proofs.Cut.CutParts.{EndsInput, Cuts, cuts, CutParts}

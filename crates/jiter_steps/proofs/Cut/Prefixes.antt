@@ -1,9 +1,7 @@
 -- A prefix of an array or an object that lacks its last bracket is refused: the input ends too early.
-use Rattle.std.proofs.Common.{◌⊎◌, inl, inr, ℕ, ◌<◌, ◌≤◌, Bool, List, length, take, refl, sym, subst, arith}
-use Rattle.std.proofs.lemmas.Bool.{cases_lt}
-use Rattle.jiter_steps.specs.Answer.{answer}
-use Rattle.jiter_steps.specs.Node.{Node, begin, end, nesting_limit, value_of, IsContainer, IsDocument}
-use Rattle.jiter_steps.specs.Read.{Reading, done, fault, to_end, whole_answer}
+use Rattle.jiter_steps.proofs.Words.{◌⊎◌, inl, inr, ℕ, ◌<◌, ◌≤◌, Bool, List, length, take, refl, sym, subst, arith}
+use Rattle.jiter_steps.proofs.Words.{cases_lt, answer, Node, begin, end, nesting_limit, value_of, IsContainer}
+use Rattle.jiter_steps.proofs.Words.{IsDocument, Reading, done, fault, to_end, whole_answer}
 use Rattle.jiter_steps.proofs.Reading.WholeTexts.{whole-empty, whole-begins}
 use Rattle.jiter_steps.proofs.Grammar.SpelledParts.{begins-value, ends-end}
 use Rattle.jiter_steps.proofs.Grammar.Documents.{answer-value}

@@ -1,23 +1,15 @@
 -- The prefix of a text is read along the node that the whole text spells, by any rules: what ends before the cut is read
 -- whole, and what the cut falls into is cut.
-use Rattle.std.proofs.Common.{◌≡◌, ◌⊎◌, inl, inr, ℕ, zero, suc, ◌+◌, ◌<◌, ◌≤◌, Bool, true, List, length, map, take}
-use Rattle.std.proofs.Common.{None}
-use Rattle.std.proofs.Common.{refl, sym, ap, ◌∙◌, subst, arith}
-use Rattle.std.specs.Prelude.{slice_get, Some}
-use Rattle.std.proofs.lemmas.Bool.{cases_lt}
-use Rattle.jiter_scan.specs.Kind.{Kind, is_end_kind, eof_object, eof_string, eof_value}
-use Rattle.jiter_scan.specs.Scanned.{taken, failed}
-use Rattle.jiter_scan.specs.Stands.{Stands}
-use Rattle.jiter_steps.specs.Literal.{word_of, start_of}
+use Rattle.jiter_steps.proofs.Words.{◌≡◌, ◌⊎◌, inl, inr, ℕ, zero, suc, ◌+◌, ◌<◌, ◌≤◌, Bool, true, List, length, map}
+use Rattle.jiter_steps.proofs.Words.{take, None, refl, sym, ap, ◌∙◌, subst, arith, slice_get, Some, cases_lt, Kind}
+use Rattle.jiter_steps.proofs.Words.{is_end_kind, eof_object, eof_string, eof_value, taken, failed, Stands, word_of}
+use Rattle.jiter_steps.proofs.Words.{start_of, Key, Node, Nodes, NodeMembers, begin, end, SpellsNumber, SpellsKey}
+use Rattle.jiter_steps.proofs.Words.{Spells, nesting, Piece, SpellsString, Reading, done, fault, Rules, Container}
+use Rattle.jiter_steps.proofs.Words.{scalar_at, with_key, after_key, container_at, array_of, object_of, value_with}
+use Rattle.jiter_steps.proofs.Words.{inside_at, value_at, array_first, object_first, object_colon, ContainerKind}
+use Rattle.jiter_steps.proofs.Words.{Literal}
 use Rattle.jiter_steps.specs.Node as grammar
-use Rattle.jiter_steps.specs.Node.{Key, Node, Nodes, NodeMembers, begin, end, SpellsNumber, SpellsKey, Spells, nesting}
-use Rattle.jiter_steps.specs.Piece.{Piece, SpellsString}
-use Rattle.jiter_steps.specs.Read.{Reading, done, fault, Rules, Container, scalar_at, with_key, after_key}
-use Rattle.jiter_steps.specs.Read.{container_at, array_of, object_of, value_with, inside_at, value_at}
-use Rattle.jiter_steps.specs.Step.{array_first, object_first, object_colon}
-use Rattle.jiter_steps.specs.declared.parse.ContainerKind.{ContainerKind}
 use Rattle.jiter_steps.specs.declared.parse.ContainerKind.TheVariants as shape
-use Rattle.jiter_steps.specs.declared.parse.Literal.{Literal}
 use Rattle.jiter_steps.proofs.Grammar.SpelledParts.{start_is, node-starts, begins-value, nodes_list, members_list}
 use Rattle.jiter_steps.proofs.Grammar.SpelledParts.{IsItem, IsMember, items-parts, members-parts, key-ahead}
 use Rattle.jiter_steps.proofs.Grammar.SpelledParts.{node-ahead}

@@ -1,20 +1,12 @@
 -- A string that is cut, where it is kept: the characters of the pieces that end before the cut.
-use Rattle.std.proofs.Common.{◌≡◌, ◌⊎◌, inl, inr, ℕ, suc, ◌+◌, ◌<◌, ◌≤◌, true, false, List, [], ◌∷◌, ◌++◌, length}
-use Rattle.std.proofs.Common.{take, refl, sym, ap, ◌∙◌, subst, arith, append-nil, append_assoc}
-use Rattle.std.specs.Prelude.{slice_get, Some}
-use Rattle.std.specs.Char.{encode_utf8}
-use Rattle.std.specs.Str.{all_scalars, IsUtf8}
-use Rattle.std.proofs.lemmas.Bool.{le-leb, lt-leb, cases_lt, lt-ltb}
-use Rattle.std.proofs.lemmas.Option.{slice_get_past}
-use Rattle.jiter_scan.specs.Stands.{Stands}
-use Rattle.jiter_steps.specs.Piece.{IsPlain, IsEscape, Piece, SpellsChar, SpellsPieces, SpellsString, characters}
-use Rattle.jiter_steps.specs.Piece.{text_of, pieces_to}
-use Rattle.jiter_scan.specs.Scanned.{taken, failed}
-use Rattle.jiter_steps.specs.StringReading.{Stop, unclosed, cut, over, few, hex_digits_at, after_high, event_at}
-use Rattle.jiter_steps.specs.StringReading.{Body, before, body_at, kept, valid_prefix, content_at, string_at, whole}
-use Rattle.jiter_steps.specs.StringReading.{raw}
+use Rattle.jiter_steps.proofs.Words.{◌≡◌, ◌⊎◌, inl, inr, ℕ, suc, ◌+◌, ◌<◌, ◌≤◌, true, false, List, [], ◌∷◌, ◌++◌}
+use Rattle.jiter_steps.proofs.Words.{length, take, refl, sym, ap, ◌∙◌, subst, arith, append-nil, append_assoc}
+use Rattle.jiter_steps.proofs.Words.{slice_get, Some, encode_utf8, all_scalars, IsUtf8, le-leb, lt-leb, cases_lt}
+use Rattle.jiter_steps.proofs.Words.{lt-ltb, slice_get_past, Stands, IsPlain, IsEscape, Piece, SpellsChar, SpellsPieces}
+use Rattle.jiter_steps.proofs.Words.{SpellsString, characters, text_of, pieces_to, taken, failed, Stop, unclosed, cut}
+use Rattle.jiter_steps.proofs.Words.{over, few, hex_digits_at, after_high, event_at, Body, before, body_at, kept}
+use Rattle.jiter_steps.proofs.Words.{valid_prefix, content_at, string_at, whole, raw, stands-split, eof_string}
 use Rattle.jiter_steps.proofs.Grammar.Utf8Shape.{lead}
-use Rattle.jiter_scan.proofs.Standing.{stands-split}
 use Rattle.jiter_steps.proofs.Cut.DocumentPrefixes.{prefix-length, prefix-get, prefix-stands}
 use Rattle.jiter_steps.proofs.Fault.SameSpelling.{string-too}
 use Rattle.jiter_steps.proofs.Grammar.Places.{UnitAt}
@@ -22,7 +14,6 @@ use Rattle.jiter_steps.proofs.Reading.Bodies.{body_at-event_by, event_by-end}
 use Rattle.jiter_steps.proofs.Grammar.StringMarks.{EndOf}
 use Rattle.jiter_steps.proofs.Grammar.StringComplete.{ArePrinted, plain-printed, bytes-read, char-read}
 use Rattle.jiter_steps.proofs.Grammar.StringComplete.{event_by-backslash, event_by-number, unit-at}
-use Rattle.jiter_scan.specs.Kind.{eof_string}
 use Rattle.jiter_steps.proofs.Cut.CutCharacters.{IsPrefix, tail-unfinished, tail-taken}
 
 module _ (t : List ℕ) (k : ℕ) (within : k ≤ length t) where

@@ -1,11 +1,7 @@
 -- A string whose text is cut, with its mark.
-use Rattle.std.proofs.Common.{◌≡◌, ℕ, ◌+◌, ◌<◌, ◌≤◌, ◌==◌, Bool, List, length, take, ap, ◌∙◌, arith}
-use Rattle.std.specs.List.{list_any}
-use Rattle.jiter_scan.specs.Kind.{eof_string}
-use Rattle.jiter_scan.specs.Scanned.{taken, failed}
-use Rattle.jiter_steps.specs.Piece.{Piece, SpellsString, text_of, pieces_to}
-use Rattle.jiter_steps.specs.Node.{has_backslash, text_at}
-use Rattle.jiter_steps.specs.StringReading.{body_at, whole, kept, raw, string_at}
+use Rattle.jiter_steps.proofs.Words.{◌≡◌, ℕ, ◌+◌, ◌<◌, ◌≤◌, ◌==◌, Bool, List, length, take, ap, ◌∙◌, arith, list_any}
+use Rattle.jiter_steps.proofs.Words.{eof_string, taken, failed, Piece, SpellsString, text_of, pieces_to, has_backslash}
+use Rattle.jiter_steps.proofs.Words.{text_at, body_at, whole, kept, raw, string_at}
 use Rattle.jiter_steps.proofs.Grammar.StringMarks.{mark-is}
 use Rattle.jiter_steps.proofs.Cut.DocumentPrefixes.{prefix-length, prefix-get, prefix-range}
 use Rattle.jiter_steps.proofs.Cut.StringCut.{string-still, kept-cut, whole-cut}

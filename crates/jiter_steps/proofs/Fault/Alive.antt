@@ -1,14 +1,9 @@
 -- Where a fault that can go on is answered, the bytes before its index can be completed to a document.
-use Rattle.std.proofs.Common.{◌≡◌, inl, ℕ, Bool, true, List, [], ◌++◌, length, take, refl, sym, subst, arith, ◌∙◌}
-use Rattle.std.specs.Prelude.{slice_get, Option, Some, None}
-use Rattle.std.proofs.lemmas.Option.{slice_get_within}
-use Rattle.jiter_scan.specs.Kind.{Kind}
-use Rattle.jiter_steps.specs.Answer.{answer}
-use Rattle.jiter_steps.specs.Blank.{past_blanks, IsBlank}
-use Rattle.jiter_steps.specs.FirstFault.{can_go_on, CanBeCompleted}
-use Rattle.jiter_steps.specs.Node.{Node, end, nesting_limit, value_of, IsDocument}
-use Rattle.jiter_steps.specs.Read.{Reading, done, fault, value_at, if_last, to_end, if_begun, prefix_answer}
-use Rattle.jiter_steps.specs.Read.{whole_answer}
+use Rattle.jiter_steps.proofs.Words.{◌≡◌, inl, ℕ, Bool, true, List, [], ◌++◌, length, take, refl, sym, subst, arith}
+use Rattle.jiter_steps.proofs.Words.{◌∙◌, slice_get, Option, Some, None, slice_get_within, Kind, answer, past_blanks}
+use Rattle.jiter_steps.proofs.Words.{IsBlank, can_go_on, Node, end, nesting_limit, value_of, IsDocument, Reading, done}
+use Rattle.jiter_steps.proofs.Words.{fault, value_at, if_last, to_end, if_begun, prefix_answer, whole_answer}
+use Rattle.jiter_steps.specs.FirstFault.{CanBeCompleted}
 use Rattle.jiter_steps.proofs.Fault.Completions.{CanClose, OpenTo, close-map, no-blanks, taken-length, prefix-kept}
 use Rattle.jiter_steps.proofs.Grammar.Documents.{answer-value}
 use Rattle.jiter_steps.proofs.Reading.Fused.{mapped}

@@ -1,13 +1,9 @@
 -- Texts whose end is other bytes: a prefix, a filler and closers.
-use Rattle.std.proofs.Common.{◌≡◌, ℕ, ◌+◌, ◌≤◌, true, List, [], ◌∷◌, ◌++◌, length, take, refl, sym, ap, ◌∙◌, arith}
-use Rattle.std.proofs.Common.{length-append}
-use Rattle.std.specs.Prelude.{slice_get, Some}
+use Rattle.jiter_steps.proofs.Words.{◌≡◌, ℕ, ◌+◌, ◌≤◌, true, List, [], ◌∷◌, ◌++◌, length, take, refl, sym, ap, ◌∙◌}
+use Rattle.jiter_steps.proofs.Words.{arith, length-append, slice_get, Some, slice_get_within, slice_get-get_or}
+use Rattle.jiter_steps.proofs.Words.{get_or_from_slice_get, IsBlank, IsFiller, AreClosers, can_go_on, StandsAfter}
+use Rattle.jiter_steps.proofs.Words.{Reading, done, fault}
 use Rattle.std.proofs.lemmas.List.{get_or_append_left, get_or-append-add}
-use Rattle.std.proofs.lemmas.Option.{slice_get_within, slice_get-get_or, get_or_from_slice_get}
-use Rattle.jiter_steps.specs.Blank.{IsBlank}
-use Rattle.jiter_steps.specs.FirstFault.{IsFiller, AreClosers, can_go_on}
-use Rattle.jiter_steps.specs.Node.{StandsAfter}
-use Rattle.jiter_steps.specs.Read.{Reading, done, fault}
 use Rattle.jiter_steps.proofs.Cut.DocumentPrefixes.{prefix-length, prefix-get}
 use Rattle.jiter_steps.proofs.Fault.SameSpelling.{SameBefore, blanks-too}
 

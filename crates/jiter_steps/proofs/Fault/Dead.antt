@@ -1,16 +1,10 @@
 -- Where a fault of a byte is answered, no document begins with the bytes up to its index.
-use Rattle.std.proofs.Common.{◌≡◌, ◌≢◌, ℕ, ◌+◌, Bool, false, List, ◌++◌, take, refl, sym, ap, ◌∙◌, subst, arith}
-use Rattle.std.specs.Prelude.{Some}
-use Rattle.std.proofs.lemmas.List.{get_or-take, length-take}
-use Rattle.std.proofs.lemmas.Option.{slice_get_within, slice_get-get_or, get_or_from_slice_get, none-some}
-use Rattle.jiter_scan.specs.Kind.{Kind, is_end_kind, invalid_code_point}
-use Rattle.jiter_scan.specs.NumberReading.{number_at}
-use Rattle.jiter_scan.specs.Scanned.{Scanned, taken, failed}
-use Rattle.jiter_steps.specs.Answer.{seen_as, whole_trees, nothing_forgiven, answer}
+use Rattle.jiter_steps.proofs.Words.{◌≡◌, ◌≢◌, ℕ, ◌+◌, Bool, false, List, ◌++◌, take, refl, sym, ap, ◌∙◌, subst, arith}
+use Rattle.jiter_steps.proofs.Words.{Some, get_or-take, length-take, slice_get_within, slice_get-get_or}
+use Rattle.jiter_steps.proofs.Words.{get_or_from_slice_get, none-some, Kind, is_end_kind, invalid_code_point, number_at}
+use Rattle.jiter_steps.proofs.Words.{Scanned, taken, failed, seen_as, whole_trees, nothing_forgiven, answer, literal_at}
+use Rattle.jiter_steps.proofs.Words.{word_of, fault, whole, string_at}
 use Rattle.jiter_steps.specs.FirstFault.{BeginsNoDocument}
-use Rattle.jiter_steps.specs.Literal.{literal_at, word_of}
-use Rattle.jiter_steps.specs.Read.{fault}
-use Rattle.jiter_steps.specs.StringReading.{whole, string_at}
 use Rattle.jiter_steps.proofs.Fault.Completions.{longer-same}
 use Rattle.jiter_steps.proofs.Fault.SameSpelling.{SameBefore}
 use Rattle.jiter_steps.proofs.Fault.SameRuns.{IsOfByte}

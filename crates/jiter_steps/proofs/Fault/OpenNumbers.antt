@@ -1,20 +1,14 @@
 -- A number that is refused can be ended by a zero or as it stands, unless the input ends or digits are too many.
-use Rattle.std.proofs.Common.{◌≡◌, ◌⊎◌, inl, inr, ℕ, ◌+◌, ◌≤◌, Bool, true, false, List, [], ◌∷◌, ◌++◌}
-use Rattle.std.proofs.Common.{length, take, refl, sym, ap, subst, arith, append-nil}
-use Rattle.std.specs.Prelude.{slice_get, Option, Some, None, ◌==◌, codes}
-use Rattle.std.proofs.lemmas.Bool.{false≢true}
-use Rattle.std.proofs.lemmas.Option.{slice_get_within}
-use Rattle.jiter_scan.specs.Kind.{Kind, eof_value, expected_ident, number_out_of_range}
-use Rattle.jiter_scan.specs.Number.{IsDecimal, IsNumberText}
-use Rattle.jiter_scan.specs.NumberReading.{extent_then, number_extent, with_value, number_at}
-use Rattle.jiter_scan.specs.Scanned.{Scanned, taken, failed}
-use Rattle.jiter_scan.specs.Stands.{Stands}
-use Rattle.jiter_scan.specs.Word.{Extent, byte_then, word_at}
+use Rattle.jiter_steps.proofs.Words.{◌≡◌, ◌⊎◌, inl, inr, ℕ, ◌+◌, ◌≤◌, Bool, true, false, List, [], ◌∷◌, ◌++◌, length}
+use Rattle.jiter_steps.proofs.Words.{take, refl, sym, ap, subst, arith, append-nil, slice_get, Option, Some, None, ◌==◌}
+use Rattle.jiter_steps.proofs.Words.{codes, false≢true, slice_get_within, Kind, eof_value, expected_ident, IsNumberText}
+use Rattle.jiter_steps.proofs.Words.{extent_then, number_extent, with_value, number_at, Scanned, taken, failed, Stands}
+use Rattle.jiter_steps.proofs.Words.{Extent, byte_then, word_at, stands-length, stands-within, stands-append}
+use Rattle.jiter_steps.proofs.Words.{slice-stands, slice-one, can_go_on, SpellsNumber}
+use Rattle.jiter_scan.specs.Kind.{number_out_of_range}
+use Rattle.jiter_scan.specs.Number.{IsDecimal}
 use Rattle.jiter_scan.proofs.NumberRows.{decimal-is, zero-magnitude}
 use Rattle.jiter_scan.proofs.NumberSound.{Spelled, Unfinished, can_end, number-spelled}
-use Rattle.jiter_scan.proofs.Standing.{stands-length, stands-within, stands-append, slice-stands, slice-one}
-use Rattle.jiter_steps.specs.FirstFault.{can_go_on}
-use Rattle.jiter_steps.specs.Node.{SpellsNumber}
 use Rattle.jiter_steps.proofs.Reading.Bounds.{either}
 use Rattle.jiter_steps.proofs.Fault.Completions.{CanClose, taken-length, taken-first, prefix-kept}
 use Rattle.jiter_steps.proofs.Fault.SameSpelling.{stands-too}

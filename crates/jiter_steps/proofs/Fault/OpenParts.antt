@@ -1,14 +1,9 @@
 -- A container that is not read to its end can be closed after the parts before the fault.
-use Rattle.std.proofs.Common.{◌≡◌, inl, inr, ℕ, zero, suc, ◌+◌, ◌<◌, ◌≤◌, true, false, List, [], ◌∷◌, ◌++◌, length}
-use Rattle.std.proofs.Common.{take, refl, sym, ap, ◌∙◌, subst, arith, append-nil, append_assoc}
-use Rattle.std.specs.Prelude.{None}
-use Rattle.jiter_scan.specs.Kind.{Kind}
-use Rattle.jiter_scan.proofs.Choices.{if-false}
-use Rattle.jiter_steps.specs.Blank.{IsBlank}
-use Rattle.jiter_steps.specs.FirstFault.{IsFiller, AreClosers, can_go_on}
-use Rattle.jiter_steps.specs.Read.{Reading, done, fault, Rules, Container, if_forgiven, follow, after_part, parts_at}
-use Rattle.jiter_steps.specs.Read.{container_at}
-use Rattle.jiter_steps.specs.Step.{Step, more, closed, stuck, step}
+use Rattle.jiter_steps.proofs.Words.{◌≡◌, inl, inr, ℕ, zero, suc, ◌+◌, ◌<◌, ◌≤◌, true, false, List, [], ◌∷◌, ◌++◌}
+use Rattle.jiter_steps.proofs.Words.{length, take, refl, sym, ap, ◌∙◌, subst, arith, append-nil, append_assoc, None}
+use Rattle.jiter_steps.proofs.Words.{Kind, if-false, IsBlank, IsFiller, AreClosers, can_go_on, Reading, done, fault}
+use Rattle.jiter_steps.proofs.Words.{Rules, Container, if_forgiven, follow, after_part, parts_at, container_at, Step}
+use Rattle.jiter_steps.proofs.Words.{more, closed, stuck, step}
 use Rattle.jiter_steps.proofs.Reading.Bounds.{Within}
 use Rattle.jiter_steps.proofs.Fault.Completions.{CanClose, OpenTo, longer-same, no-blanks, ends-after, taken-length}
 use Rattle.jiter_steps.proofs.Fault.Completions.{prefix-kept}

@@ -1,30 +1,15 @@
 -- A value whose reading meets a fault that can go on can be ended after the bytes before it.
-use Rattle.std.proofs.Common.{◌≡◌, inl, inr, ℕ, zero, suc, ◌+◌, ◌<◌, ◌≤◌, Bool, false, List, [], ◌++◌, length, take}
-use Rattle.std.proofs.Common.{refl, sym, ◌∙◌, subst, arith, codes}
-use Rattle.std.specs.Prelude.{slice_get, slice_index, Option, Some, None, ◌==◌}
-use Rattle.std.specs.Str.{chars}
-use Rattle.std.specs.Str.Lossy.{utf8_valid_len}
-use Rattle.std.proofs.lemmas.Bool.{false≢true}
-use Rattle.std.proofs.lemmas.Option.{slice_get_within}
-use Rattle.jiter_scan.specs.Kind.{Kind}
-use Rattle.jiter_scan.specs.NumberReading.{number_at}
-use Rattle.jiter_scan.specs.Scanned.{Scanned, taken, failed}
-use Rattle.jiter_scan.specs.Word.{Extent}
-use Rattle.jiter_scan.proofs.Scanning.{ScalarWithin}
-use Rattle.jiter_steps.specs.Answer.{seen_as}
-use Rattle.jiter_steps.specs.Blank.{past_blanks}
-use Rattle.jiter_steps.specs.FirstFault.{can_go_on}
-use Rattle.jiter_steps.specs.Literal.{start_of, literal_at, word_of}
+use Rattle.jiter_steps.proofs.Words.{◌≡◌, inl, inr, ℕ, zero, suc, ◌+◌, ◌<◌, ◌≤◌, Bool, false, List, [], ◌++◌, length}
+use Rattle.jiter_steps.proofs.Words.{take, refl, sym, ◌∙◌, subst, arith, codes, slice_get, slice_index, Option, Some}
+use Rattle.jiter_steps.proofs.Words.{None, ◌==◌, chars, utf8_valid_len, false≢true, slice_get_within, Kind, number_at}
+use Rattle.jiter_steps.proofs.Words.{Scanned, taken, failed, Extent, ScalarWithin, seen_as, past_blanks, can_go_on}
+use Rattle.jiter_steps.proofs.Words.{start_of, literal_at, word_of, Key, Node, begin, end, StandsAfter, SpellsNumber}
+use Rattle.jiter_steps.proofs.Words.{SpellsKey, Spells, nesting, SpellsString, Reading, done, fault, scalar_at}
+use Rattle.jiter_steps.proofs.Words.{with_key, after_colon, after_key, value_with, Container, container_at, inside_at}
+use Rattle.jiter_steps.proofs.Words.{value_at, step, colon, value_first, object_colon, Stop, unclosed, cut, wrong}
+use Rattle.jiter_steps.proofs.Words.{whole, body_at, text_in_form, content_at, string_at, Text, Start}
 use Rattle.jiter_steps.specs.Node as grammar
-use Rattle.jiter_steps.specs.Node.{Key, Node, begin, end, StandsAfter, SpellsNumber, SpellsKey, Spells, nesting}
-use Rattle.jiter_steps.specs.Piece.{SpellsString}
-use Rattle.jiter_steps.specs.Read.{Reading, done, fault, scalar_at, with_key, after_colon, after_key, value_with}
-use Rattle.jiter_steps.specs.Read.{Container, container_at, inside_at, value_at}
-use Rattle.jiter_steps.specs.Step.{step, colon, value_first, object_colon}
-use Rattle.jiter_steps.specs.StringReading.{Stop, closed, unclosed, cut, wrong, whole, body_at, text_in_form}
-use Rattle.jiter_steps.specs.StringReading.{content_at, string_at}
-use Rattle.jiter_steps.specs.Tree.{Text}
-use Rattle.jiter_steps.specs.declared.parse.Start.{Start}
+use Rattle.jiter_steps.specs.StringReading.{closed}
 use Rattle.jiter_steps.specs.declared.parse.Start.TheVariants as start
 use Rattle.jiter_steps.proofs.Reading.Bodies.{StopWithin, body_at-within}
 use Rattle.jiter_steps.proofs.Reading.Bounds.{either}

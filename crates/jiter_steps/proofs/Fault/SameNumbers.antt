@@ -1,21 +1,14 @@
 -- Words and numbers in two texts with the same bytes before a place.
-use Rattle.std.proofs.Common.{◌≡◌, ℕ, ◌+◌, ◌<◌, ◌≤◌, Bool, false, List, length, refl, sym, ap, ◌∙◌, arith}
-use Rattle.std.specs.Prelude.{slice_get, Option, Some, None, nat_le}
-use Rattle.std.proofs.lemmas.Bool.{true≢false, leb-false}
-use Rattle.std.proofs.lemmas.Option.{slice_get_within}
-use Rattle.std.proofs.lemmas.Bool.Decides.{nat_tests}
+use Rattle.jiter_steps.proofs.Words.{◌≡◌, ℕ, ◌+◌, ◌<◌, ◌≤◌, Bool, false, List, length, refl, sym, ap, ◌∙◌, arith}
+use Rattle.jiter_steps.proofs.Words.{slice_get, Option, Some, None, nat_le, true≢false, slice_get_within, nat_tests}
+use Rattle.jiter_steps.proofs.Words.{Kind, is_end_kind, number_value, extent_then, number_extent, with_value, number_at}
+use Rattle.jiter_steps.proofs.Words.{Scanned, taken, failed, Extent, word_at, if_case, if-true, if-false}
+use Rattle.jiter_steps.proofs.Words.{number_at-within, run_end-ahead, ScalarWithin, get-none}
+use Rattle.std.proofs.lemmas.Bool.{leb-false}
 use Rattle.jiter_scan.specs.Digits.{is_digit, digit_run_end}
-use Rattle.jiter_scan.specs.Kind.{Kind, is_end_kind}
-use Rattle.jiter_scan.specs.Number.{digit_limit, number_value}
-use Rattle.jiter_scan.specs.NumberReading.{extent_then, within_limit, number_extent, with_value, number_at}
-use Rattle.jiter_scan.specs.Scanned.{Scanned, taken, failed}
-use Rattle.jiter_scan.specs.Word.{Extent, word_at}
-use Rattle.jiter_scan.proofs.Choices.{if_case, if-true, if-false}
-use Rattle.jiter_scan.proofs.NumberLaws.{number_at-within}
+use Rattle.jiter_scan.specs.Number.{digit_limit}
+use Rattle.jiter_scan.specs.NumberReading.{within_limit}
 use Rattle.jiter_scan.proofs.NumberRows.{Part, Over, Rows, word, number}
-use Rattle.jiter_scan.proofs.Runs.{run_end-ahead}
-use Rattle.jiter_scan.proofs.Scanning.{ScalarWithin}
-use Rattle.jiter_scan.proofs.Standing.{get-none}
 use Rattle.jiter_steps.proofs.Fault.SameSpelling.{SameBefore, range-same}
 use Rattle.jiter_steps.proofs.Fault.SameRuns.{IsOfByte, run-long, run-same}
 

@@ -1,25 +1,13 @@
 -- Values in two texts with the same bytes before a place: what one reading shows of these bytes, the other meets too.
-use Rattle.std.proofs.Common.{◌≡◌, ℕ, zero, suc, ◌+◌, ◌<◌, false, List, [], ◌∷◌, ◌++◌, length, refl, sym, ap, ◌∙◌}
-use Rattle.std.proofs.Common.{subst, arith}
-use Rattle.std.specs.Prelude.{slice_get, slice_index, Option, Some, None}
-use Rattle.std.proofs.lemmas.Bool.{true≢false}
-use Rattle.std.proofs.lemmas.Option.{slice_get_within}
-use Rattle.jiter_scan.specs.Kind.{Kind}
-use Rattle.jiter_scan.specs.Scanned.{Scanned, taken, failed}
-use Rattle.jiter_scan.specs.Word.{Extent}
-use Rattle.jiter_scan.proofs.Choices.{if-false}
-use Rattle.jiter_scan.proofs.Scanning.{ScalarWithin}
-use Rattle.jiter_steps.specs.Blank.{past_blanks}
-use Rattle.jiter_steps.specs.Literal.{start_of}
-use Rattle.jiter_steps.specs.Node.{nesting_limit}
-use Rattle.jiter_steps.specs.Step.{Step, more, closed, stuck, step, object_colon}
-use Rattle.jiter_steps.specs.Read.{Reading, done, fault, Rules, Container, scalar_at, with_key, after_colon}
-use Rattle.jiter_steps.specs.Read.{after_key, unless_refused, if_last, to_end, follow, after_part, parts_at}
-use Rattle.jiter_steps.specs.Read.{container_at, array_of}
-use Rattle.jiter_steps.specs.Read.{object_of, value_with, inside_at, value_at, if_begun, prefix_answer, whole_answer}
+use Rattle.jiter_steps.proofs.Words.{◌≡◌, ℕ, zero, suc, ◌+◌, ◌<◌, false, List, [], ◌∷◌, ◌++◌, length, refl, sym, ap}
+use Rattle.jiter_steps.proofs.Words.{◌∙◌, subst, arith, slice_get, slice_index, Option, Some, None, true≢false}
+use Rattle.jiter_steps.proofs.Words.{slice_get_within, Kind, Scanned, taken, failed, Extent, if-false, ScalarWithin}
+use Rattle.jiter_steps.proofs.Words.{past_blanks, start_of, nesting_limit, Step, more, closed, stuck, step}
+use Rattle.jiter_steps.proofs.Words.{object_colon, Reading, done, fault, Rules, Container, scalar_at, with_key}
+use Rattle.jiter_steps.proofs.Words.{after_colon, after_key, unless_refused, if_last, to_end, follow, after_part}
+use Rattle.jiter_steps.proofs.Words.{parts_at, container_at, array_of, object_of, value_with, inside_at, value_at}
+use Rattle.jiter_steps.proofs.Words.{if_begun, prefix_answer, whole_answer, Literal, Start}
 use Rattle.jiter_steps.specs.declared.parse.ContainerKind.TheVariants as shape
-use Rattle.jiter_steps.specs.declared.parse.Literal.{Literal}
-use Rattle.jiter_steps.specs.declared.parse.Start.{Start}
 use Rattle.jiter_steps.specs.declared.parse.Start.TheVariants as start
 use Rattle.jiter_steps.proofs.Fault.SameSpelling.{SameBefore, index-same}
 use Rattle.jiter_steps.proofs.Fault.SameRuns.{IsOfByte, within-too, past_blanks-same}

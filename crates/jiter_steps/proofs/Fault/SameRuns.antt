@@ -1,13 +1,9 @@
 -- Runs and blanks in two texts with the same bytes before a place.
-use Rattle.std.proofs.Common.{◌≡◌, ◌≢◌, ◌⊎◌, inl, inr, ℕ, ◌+◌, ◌-◌, ◌<◌, ◌≤◌, Bool, false, List, length, sym, ap, ◌∙◌}
-use Rattle.std.proofs.Common.{subst, arith}
-use Rattle.std.specs.Prelude.{slice_get, slice_index, Some}
-use Rattle.std.proofs.lemmas.Bool.{cases_lt, true≢false}
-use Rattle.std.proofs.lemmas.Option.{slice_get_within, slice_get-get_or}
-use Rattle.jiter_scan.specs.Kind.{Kind, is_end_kind, invalid_code_point}
+use Rattle.jiter_steps.proofs.Words.{◌≡◌, ◌≢◌, ◌⊎◌, inl, inr, ℕ, ◌+◌, ◌-◌, ◌<◌, ◌≤◌, Bool, false, List, length, sym, ap}
+use Rattle.jiter_steps.proofs.Words.{◌∙◌, subst, arith, slice_get, slice_index, Some, cases_lt, true≢false}
+use Rattle.jiter_steps.proofs.Words.{slice_get_within, slice_get-get_or, Kind, is_end_kind, invalid_code_point}
+use Rattle.jiter_steps.proofs.Words.{run_end-ahead, run_end-within, run_end-passes, run_end-stops, past_blanks, IsBlank}
 use Rattle.jiter_scan.specs.Scan.{run_end}
-use Rattle.jiter_scan.proofs.Runs.{run_end-ahead, run_end-within, run_end-passes, run_end-stops}
-use Rattle.jiter_steps.specs.Blank.{past_blanks, IsBlank}
 use Rattle.jiter_steps.proofs.Grammar.Blanks.{past_blanks-after, blank-passed, passed-blank, no_blank-after}
 use Rattle.jiter_steps.proofs.Fault.SameSpelling.{SameBefore, here-too, index-same, blanks-too}
 

@@ -1,17 +1,12 @@
 -- Two texts with the same bytes before a place: what the grammar spells there in the one it spells in the other.
-use Rattle.std.proofs.Common.{◌≡◌, ℕ, zero, suc, ◌+◌, ◌<◌, ◌≤◌, Bool, List, [], ◌∷◌, length, sym, subst, arith}
-use Rattle.std.specs.Prelude.{slice_get, slice_index, slice_range, Some}
-use Rattle.std.proofs.lemmas.Option.{slice_get_within, slice_get-get_or, get_or_from_slice_get}
-use Rattle.jiter_scan.specs.Number.{IsNumberText}
-use Rattle.jiter_scan.specs.Stands.{Stands}
-use Rattle.jiter_scan.proofs.Standing.{stands-length, stands-slice, slice-stands}
-use Rattle.jiter_steps.specs.Blank.{IsBlankByte, IsBlank}
-use Rattle.jiter_steps.specs.Literal.{word_of}
+use Rattle.jiter_steps.proofs.Words.{◌≡◌, ℕ, zero, suc, ◌+◌, ◌<◌, ◌≤◌, Bool, List, [], ◌∷◌, length, sym, subst, arith}
+use Rattle.jiter_steps.proofs.Words.{slice_get, slice_index, slice_range, Some, slice_get_within, slice_get-get_or}
+use Rattle.jiter_steps.proofs.Words.{get_or_from_slice_get, IsNumberText, Stands, stands-length, stands-slice}
+use Rattle.jiter_steps.proofs.Words.{slice-stands, IsBlankByte, IsBlank, word_of, Key, Node, Nodes, no_nodes, node}
+use Rattle.jiter_steps.proofs.Words.{NodeMembers, no_members, member, begin, end, StandsAfter, SpellsNumber, SpellsKey}
+use Rattle.jiter_steps.proofs.Words.{Spells, SpellsItems, SpellsMoreItems, SpellsMembers, SpellsMoreMembers}
+use Rattle.jiter_steps.proofs.Words.{nesting_round, nesting_round_members, Piece, SpellsPieces, SpellsString}
 use Rattle.jiter_steps.specs.Node as grammar
-use Rattle.jiter_steps.specs.Node.{Key, Node, Nodes, no_nodes, node, NodeMembers, no_members, member, begin, end}
-use Rattle.jiter_steps.specs.Node.{StandsAfter, SpellsNumber, SpellsKey, Spells, SpellsItems, SpellsMoreItems}
-use Rattle.jiter_steps.specs.Node.{SpellsMembers, SpellsMoreMembers, nesting_round, nesting_round_members}
-use Rattle.jiter_steps.specs.Piece.{Piece, SpellsPieces, SpellsString}
 use Rattle.jiter_steps.proofs.Grammar.SpelledParts.{nodes_list, members_list, items-order, members-order, order-ahead}
 use Rattle.jiter_steps.proofs.Grammar.SpelledParts.{key-ahead, node-ahead}
 use Rattle.jiter_steps.proofs.Grammar.Places.{pieces-ahead}

@@ -1,13 +1,8 @@
 -- The steps of containers in two texts with the same bytes before a place.
-use Rattle.std.proofs.Common.{◌≡◌, ℕ, ◌+◌, ◌<◌, ◌==◌, List, length, refl, sym, ap, ◌∙◌, arith}
-use Rattle.std.specs.Prelude.{slice_get, Option, Some, None}
-use Rattle.std.proofs.lemmas.Bool.{true≢false}
-use Rattle.std.proofs.lemmas.Option.{slice_get_within}
-use Rattle.jiter_scan.specs.Word.{Extent}
-use Rattle.jiter_steps.specs.Blank.{past_blanks}
-use Rattle.jiter_steps.specs.Step.{Step, more, closed, stuck, step, closer_of, begins_part, end_kind_of}
-use Rattle.jiter_steps.specs.Step.{container_first, container_comma, container_step, colon, value_first, object_colon}
-use Rattle.jiter_steps.specs.declared.parse.ContainerKind.{ContainerKind}
+use Rattle.jiter_steps.proofs.Words.{◌≡◌, ℕ, ◌+◌, ◌<◌, ◌==◌, List, length, refl, sym, ap, ◌∙◌, arith, slice_get, Option}
+use Rattle.jiter_steps.proofs.Words.{Some, None, true≢false, slice_get_within, Extent, past_blanks, Step, more, closed}
+use Rattle.jiter_steps.proofs.Words.{stuck, step, closer_of, begins_part, end_kind_of, container_first, container_comma}
+use Rattle.jiter_steps.proofs.Words.{container_step, colon, value_first, object_colon, ContainerKind}
 use Rattle.jiter_steps.proofs.Fault.SameSpelling.{SameBefore}
 use Rattle.jiter_steps.proofs.Fault.SameRuns.{IsOfByte, past_blanks-same}
 use Rattle.jiter_steps.proofs.Fault.SameNumbers.{Shown, late-byte, then-same}

@@ -1,21 +1,16 @@
 -- Strings in two texts with the same bytes before a place.
-use Rattle.std.proofs.Common.{◌≡◌, ◌⊎◌, inl, inr, ℕ, zero, suc, ◌+◌, ◌-◌, ◌<◌, ◌≤◌, Bool, true, false, List, [], ◌∷◌}
-use Rattle.std.proofs.Common.{length, refl, sym, ap, ◌∙◌, subst, arith}
-use Rattle.std.specs.Prelude.{slice_get, slice_index, Option, Some, None, ◌==◌, if◌then◌else◌, nat_lt}
-use Rattle.std.specs.Char.{encode_utf8}
-use Rattle.std.specs.Str.Lossy.{utf8_valid_len}
-use Rattle.std.proofs.lemmas.Bool.{ltb-false, le-ltb, true≢false}
-use Rattle.std.proofs.lemmas.Option.{none-some, same_Some}
-use Rattle.jiter_scan.specs.Kind.{Kind, invalid_escape, lone_surrogate, end_of_hex_escape, control_character}
-use Rattle.jiter_scan.specs.Scanned.{Scanned, taken, failed}
-use Rattle.jiter_scan.proofs.Choices.{if_case, if-true, if-false}
-use Rattle.jiter_steps.specs.Escape.{short_escape, is_hex, unit_of, is_high, is_low, pair_of}
-use Rattle.jiter_steps.specs.StringReading.{Stop, closed, unclosed, cut, wrong, Event, part, over, bad_digit, unit_at}
-use Rattle.jiter_steps.specs.StringReading.{HexDigits, few, hex_digits_or, hex_digits_at, after, unit_then}
-use Rattle.jiter_steps.specs.StringReading.{surrogate_pair, after_high_backslash, after_high, single}
-use Rattle.jiter_steps.specs.StringReading.{unicode_escape, short, after_backslash, plain, event_by, event_at}
-use Rattle.jiter_steps.specs.StringReading.{Body}
-use Rattle.jiter_steps.specs.StringReading.{before, join, body_at, whole, text_in_form, content_at, string_at}
+use Rattle.jiter_steps.proofs.Words.{◌≡◌, ◌⊎◌, inl, inr, ℕ, zero, suc, ◌+◌, ◌-◌, ◌<◌, ◌≤◌, Bool, true, false, List, []}
+use Rattle.jiter_steps.proofs.Words.{◌∷◌, length, refl, sym, ap, ◌∙◌, subst, arith, slice_get, slice_index, Option}
+use Rattle.jiter_steps.proofs.Words.{Some, None, ◌==◌, if◌then◌else◌, nat_lt, encode_utf8, utf8_valid_len, ltb-false}
+use Rattle.jiter_steps.proofs.Words.{le-ltb, true≢false, none-some, same_Some, Kind, invalid_escape, lone_surrogate}
+use Rattle.jiter_steps.proofs.Words.{end_of_hex_escape, control_character, Scanned, taken, failed, if_case, if-true}
+use Rattle.jiter_steps.proofs.Words.{if-false, short_escape, is_hex, unit_of, is_high, is_low, pair_of, Stop, unclosed}
+use Rattle.jiter_steps.proofs.Words.{cut, wrong, Event, part, over, bad_digit, unit_at, HexDigits, few, hex_digits_or}
+use Rattle.jiter_steps.proofs.Words.{hex_digits_at, after, unit_then, surrogate_pair, after_high_backslash, after_high}
+use Rattle.jiter_steps.proofs.Words.{single, unicode_escape, short, after_backslash, event_by, event_at, Body, before}
+use Rattle.jiter_steps.proofs.Words.{join, body_at, whole, text_in_form, content_at, string_at}
+use Rattle.jiter_steps.specs.StringReading.{closed}
+use Rattle.jiter_steps.specs.StringReading.{plain}
 use Rattle.jiter_steps.proofs.Fault.SameSpelling.{SameBefore, index-same}
 use Rattle.jiter_steps.proofs.Reading.Bounds.{both}
 use Rattle.jiter_steps.proofs.Fault.SameRuns.{within-too}

@@ -1,13 +1,8 @@
 -- Where a step between the parts of a container is stuck: after blanks, perhaps with a comma before them.
-use Rattle.std.proofs.Common.{◌≡◌, ◌⊎◌, inl, inr, ℕ, ◌+◌, ◌≤◌, ◌==◌, List, length, subst, arith}
-use Rattle.std.specs.Prelude.{Option, Some, None}
-use Rattle.std.proofs.lemmas.Option.{slice_get_within}
-use Rattle.jiter_scan.specs.Kind.{Kind}
-use Rattle.jiter_steps.specs.Blank.{IsBlank}
-use Rattle.jiter_steps.specs.Node.{StandsAfter}
-use Rattle.jiter_steps.specs.Step.{Step, more, closed, stuck, step, closer_of, begins_part, container_first}
-use Rattle.jiter_steps.specs.Step.{container_comma, container_step}
-use Rattle.jiter_steps.specs.declared.parse.ContainerKind.{ContainerKind}
+use Rattle.jiter_steps.proofs.Words.{◌≡◌, ◌⊎◌, inl, inr, ℕ, ◌+◌, ◌≤◌, ◌==◌, List, length, subst, arith, Option, Some}
+use Rattle.jiter_steps.proofs.Words.{None, slice_get_within, Kind, IsBlank, StandsAfter, Step, more, closed, stuck}
+use Rattle.jiter_steps.proofs.Words.{step, closer_of, begins_part, container_first, container_comma, container_step}
+use Rattle.jiter_steps.proofs.Words.{ContainerKind}
 use Rattle.jiter_steps.proofs.Reading.Bounds.{either}
 use Rattle.jiter_steps.proofs.Grammar.RowSteps.{After, tested, Stops, row-is, after}
 

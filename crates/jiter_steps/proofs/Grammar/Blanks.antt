@@ -1,19 +1,15 @@
 -- Blanks: those that reading passes, and those of the grammar.
-use Rattle.std.proofs.Common.{◌≡◌, ℕ, ◌+◌, ◌-◌, ◌<◌, ◌≤◌, true, false, List, length, drop, get_or, IfSome, ap}
-use Rattle.std.proofs.Common.{◌∙◌, arith}
-use Rattle.std.specs.Prelude.{slice_get, Option, Some, None}
-use Rattle.std.proofs.lemmas.List.{get_or-drop, length-drop}
+use Rattle.jiter_steps.proofs.Words.{◌≡◌, ℕ, ◌+◌, ◌-◌, ◌<◌, ◌≤◌, true, false, List, length, drop, get_or, IfSome, ap}
+use Rattle.jiter_steps.proofs.Words.{◌∙◌, arith, slice_get, Option, Some, None, length-drop, get_or_from_slice_get}
+use Rattle.jiter_steps.proofs.Words.{nat_tests, run_end-stopping, run_end-within, run_end-ahead, run_end-passes}
+use Rattle.jiter_steps.proofs.Words.{run_end-stops, get-none, count_trailing_zeros, is_blank, past_blanks, IsBlankByte}
+use Rattle.jiter_steps.proofs.Words.{IsBlank}
+use Rattle.std.proofs.lemmas.List.{get_or-drop}
 use Rattle.std.proofs.lemmas.List.Sums.{prefix_len_is}
-use Rattle.std.proofs.lemmas.Option.{get_or_from_slice_get}
-use Rattle.std.proofs.lemmas.Bool.Decides.{nat_tests}
-use Rattle.jiter_scan.proofs.Runs.{run_end-passing, run_end-stopping, run_end-past, run_end-within, run_end-ahead}
-use Rattle.jiter_scan.proofs.Runs.{run_end-passes, run_end-stops}
-use Rattle.jiter_scan.proofs.Standing.{get-none}
+use Rattle.jiter_scan.proofs.Runs.{run_end-passing, run_end-past}
 use Rattle.jiter_scan.proofs.Chunks.{run_end-through, run_end-inside}
 use Rattle.jiter_scan.specs.Simd.{failing}
 use lib.Lanes.{chunk}
-use lib.Count.{count_trailing_zeros}
-use Rattle.jiter_steps.specs.Blank.{is_blank, past_blanks, IsBlankByte, IsBlank}
 
 blank-is : (c : ℕ) → IsBlankByte c → is_blank c ≡ true
 blank-is c h = grind (arith, nat_tests, h)

@@ -1,20 +1,12 @@
 -- A whole text, by the grammar and by reading.
-use Rattle.std.proofs.Common.{◌≡◌, ℕ, ◌+◌, Bool, List, [], ◌∷◌, length, map, refl, sym, ap, ◌∙◌, subst, arith, ◌≤◌}
-use Rattle.std.specs.Prelude.{slice_get, Option, Some, None}
-use Rattle.std.specs.Str.{chars}
-use Rattle.std.proofs.lemmas.Option.{slice_get_within, slice_get_past}
-use Rattle.jiter_scan.specs.NumberReading.{number_at}
-use Rattle.jiter_scan.specs.Scanned.{Scanned, taken, failed}
-use Rattle.jiter_steps.specs.Answer.{seen_as, whole_trees, answer}
-use Rattle.jiter_steps.specs.Blank.{past_blanks, IsBlank}
-use Rattle.jiter_steps.specs.Literal.{literal_at, literal_tree}
+use Rattle.jiter_steps.proofs.Words.{◌≡◌, ℕ, ◌+◌, Bool, List, [], ◌∷◌, length, map, refl, sym, ap, ◌∙◌, subst, arith}
+use Rattle.jiter_steps.proofs.Words.{◌≤◌, slice_get, Option, Some, None, chars, slice_get_within, slice_get_past}
+use Rattle.jiter_steps.proofs.Words.{number_at, Scanned, taken, failed, seen_as, whole_trees, answer, past_blanks}
+use Rattle.jiter_steps.proofs.Words.{IsBlank, literal_at, literal_tree, Key, Node, begin, end, text_at, number_tree}
+use Rattle.jiter_steps.proofs.Words.{value_of, values_of, nesting_limit, IsDocument, Spells, nesting, Reading, done}
+use Rattle.jiter_steps.proofs.Words.{fault, value_at, if_last, to_end, if_begun, prefix_answer, whole_answer, whole}
+use Rattle.jiter_steps.proofs.Words.{string_at, Text, Tree, items_of, take_all}
 use Rattle.jiter_steps.specs.Node as grammar
-use Rattle.jiter_steps.specs.Node.{Key, Node, begin, end, text_at, number_tree, value_of, values_of, nesting_limit}
-use Rattle.jiter_steps.specs.Node.{IsDocument, Spells, nesting}
-use Rattle.jiter_steps.specs.Read.{Reading, done, fault, value_at, if_last, to_end, if_begun, prefix_answer}
-use Rattle.jiter_steps.specs.Read.{whole_answer}
-use Rattle.jiter_steps.specs.StringReading.{whole, string_at}
-use Rattle.jiter_steps.specs.Tree.{Text, Tree, items_of}
 use Rattle.jiter_steps.specs.Tree as tree
 use Rattle.jiter_steps.proofs.Grammar.Blanks.{past_blanks-bound, blank-passed, blank-to_end, passed-blank, at_length}
 use Rattle.jiter_steps.proofs.Grammar.SpelledParts.{begins-value, ends-end, begin-within, node-within}
@@ -22,7 +14,6 @@ use Rattle.jiter_steps.proofs.Reading.Fused.{mapped, scanned_as, pairs, AllTold,
 use Rattle.jiter_steps.proofs.Grammar.NodeRules.{nodes, nodes_of, node_members_of, key_of, pieces_from}
 use Rattle.jiter_steps.proofs.Grammar.ScalarLaws.{ScalarLaws, scalar-laws, EndsNumber}
 use Rattle.jiter_steps.proofs.Grammar.Sound.{Sound, value_at-sound}
-use Rattle.std.proofs.lemmas.List.{take_all}
 use Rattle.jiter_steps.proofs.Cut.PrefixNodes.{node-prefix}
 
 -- What is spelled so is read.

@@ -1,16 +1,9 @@
 -- The reading that builds the derivation itself.
-use Rattle.std.specs.Prelude.{ℕ, ◌+◌, Bool, List, [], ◌∷◌, true, false, length, None}
-use Rattle.std.specs.Str.{chars}
-use Rattle.jiter_scan.specs.NumberReading.{number_at}
-use Rattle.jiter_steps.specs.Literal.{literal_at}
-use Rattle.jiter_steps.specs.StringReading.{whole, string_at, Event, part, over, event_at}
-use Rattle.jiter_steps.specs.Tree.{Text}
-use Rattle.jiter_steps.specs.Node.{Key, Node, Nodes, no_nodes, node, NodeMembers, no_members, member}
+use Rattle.jiter_steps.proofs.Words.{ℕ, ◌+◌, Bool, List, [], ◌∷◌, true, false, length, None, chars, number_at}
+use Rattle.jiter_steps.proofs.Words.{literal_at, whole, string_at, Event, part, over, event_at, Text, Key, Node, Nodes}
+use Rattle.jiter_steps.proofs.Words.{no_nodes, node, NodeMembers, no_members, member, Rules, seen_as, nothing_forgiven}
+use Rattle.jiter_steps.proofs.Words.{encode_utf8, Piece}
 use Rattle.jiter_steps.specs.Node as grammar
-use Rattle.jiter_steps.specs.Read.{Rules}
-use Rattle.jiter_steps.specs.Answer.{seen_as, nothing_forgiven}
-use Rattle.std.specs.Char.{encode_utf8}
-use Rattle.jiter_steps.specs.Piece.{Piece}
 
 -- The pieces of a string that was read, from its characters.
 -- where the piece at i of the character c ends

@@ -1,22 +1,19 @@
 -- What is found at a place, in the grammar's words.
-use Rattle.std.proofs.Common.{◌≡◌, ◌≢◌, ◌⊎◌, inl, inr, ℕ, ◌+◌, ◌*◌, ◌<◌, ◌≤◌, true, false, List, [], ◌∷◌, ◌++◌}
-use Rattle.std.proofs.Common.{length, refl, sym, ap, ◌∙◌, subst, arith}
-use Rattle.std.specs.Prelude.{slice_get, slice_index, Option, Some, None, ◌==◌, nat_lt}
-use Rattle.std.specs.Char.{IsScalar, encode_utf8, digit_value}
-use Rattle.std.proofs.lemmas.Bool.{eqb-true, eqb-false, ltb-true, ltb-false}
-use Rattle.std.proofs.lemmas.Bool.Decides.{nat_tests}
-use Rattle.std.proofs.lemmas.Option.{slice_get_within, slice_get-get_or}
+use Rattle.jiter_steps.proofs.Words.{◌≡◌, ◌≢◌, ◌⊎◌, inl, inr, ℕ, ◌+◌, ◌<◌, ◌≤◌, true, false, List, [], ◌∷◌, ◌++◌}
+use Rattle.jiter_steps.proofs.Words.{length, refl, sym, ap, ◌∙◌, subst, arith, slice_get, slice_index, Option, Some}
+use Rattle.jiter_steps.proofs.Words.{None, ◌==◌, nat_lt, IsScalar, encode_utf8, eqb-true, ltb-true, ltb-false}
+use Rattle.jiter_steps.proofs.Words.{nat_tests, slice_get_within, slice_get-get_or, Kind, invalid_escape}
+use Rattle.jiter_steps.proofs.Words.{lone_surrogate, end_of_hex_escape, control_character, short_escape, is_hex}
+use Rattle.jiter_steps.proofs.Words.{unit_of, is_high, is_low, pair_of, Stands, IsUnit, IsEscape, Piece, SpellsPieces}
+use Rattle.jiter_steps.proofs.Words.{unclosed, cut, wrong, Event, part, over, bad_digit, unit_at, hex_digits_or}
+use Rattle.jiter_steps.proofs.Words.{hex_digits_at, after, surrogate_pair, after_high_backslash, after_high, single}
+use Rattle.jiter_steps.proofs.Words.{unicode_escape, short, after_backslash, event_by, event_at, if_case, stands-append}
+use Rattle.jiter_steps.proofs.Words.{stands-within, stands-length}
+use Rattle.std.proofs.Common.{◌*◌}
+use Rattle.std.specs.Char.{digit_value}
+use Rattle.std.proofs.lemmas.Bool.{eqb-false}
 use Rattle.std.proofs.lemmas.Str.{length-encode, len_utf8_bounds, len_utf8_ascii}
-use Rattle.jiter_scan.specs.Kind.{Kind, invalid_escape, lone_surrogate, end_of_hex_escape, control_character}
-use Rattle.jiter_steps.specs.Escape.{short_escape, is_hex, unit_of, is_high, is_low, pair_of}
-use Rattle.jiter_scan.specs.Stands.{Stands}
-use Rattle.jiter_steps.specs.Piece.{IsUnit, IsEscape, Piece, SpellsPieces}
-use Rattle.jiter_steps.specs.StringReading.{closed, unclosed, cut, wrong, Event, part, over, bad_digit, unit_at}
-use Rattle.jiter_steps.specs.StringReading.{hex_digits_or, hex_digits_at, after, surrogate_pair}
-use Rattle.jiter_steps.specs.StringReading.{after_high_backslash, after_high, single, unicode_escape, short}
-use Rattle.jiter_steps.specs.StringReading.{after_backslash, event_by, event_at}
-use Rattle.jiter_scan.proofs.Choices.{if_case}
-use Rattle.jiter_scan.proofs.Standing.{stands-append, stands-within, stands-length}
+use Rattle.jiter_steps.specs.StringReading.{closed}
 
 -- Words and pieces that stand at a place.
 module _ (t : List ℕ) where

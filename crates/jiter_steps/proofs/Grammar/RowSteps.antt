@@ -1,18 +1,10 @@
 -- Steps between the parts of a container, by the grammar.
-use Rattle.std.proofs.Common.{◌≡◌, ℕ, ◌+◌, ◌<◌, ◌≤◌, ◌==◌, true, false, cond, List, length, IfSome, refl, ap, ◌∙◌}
-use Rattle.std.proofs.Common.{arith}
-use Rattle.std.specs.Prelude.{slice_get, Option, Some, None}
-use Rattle.std.proofs.lemmas.Option.{slice_get_within}
-use Rattle.std.proofs.lemmas.Bool.{eqb-true, eq-eqb}
-use Rattle.jiter_scan.specs.Scanned.{taken, failed}
-use Rattle.jiter_scan.specs.Word.{Extent}
-use Rattle.jiter_scan.specs.NumberReading.{extent_then}
-use Rattle.jiter_scan.proofs.Choices.{if_case}
-use Rattle.jiter_steps.specs.Blank.{is_blank, past_blanks, IsBlank}
-use Rattle.jiter_steps.specs.Node.{StandsAfter}
-use Rattle.jiter_steps.specs.Step.{Step, more, closed, stuck, step, closer_of, begins_part, container_first}
-use Rattle.jiter_steps.specs.Step.{container_comma, container_step, colon, value_first, object_colon}
-use Rattle.jiter_steps.specs.declared.parse.ContainerKind.{ContainerKind}
+use Rattle.jiter_steps.proofs.Words.{◌≡◌, ℕ, ◌+◌, ◌<◌, ◌≤◌, ◌==◌, true, false, cond, List, length, IfSome, refl, ap}
+use Rattle.jiter_steps.proofs.Words.{◌∙◌, arith, slice_get, Option, Some, None, slice_get_within, eqb-true, eq-eqb}
+use Rattle.jiter_steps.proofs.Words.{taken, failed, Extent, extent_then, if_case, is_blank, past_blanks, IsBlank}
+use Rattle.jiter_steps.proofs.Words.{StandsAfter, Step, more, closed, stuck, step, closer_of, begins_part}
+use Rattle.jiter_steps.proofs.Words.{container_first, container_comma, container_step, colon, value_first, object_colon}
+use Rattle.jiter_steps.proofs.Words.{ContainerKind}
 use Rattle.jiter_steps.specs.declared.parse.ContainerKind.TheVariants as shape
 use Rattle.jiter_steps.proofs.Reading.Bounds.{either}
 use Rattle.jiter_steps.proofs.Reading.BothShapes.{closer-no_blank, closer-no_comma, closer-begins_no_part}

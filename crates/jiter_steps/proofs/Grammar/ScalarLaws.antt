@@ -1,25 +1,16 @@
 -- What the readings of scalars and keys keep to, at a text: each takes just what the grammar spells.
-use Rattle.std.proofs.Common.{◌≡◌, ℕ, ◌+◌, ◌<◌, ◌≤◌, Bool, true, false, List, [], ◌∷◌, length, IfSome, arith}
-use Rattle.std.specs.Prelude.{slice_get, slice_range, Some}
-use Rattle.std.specs.Str.{chars}
-use Rattle.jiter_scan.specs.Number.{Number, number_value, IsNumberText}
-use Rattle.jiter_scan.specs.NumberReading.{number_at, begins_number}
-use Rattle.jiter_scan.specs.Scanned.{taken}
-use Rattle.jiter_scan.specs.Stands.{Stands}
-use Rattle.jiter_scan.proofs.Scanning.{ScalarWithin}
-use Rattle.jiter_scan.proofs.NumberLaws.{continues_number, number_at-within, number_at-sound, number_at-complete}
+use Rattle.jiter_steps.proofs.Words.{◌≡◌, ℕ, ◌+◌, ◌<◌, ◌≤◌, Bool, true, false, List, [], ◌∷◌, length, IfSome, arith}
+use Rattle.jiter_steps.proofs.Words.{slice_get, slice_range, Some, chars, Number, number_value, IsNumberText, number_at}
+use Rattle.jiter_steps.proofs.Words.{begins_number, taken, Stands, ScalarWithin, continues_number, number_at-within}
+use Rattle.jiter_steps.proofs.Words.{literal_at, word_of, text_at, Piece, SpellsString, text_of, whole, string_at, Text}
+use Rattle.jiter_steps.proofs.Words.{Literal}
+use Rattle.jiter_scan.proofs.NumberLaws.{number_at-sound, number_at-complete}
 use Rattle.jiter_scan.proofs.NumberLaws as numbers
 use Rattle.jiter_scan.proofs.WordLaws.{word_at-sound, word_at-complete}
 use Rattle.jiter_steps.proofs.Reading.Instances.{literal_at-within}
 use Rattle.jiter_steps.proofs.Grammar.StringLaws.{string_at-within, string_at-sound, string_at-complete}
 use Rattle.jiter_steps.proofs.Grammar.StringLaws as strings
 use Rattle.jiter_steps.proofs.Grammar.NodeRules.{pieces_from}
-use Rattle.jiter_steps.specs.Literal.{literal_at, word_of}
-use Rattle.jiter_steps.specs.Node.{text_at}
-use Rattle.jiter_steps.specs.Piece.{Piece, SpellsString, text_of}
-use Rattle.jiter_steps.specs.StringReading.{whole, string_at}
-use Rattle.jiter_steps.specs.Tree.{Text}
-use Rattle.jiter_steps.specs.declared.parse.Literal.{Literal}
 
 -- the byte at i, if there is one, does not go on a number
 abbrev pub EndsNumber : List ℕ → ℕ → Type 0

@@ -1,27 +1,15 @@
 -- What is read is spelled so.
-use Rattle.std.proofs.Common.{◌≡◌, ℕ, zero, suc, ◌+◌, ◌<◌, ◌≤◌, Bool, List, length, refl, sym, ap, ◌∙◌, subst, arith}
-use Rattle.std.proofs.Common.{None}
-use Rattle.std.specs.Prelude.{slice_get, slice_index, Some}
-use Rattle.std.specs.Str.{chars}
-use Rattle.std.proofs.lemmas.Option.{slice_get-get_or, slice_get_within}
-use Rattle.std.proofs.lemmas.Bool.Decides.{nat_tests}
-use Rattle.jiter_scan.specs.NumberReading.{number_at}
-use Rattle.jiter_scan.specs.Scanned.{Scanned, taken, failed}
-use Rattle.jiter_scan.specs.Word.{Extent}
-use Rattle.jiter_scan.proofs.Scanning.{ScalarWithin}
-use Rattle.jiter_steps.specs.Answer.{seen_as}
-use Rattle.jiter_steps.specs.Literal.{start_of, literal_at}
+use Rattle.jiter_steps.proofs.Words.{◌≡◌, ℕ, zero, suc, ◌+◌, ◌<◌, ◌≤◌, Bool, List, length, refl, sym, ap, ◌∙◌, subst}
+use Rattle.jiter_steps.proofs.Words.{arith, None, slice_get, slice_index, Some, chars, slice_get-get_or}
+use Rattle.jiter_steps.proofs.Words.{slice_get_within, nat_tests, number_at, Scanned, taken, failed, Extent}
+use Rattle.jiter_steps.proofs.Words.{ScalarWithin, seen_as, start_of, literal_at, Key, Node, Nodes, no_nodes, node}
+use Rattle.jiter_steps.proofs.Words.{NodeMembers, no_members, member, begin, end, StandsAfter, SpellsNumber, SpellsKey}
+use Rattle.jiter_steps.proofs.Words.{Spells, SpellsItems, SpellsMoreItems, SpellsMembers, SpellsMoreMembers, nesting}
+use Rattle.jiter_steps.proofs.Words.{nesting_round, nesting_round_members, SpellsString, Reading, done, fault}
+use Rattle.jiter_steps.proofs.Words.{Container, scalar_at, with_key, after_colon, after_key, container_at, array_of}
+use Rattle.jiter_steps.proofs.Words.{object_of, value_with, inside_at, value_at, object_colon, whole, string_at, Text}
+use Rattle.jiter_steps.proofs.Words.{Start}
 use Rattle.jiter_steps.specs.Node as grammar
-use Rattle.jiter_steps.specs.Node.{Key, Node, Nodes, no_nodes, node, NodeMembers, no_members, member, begin, end}
-use Rattle.jiter_steps.specs.Node.{StandsAfter, SpellsNumber, SpellsKey, Spells, SpellsItems, SpellsMoreItems}
-use Rattle.jiter_steps.specs.Node.{SpellsMembers, SpellsMoreMembers, nesting, nesting_round, nesting_round_members}
-use Rattle.jiter_steps.specs.Piece.{SpellsString}
-use Rattle.jiter_steps.specs.Read.{Reading, done, fault, Container, scalar_at, with_key, after_colon, after_key}
-use Rattle.jiter_steps.specs.Read.{container_at, array_of, object_of, value_with, inside_at, value_at}
-use Rattle.jiter_steps.specs.Step.{object_colon}
-use Rattle.jiter_steps.specs.StringReading.{whole, string_at}
-use Rattle.jiter_steps.specs.Tree.{Text}
-use Rattle.jiter_steps.specs.declared.parse.Start.{Start}
 use Rattle.jiter_steps.specs.declared.parse.Start.TheVariants as start
 use Rattle.jiter_steps.proofs.Reading.Bounds.{Within}
 use Rattle.jiter_steps.proofs.Reading.FirstBytes.{string-first}

@@ -1,29 +1,18 @@
 -- What the grammar spells of a container is parts that stand one after another; and what a value begins with.
-use Rattle.std.proofs.Common.{◌≡◌, ◌≢◌, ℕ, zero, suc, ◌+◌, ◌<◌, ◌≤◌, ◌⊎◌, inl, inr, Bool, not, true, false, List, []}
-use Rattle.std.proofs.Common.{◌∷◌, length, refl, sym, ap, ◌∙◌, subst, arith, ◌==◌, IfSome}
-use Rattle.std.specs.Prelude.{slice_get, slice_index, slice_range, Some}
-use Rattle.std.proofs.lemmas.Option.{slice_get_within, slice_get-get_or, slice_get_past, get_or_from_slice_get}
+use Rattle.jiter_steps.proofs.Words.{◌≡◌, ◌≢◌, ℕ, zero, suc, ◌+◌, ◌<◌, ◌≤◌, ◌⊎◌, inl, inr, Bool, not, true, false, List}
+use Rattle.jiter_steps.proofs.Words.{[], ◌∷◌, length, refl, sym, ap, ◌∙◌, subst, arith, ◌==◌, IfSome, slice_get}
+use Rattle.jiter_steps.proofs.Words.{slice_index, slice_range, Some, slice_get_within, slice_get-get_or, slice_get_past}
+use Rattle.jiter_steps.proofs.Words.{get_or_from_slice_get, nat_tests, IsNumberText, begins_number, taken}
+use Rattle.jiter_steps.proofs.Words.{continues_number, seen_as, is_blank, IsBlankByte, IsBlank, Stands, stands-length}
+use Rattle.jiter_steps.proofs.Words.{stands-within, stands-slice, slice-stands, word_of, start_of, Key, Node, Nodes}
+use Rattle.jiter_steps.proofs.Words.{no_nodes, node, NodeMembers, no_members, member, begin, end, StandsAfter}
+use Rattle.jiter_steps.proofs.Words.{SpellsNumber, SpellsKey, Spells, SpellsItems, SpellsMoreItems, SpellsMembers}
+use Rattle.jiter_steps.proofs.Words.{SpellsMoreMembers, nesting, nesting_round, nesting_round_members, SpellsString}
+use Rattle.jiter_steps.proofs.Words.{whole, string_at, Literal, Start}
 use Rattle.std.proofs.lemmas.Bool.{cases_eq}
-use Rattle.std.proofs.lemmas.Bool.Decides.{nat_tests}
-use Rattle.jiter_scan.specs.Number.{IsNumberText}
-use Rattle.jiter_scan.specs.NumberReading.{begins_number}
-use Rattle.jiter_scan.specs.Scanned.{taken}
-use Rattle.jiter_scan.proofs.NumberLaws.{continues_number}
-use Rattle.jiter_steps.specs.Answer.{seen_as}
-use Rattle.jiter_steps.specs.Blank.{is_blank, IsBlankByte, IsBlank}
-use Rattle.jiter_scan.specs.Stands.{Stands}
-use Rattle.jiter_scan.proofs.Standing.{stands-length, stands-within, stands-slice, slice-stands}
-use Rattle.jiter_steps.specs.Literal.{word_of, start_of}
 use Rattle.jiter_steps.specs.Node as grammar
-use Rattle.jiter_steps.specs.Node.{Key, Node, Nodes, no_nodes, node, NodeMembers, no_members, member, begin, end}
-use Rattle.jiter_steps.specs.Node.{StandsAfter, SpellsNumber, SpellsKey, Spells, SpellsItems, SpellsMoreItems}
-use Rattle.jiter_steps.specs.Node.{SpellsMembers, SpellsMoreMembers, nesting, nesting_of, nesting_of_members}
-use Rattle.jiter_steps.specs.Node.{nesting_round, nesting_round_members}
-use Rattle.jiter_steps.specs.Piece.{SpellsString}
-use Rattle.jiter_steps.specs.StringReading.{whole, string_at}
-use Rattle.jiter_steps.specs.declared.parse.Literal.{Literal}
+use Rattle.jiter_steps.specs.Node.{nesting_of, nesting_of_members}
 use Rattle.jiter_steps.specs.declared.parse.Literal.TheVariants as literal
-use Rattle.jiter_steps.specs.declared.parse.Start.{Start}
 use Rattle.jiter_steps.specs.declared.parse.Start.TheVariants as start
 use Rattle.jiter_steps.proofs.Grammar.NodeRules.{nodes_of, node_members_of, key_of}
 use Rattle.jiter_steps.proofs.Reading.Parts.{after-ahead, MoreParts, Parts, Grammar, parts-are}

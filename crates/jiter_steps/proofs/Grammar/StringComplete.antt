@@ -1,24 +1,13 @@
 -- What is spelled is read.
-use Rattle.std.proofs.Common.{◌≡◌, ◌≢◌, inl, inr, ℕ, ◌+◌, ◌≤◌, Bool, true, false, ◌||◌, ◌&&◌, ap₂, List, [], ◌∷◌}
-use Rattle.std.proofs.Common.{length, refl, sym, ap, ◌∙◌, subst, arith}
-use Rattle.std.specs.Prelude.{slice_get, slice_index, Some, ◌==◌}
-use Rattle.std.specs.Char.{IsScalar, encode_utf8}
-use Rattle.std.specs.Str.{all_scalars}
-use Rattle.std.specs.Str.Lossy.{utf8_valid_len}
-use Rattle.std.proofs.lemmas.Bool.{eq-eqb, ne_eqb, le-ltb}
-use Rattle.std.proofs.lemmas.Bool.Decides.{nat_tests}
-use Rattle.std.proofs.lemmas.Option.{slice_get_within, get_or_from_slice_get}
-use Rattle.std.proofs.lemmas.Str.{utf8_valid_len-IsUtf8}
-use Rattle.jiter_steps.specs.Escape.{is_high, is_low, pair_of}
-use Rattle.jiter_scan.specs.Stands.{Stands}
-use Rattle.jiter_steps.specs.Piece.{IsPlain, IsUnit, IsEscape, Piece, SpellsChar, SpellsPieces, SpellsString}
-use Rattle.jiter_steps.specs.Piece.{characters, text_of}
-use Rattle.jiter_scan.specs.Scanned.{taken}
-use Rattle.jiter_steps.specs.StringReading.{closed, part, over, unit_at, number, hex_digits_at, unicode_escape}
-use Rattle.jiter_steps.specs.StringReading.{after_backslash, event_by, event_at, before, body_at, whole}
-use Rattle.jiter_steps.specs.StringReading.{content_at}
-use Rattle.jiter_steps.specs.StringReading.{string_at}
-use Rattle.jiter_scan.proofs.Standing.{stands-split}
+use Rattle.jiter_steps.proofs.Words.{◌≡◌, ◌≢◌, inl, inr, ℕ, ◌+◌, ◌≤◌, Bool, true, false, ◌||◌, ◌&&◌, ap₂, List, [], ◌∷◌}
+use Rattle.jiter_steps.proofs.Words.{length, refl, sym, ap, ◌∙◌, subst, arith, slice_get, slice_index, Some, ◌==◌}
+use Rattle.jiter_steps.proofs.Words.{IsScalar, encode_utf8, all_scalars, utf8_valid_len, eq-eqb, ne_eqb, le-ltb}
+use Rattle.jiter_steps.proofs.Words.{nat_tests, slice_get_within, get_or_from_slice_get, utf8_valid_len-IsUtf8, is_high}
+use Rattle.jiter_steps.proofs.Words.{is_low, pair_of, Stands, IsPlain, IsUnit, IsEscape, Piece, SpellsChar}
+use Rattle.jiter_steps.proofs.Words.{SpellsPieces, SpellsString, characters, text_of, taken, part, over, unit_at}
+use Rattle.jiter_steps.proofs.Words.{number, hex_digits_at, unicode_escape, after_backslash, event_by, event_at, before}
+use Rattle.jiter_steps.proofs.Words.{body_at, whole, content_at, string_at, stands-split}
+use Rattle.jiter_steps.specs.StringReading.{closed}
 use Rattle.jiter_steps.proofs.Grammar.Utf8Shape.{AllFollow, lead}
 use Rattle.jiter_steps.proofs.Grammar.Places.{HexAt, UnitAt, escape-scalar}
 use Rattle.jiter_steps.proofs.Reading.Bodies.{before-before, body_at-event_by}

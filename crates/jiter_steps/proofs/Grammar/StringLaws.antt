@@ -1,21 +1,13 @@
 -- The laws of reading a string that the layers above stand on.
-use Rattle.std.proofs.Common.{◌≡◌, ◌≢◌, ℕ, ◌+◌, ◌-◌, ◌<◌, ◌≤◌, Bool, List, length, drop, refl, sym, ap, ◌∙◌, subst}
-use Rattle.std.proofs.Common.{arith}
-use Rattle.std.specs.Prelude.{slice_get, Option, Some, None, ◌==◌}
-use Rattle.std.specs.Str.{chars}
-use Rattle.std.specs.Str.Lossy.{utf8_valid_len, utf8_error_len}
-use Rattle.std.proofs.lemmas.Option.{slice_get_within}
+use Rattle.jiter_steps.proofs.Words.{◌≡◌, ◌≢◌, ℕ, ◌+◌, ◌-◌, ◌<◌, ◌≤◌, Bool, List, length, drop, refl, sym, ap, ◌∙◌}
+use Rattle.jiter_steps.proofs.Words.{subst, arith, slice_get, Option, Some, None, ◌==◌, chars, utf8_valid_len}
+use Rattle.jiter_steps.proofs.Words.{utf8_error_len, slice_get_within, Kind, eof_string, invalid_code_point, taken}
+use Rattle.jiter_steps.proofs.Words.{failed, ScalarWithin, FaultAt, Text, Piece, SpellsString, characters, text_of}
+use Rattle.jiter_steps.proofs.Words.{has_backslash, text_at, Stop, unclosed, cut, wrong, body_at, Form, whole, kept}
+use Rattle.jiter_steps.proofs.Words.{raw, raw_kept, if_utf8, valid_prefix_by, valid_prefix, between, text_in_form}
+use Rattle.jiter_steps.proofs.Words.{content_at, string_at, if_case}
 use Rattle.std.proofs.lemmas.Str.{chars-encodes, utf8_valid_len_le}
-use Rattle.jiter_scan.specs.Kind.{Kind, eof_string, invalid_code_point}
-use Rattle.jiter_scan.specs.Scanned.{taken, failed}
-use Rattle.jiter_scan.proofs.Scanning.{ScalarWithin, FaultAt}
-use Rattle.jiter_steps.specs.Tree.{Text}
-use Rattle.jiter_steps.specs.Piece.{Piece, SpellsString, characters, text_of}
-use Rattle.jiter_steps.specs.Node.{has_backslash, text_at}
-use Rattle.jiter_steps.specs.StringReading.{Stop, closed, unclosed, cut, wrong, body_at, Form, whole, kept, raw}
-use Rattle.jiter_steps.specs.StringReading.{raw_kept, if_utf8, valid_prefix_by, valid_prefix, between, text_in_form}
-use Rattle.jiter_steps.specs.StringReading.{content_at, string_at}
-use Rattle.jiter_scan.proofs.Choices.{if_case}
+use Rattle.jiter_steps.specs.StringReading.{closed}
 use Rattle.jiter_steps.proofs.Reading.Bounds.{fault-end, fault-byte}
 use Rattle.jiter_steps.proofs.Grammar.NodeRules.{pieces_from}
 use Rattle.jiter_steps.proofs.Grammar.Places.{pieces-ahead, IsPlaceKind}

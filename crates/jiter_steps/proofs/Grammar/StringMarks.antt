@@ -1,13 +1,9 @@
 -- A text is owned exactly where a backslash was read.
-use Rattle.std.proofs.Common.{◌≡◌, ℕ, ◌+◌, ◌-◌, ◌<◌, ◌≤◌, ◌==◌, ◌||◌, Bool, true, false, List, ◌++◌, length, take}
-use Rattle.std.proofs.Common.{drop, sym, ap, ◌∙◌, subst, arith}
-use Rattle.std.specs.Prelude.{slice_get, slice_range, Some}
-use Rattle.std.specs.List.{list_any}
-use Rattle.std.proofs.lemmas.Bool.{ne_eqb}
-use Rattle.std.proofs.lemmas.Option.{slice_get_within}
-use Rattle.jiter_scan.proofs.Standing.{slice_range-split, slice-one, get-none}
-use Rattle.jiter_steps.specs.Node.{has_backslash}
-use Rattle.jiter_steps.specs.StringReading.{Stop, closed, unclosed, cut, wrong, part, over, Body, before, join, body_at}
+use Rattle.jiter_steps.proofs.Words.{◌≡◌, ℕ, ◌+◌, ◌-◌, ◌<◌, ◌≤◌, ◌==◌, ◌||◌, Bool, true, false, List, ◌++◌, length}
+use Rattle.jiter_steps.proofs.Words.{take, drop, sym, ap, ◌∙◌, subst, arith, slice_get, slice_range, Some, list_any}
+use Rattle.jiter_steps.proofs.Words.{ne_eqb, slice_get_within, slice_range-split, slice-one, get-none, has_backslash}
+use Rattle.jiter_steps.proofs.Words.{Stop, unclosed, cut, wrong, part, over, Body, before, join, body_at}
+use Rattle.jiter_steps.specs.StringReading.{closed}
 use Rattle.jiter_steps.proofs.Grammar.Places.{Explains}
 use Rattle.jiter_steps.proofs.Reading.Bodies.{part-ahead, each-body}
 

@@ -1,24 +1,16 @@
 -- What is read is spelled, and in one way.
-use Rattle.std.proofs.Common.{◌≡◌, inl, inr, ℕ, zero, suc, ◌+◌, Bool, true, false, List, [], ◌∷◌, ◌++◌, length, take}
-use Rattle.std.proofs.Common.{refl, sym, ap, ◌∙◌, subst, arith}
-use Rattle.std.specs.Prelude.{slice_get, Some, ◌==◌}
-use Rattle.std.specs.Char.{IsScalar, encode_utf8}
-use Rattle.std.specs.Str.{encode_utf8_all, all_scalars, IsUtf8, is_utf8, chars}
-use Rattle.std.specs.Str.Lossy.{utf8_valid_len, valid_len_up_to}
-use Rattle.std.proofs.lemmas.Bool.{eqb-true, and_parts}
-use Rattle.std.proofs.lemmas.Str.{encode_same, IsUtf8-from_is_utf8, IsUtf8-nil, scalars-chars, encodes-chars}
-use Rattle.std.proofs.lemmas.List.{take_all}
-use Rattle.jiter_scan.specs.Stands.{Stands}
-use Rattle.jiter_steps.specs.Piece.{IsPlain, IsEscape, Piece, SpellsChar, SpellsPieces, SpellsString, characters}
-use Rattle.jiter_steps.specs.Piece.{text_of}
-use Rattle.jiter_scan.specs.Scanned.{taken}
-use Rattle.jiter_steps.specs.Tree.{Text}
-use Rattle.jiter_steps.specs.StringReading.{Stop, closed, Event, part, over, event_at, join, body_at, whole}
-use Rattle.jiter_steps.specs.StringReading.{content_at, string_at, text_in_form}
+use Rattle.jiter_steps.proofs.Words.{◌≡◌, inl, inr, ℕ, zero, suc, ◌+◌, Bool, true, false, List, [], ◌∷◌, ◌++◌, length}
+use Rattle.jiter_steps.proofs.Words.{take, refl, sym, ap, ◌∙◌, subst, arith, slice_get, Some, ◌==◌, IsScalar}
+use Rattle.jiter_steps.proofs.Words.{encode_utf8, encode_utf8_all, all_scalars, IsUtf8, is_utf8, chars, utf8_valid_len}
+use Rattle.jiter_steps.proofs.Words.{eqb-true, and_parts, encode_same, take_all, Stands, IsPlain, IsEscape, Piece}
+use Rattle.jiter_steps.proofs.Words.{SpellsChar, SpellsPieces, SpellsString, characters, text_of, taken, Text, Stop}
+use Rattle.jiter_steps.proofs.Words.{Event, part, over, event_at, join, body_at, whole, content_at, string_at}
+use Rattle.jiter_steps.proofs.Words.{text_in_form, if_case, if_gives, failed-taken, same_taken, stands-length}
+use Rattle.std.specs.Str.Lossy.{valid_len_up_to}
+use Rattle.std.proofs.lemmas.Str.{IsUtf8-from_is_utf8, IsUtf8-nil, scalars-chars, encodes-chars}
+use Rattle.jiter_steps.specs.StringReading.{closed}
 use Rattle.jiter_steps.proofs.Grammar.NodeRules.{end_of, pieces_from}
 use Rattle.jiter_steps.proofs.Grammar.Utf8Shape.{Follows, AllFollow, Lead, lead}
-use Rattle.jiter_scan.proofs.Choices.{if_case, if_gives, failed-taken, same_taken}
-use Rattle.jiter_scan.proofs.Standing.{stands-length}
 use Rattle.jiter_steps.proofs.Grammar.Places.{Explains, event_at-explains}
 use Rattle.jiter_steps.proofs.Reading.Bodies.{body_at-is}
 use Rattle.jiter_steps.proofs.Grammar.StringComplete.{ArePrinted, plain-printed, event_by-byte, event_by-escape}

@@ -1,9 +1,9 @@
 -- A body, a part at a time.
-use Rattle.std.proofs.Common.{◌≡◌, ℕ, zero, suc, ◌+◌, ◌<◌, ◌≤◌, ◌||◌, Bool, true, false, List, ◌++◌, length, refl}
-use Rattle.std.proofs.Common.{sym, ap, ◌∙◌, subst, arith, append_assoc, length-append}
-use Rattle.std.proofs.lemmas.Option.{slice_get_past, slice_get_within}
-use Rattle.jiter_steps.specs.StringReading.{Stop, closed, unclosed, wrong, Event, part, over, event_by, event_at}
-use Rattle.jiter_steps.specs.StringReading.{Body, before, join, body_within, body_at}
+use Rattle.jiter_steps.proofs.Words.{◌≡◌, ℕ, zero, suc, ◌+◌, ◌<◌, ◌≤◌, ◌||◌, Bool, true, false, List, ◌++◌, length}
+use Rattle.jiter_steps.proofs.Words.{refl, sym, ap, ◌∙◌, subst, arith, append_assoc, length-append, slice_get_past}
+use Rattle.jiter_steps.proofs.Words.{slice_get_within, Stop, unclosed, wrong, Event, part, over, event_by, event_at}
+use Rattle.jiter_steps.proofs.Words.{Body, before, join, body_within, body_at}
+use Rattle.jiter_steps.specs.StringReading.{closed}
 use Rattle.jiter_steps.proofs.Grammar.Places.{IsPlaceKind, Explains, event_at-explains}
 
 pub before-before : (a b : List ℕ) (o p : Bool) (r : Body) → before a o (before b p r) ≡ before (a ++ b) (o || p) r

@@ -1,10 +1,7 @@
 -- What holds of the kinds and closers of arrays and of objects alike.
-use Rattle.std.proofs.Common.{◌≡◌, ◌≢◌, ◌==◌, true, false, refl}
-use Rattle.jiter_scan.specs.Kind.{is_end_kind, is_forgiven, out_of_memory}
-use Rattle.jiter_steps.specs.Blank.{is_blank}
-use Rattle.jiter_steps.specs.Literal.{start_of}
-use Rattle.jiter_steps.specs.Step.{closer_of, begins_part, end_kind_of, comma_kind_of}
-use Rattle.jiter_steps.specs.declared.parse.ContainerKind.{ContainerKind}
+use Rattle.jiter_steps.proofs.Words.{◌≡◌, ◌≢◌, ◌==◌, true, false, refl, is_end_kind, is_forgiven, out_of_memory}
+use Rattle.jiter_steps.proofs.Words.{is_blank, start_of, closer_of, begins_part, end_kind_of, comma_kind_of}
+use Rattle.jiter_steps.proofs.Words.{ContainerKind}
 use Rattle.jiter_steps.specs.declared.parse.ContainerKind.TheVariants as shape
 use Rattle.jiter_steps.specs.declared.parse.Start.TheVariants as start
 

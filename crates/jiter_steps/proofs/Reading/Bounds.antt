@@ -1,23 +1,14 @@
 -- Where steps and readings end: within the text, and a fault of the input's end at its length alone. One walk over the
 -- rows.
-use Rattle.std.proofs.Common.{◌≡◌, ◌≢◌, ℕ, ◌+◌, ◌<◌, ◌≤◌, ◌==◌, Bool, true, false, cond, length, List, refl, sym, ◌∙◌}
-use Rattle.std.proofs.Common.{arith}
-use Rattle.std.specs.Prelude.{slice_get, Option, Some, None}
-use Rattle.std.proofs.lemmas.Bool.{false≢true}
-use Rattle.std.proofs.lemmas.Option.{slice_get_within}
-use Rattle.jiter_scan.specs.Kind.{Kind, is_end_kind, out_of_memory, eof_object, eof_value, expected_colon}
+use Rattle.jiter_steps.proofs.Words.{◌≡◌, ◌≢◌, ℕ, ◌+◌, ◌<◌, ◌≤◌, ◌==◌, Bool, true, false, cond, length, List, refl, sym}
+use Rattle.jiter_steps.proofs.Words.{◌∙◌, arith, slice_get, Option, Some, None, false≢true, slice_get_within, Kind}
+use Rattle.jiter_steps.proofs.Words.{is_end_kind, out_of_memory, eof_object, eof_value, taken, failed, Extent}
+use Rattle.jiter_steps.proofs.Words.{extent_then, FaultAt, get-none, past_blanks, Step, more, closed, stuck, step}
+use Rattle.jiter_steps.proofs.Words.{closer_of, begins_part, end_kind_of, comma_kind_of, container_first}
+use Rattle.jiter_steps.proofs.Words.{container_comma, container_step, colon, value_first, object_colon, ContainerKind}
+use Rattle.jiter_steps.proofs.Words.{Reading, done, fault}
+use Rattle.jiter_scan.specs.Kind.{expected_colon}
 use Rattle.jiter_scan.specs.Kind.{key_must_be_a_string, trailing_comma}
-use Rattle.jiter_scan.specs.Scanned.{taken, failed}
-use Rattle.jiter_scan.specs.Word.{Extent}
-use Rattle.jiter_scan.specs.NumberReading.{extent_then}
-use Rattle.jiter_scan.proofs.Scanning.{FaultAt}
-use Rattle.jiter_scan.proofs.Standing.{get-none}
-use Rattle.jiter_steps.specs.Blank.{past_blanks}
-use Rattle.jiter_steps.specs.Step.{Step, more, closed, stuck, step, closer_of, begins_part, end_kind_of}
-use Rattle.jiter_steps.specs.Step.{comma_kind_of, container_first, container_comma, container_step, colon}
-use Rattle.jiter_steps.specs.Step.{value_first, object_colon}
-use Rattle.jiter_steps.specs.declared.parse.ContainerKind.{ContainerKind}
-use Rattle.jiter_steps.specs.Read.{Reading, done, fault}
 use Rattle.jiter_steps.proofs.Reading.BothShapes.{end_kind-bytes, comma_kind-late, comma_kind-bytes}
 use Rattle.jiter_steps.proofs.Grammar.Blanks.{past_blanks-bound, past_blanks-after}
 

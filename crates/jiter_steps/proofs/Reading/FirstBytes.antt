@@ -1,17 +1,10 @@
 -- What stands where a value or a key begins.
-use Rattle.std.proofs.Common.{◌≡◌, ◌⊎◌, inl, inr, ℕ, ◌+◌, ◌<◌, ◌≤◌, ◌==◌, true, length, List, refl, sym, ap, ◌∙◌}
-use Rattle.std.proofs.Common.{eqb-true, arith}
-use Rattle.std.specs.Prelude.{slice_get, slice_index, Option, Some, None}
-use Rattle.std.proofs.lemmas.Option.{slice_get-get_or}
+use Rattle.jiter_steps.proofs.Words.{◌≡◌, ◌⊎◌, inl, inr, ℕ, ◌+◌, ◌<◌, ◌≤◌, ◌==◌, true, length, List, refl, sym, ap, ◌∙◌}
+use Rattle.jiter_steps.proofs.Words.{eqb-true, arith, slice_get, slice_index, Option, Some, None, slice_get-get_or}
+use Rattle.jiter_steps.proofs.Words.{cases_lt, nat_tests, past_blanks, start_of, if_case, Step, more, closed, stuck}
+use Rattle.jiter_steps.proofs.Words.{step, closer_of, begins_part, container_first, container_comma, container_step}
+use Rattle.jiter_steps.proofs.Words.{ContainerKind}
 use Rattle.std.proofs.lemmas.List.{get_or_past}
-use Rattle.std.proofs.lemmas.Bool.{cases_lt}
-use Rattle.std.proofs.lemmas.Bool.Decides.{nat_tests}
-use Rattle.jiter_steps.specs.Blank.{past_blanks}
-use Rattle.jiter_steps.specs.Literal.{start_of}
-use Rattle.jiter_scan.proofs.Choices.{if_case}
-use Rattle.jiter_steps.specs.Step.{Step, more, closed, stuck, step, closer_of, begins_part, container_first}
-use Rattle.jiter_steps.specs.Step.{container_comma, container_step}
-use Rattle.jiter_steps.specs.declared.parse.ContainerKind.{ContainerKind}
 use Rattle.jiter_steps.specs.declared.parse.ContainerKind.TheVariants as shape
 use Rattle.jiter_steps.specs.declared.parse.Start.TheVariants as start
 use Rattle.jiter_steps.proofs.Reading.Bounds.{either}

@@ -1,22 +1,14 @@
 -- What is built of one reading of a text maps to what is built of another; where some faults of the one aren't told,
 -- with every other fault.
-use Rattle.std.proofs.Common.{◌≡◌, ℕ, zero, suc, ◌+◌, ◌<◌, Bool, true, false, cond, List, [], ◌∷◌, ◌++◌, length, map}
-use Rattle.std.proofs.Common.{refl, sym, ap, ◌∙◌, subst}
-use Rattle.std.specs.Prelude.{slice_index, slice_get, Option, Some, None}
+use Rattle.jiter_steps.proofs.Words.{◌≡◌, ℕ, zero, suc, ◌+◌, ◌<◌, Bool, true, false, cond, List, [], ◌∷◌, ◌++◌, length}
+use Rattle.jiter_steps.proofs.Words.{map, refl, sym, ap, ◌∙◌, subst, slice_index, slice_get, Option, Some, None, Kind}
+use Rattle.jiter_steps.proofs.Words.{Scanned, taken, failed, Extent, past_blanks, start_of, nesting_limit, Step, more}
+use Rattle.jiter_steps.proofs.Words.{closed, stuck, step, object_colon, Reading, done, fault, Rules, Container}
+use Rattle.jiter_steps.proofs.Words.{scalar_at, with_key, after_colon, after_key, if_forgiven, follow, after_part}
+use Rattle.jiter_steps.proofs.Words.{parts_at, container_at, array_of, object_of, value_with, inside_at, value_at}
+use Rattle.jiter_steps.proofs.Words.{if_last, to_end, if_begun, prefix_answer, unless_refused, whole_answer, Literal}
+use Rattle.jiter_steps.proofs.Words.{Start}
 use Rattle.std.proofs.lemmas.List.{map_push}
-use Rattle.jiter_scan.specs.Kind.{Kind}
-use Rattle.jiter_scan.specs.Scanned.{Scanned, taken, failed}
-use Rattle.jiter_scan.specs.Word.{Extent}
-use Rattle.jiter_steps.specs.Blank.{past_blanks}
-use Rattle.jiter_steps.specs.Literal.{start_of}
-use Rattle.jiter_steps.specs.Node.{nesting_limit}
-use Rattle.jiter_steps.specs.Step.{Step, more, closed, stuck, step, object_colon}
-use Rattle.jiter_steps.specs.Read.{Reading, done, fault, Rules, Container, scalar_at, with_key, after_colon}
-use Rattle.jiter_steps.specs.Read.{after_key, if_forgiven, follow, after_part, parts_at, container_at, array_of}
-use Rattle.jiter_steps.specs.Read.{object_of, value_with, inside_at, value_at, if_last, to_end, if_begun}
-use Rattle.jiter_steps.specs.Read.{prefix_answer, unless_refused, whole_answer}
-use Rattle.jiter_steps.specs.declared.parse.Literal.{Literal}
-use Rattle.jiter_steps.specs.declared.parse.Start.{Start}
 use Rattle.jiter_steps.specs.declared.parse.Start.TheVariants as start
 use Rattle.jiter_steps.specs.declared.parse.ContainerKind.TheVariants as shape
 use Rattle.jiter_steps.proofs.Reading.Bounds.{both}

@@ -1,21 +1,12 @@
 -- The readings that calls answer with stay within the text; so do their faults, and one of the input's end stands at
 -- its length.
-use Rattle.std.proofs.Common.{ℕ, ◌<◌, ◌≤◌, Bool, List, length, arith}
-use Rattle.std.proofs.lemmas.Option.{none-some}
-use Rattle.jiter_scan.specs.Kind.{Kind}
-use Rattle.jiter_scan.specs.Scanned.{Scanned, taken, failed}
-use Rattle.jiter_scan.specs.Word.{Extent}
-use Rattle.jiter_scan.specs.NumberReading.{number_at}
-use Rattle.jiter_scan.specs.declared.partial_mode.PartialMode.{PartialMode}
-use Rattle.jiter_scan.proofs.Scanning.{ScalarWithin}
+use Rattle.jiter_steps.proofs.Words.{ℕ, ◌<◌, ◌≤◌, Bool, List, length, arith, none-some, Kind, Scanned, taken, failed}
+use Rattle.jiter_steps.proofs.Words.{Extent, number_at, PartialMode, ScalarWithin, number_at-within, word_of}
+use Rattle.jiter_steps.proofs.Words.{literal_at, Form, whole, raw, string_at, nesting_limit, seen_as, only_ends}
+use Rattle.jiter_steps.proofs.Words.{whole_trees, partial_trees, value_form, answer, partial_answer, read_at, skip_at}
+use Rattle.jiter_steps.proofs.Words.{Literal}
 use Rattle.jiter_scan.proofs.WordLaws.{WordWithin, word_at-within}
-use Rattle.jiter_scan.proofs.NumberLaws.{number_at-within}
-use Rattle.jiter_steps.specs.Literal.{word_of, literal_at}
-use Rattle.jiter_steps.specs.StringReading.{Form, whole, raw, string_at}
-use Rattle.jiter_steps.specs.Node.{nesting_limit}
-use Rattle.jiter_steps.specs.Answer.{seen_as, trees, only_ends, whole_trees, partial_trees, value_form, answer}
-use Rattle.jiter_steps.specs.Answer.{partial_answer, read_at, skip_at}
-use Rattle.jiter_steps.specs.declared.parse.Literal.{Literal}
+use Rattle.jiter_steps.specs.Answer.{trees}
 use Rattle.jiter_steps.specs.declared.parse.Literal.TheVariants as literal
 use Rattle.jiter_steps.proofs.Reading.Bounds.{Within}
 use Rattle.jiter_steps.proofs.Reading.Values.{Advances, value_at-within}

@@ -1,14 +1,8 @@
 -- The parts of a container, one after another: a container that is read is built of such parts.
-use Rattle.std.proofs.Common.{◌≡◌, ℕ, zero, suc, ◌+◌, ◌<◌, false, List, [], ◌∷◌, ◌++◌, length, refl, sym, subst}
-use Rattle.std.proofs.Common.{arith, append_assoc}
-use Rattle.std.specs.Prelude.{None}
-use Rattle.jiter_scan.specs.Kind.{Kind}
-use Rattle.jiter_scan.proofs.Choices.{if-false}
-use Rattle.jiter_steps.specs.Blank.{IsBlank}
-use Rattle.jiter_steps.specs.Node.{StandsAfter}
-use Rattle.jiter_steps.specs.Read.{Reading, done, fault, Rules, Container, if_forgiven, follow, after_part, parts_at}
-use Rattle.jiter_steps.specs.Read.{container_at}
-use Rattle.jiter_steps.specs.Step.{Step, more, closed, stuck, step}
+use Rattle.jiter_steps.proofs.Words.{◌≡◌, ℕ, zero, suc, ◌+◌, ◌<◌, false, List, [], ◌∷◌, ◌++◌, length, refl, sym, subst}
+use Rattle.jiter_steps.proofs.Words.{arith, append_assoc, None, Kind, if-false, IsBlank, StandsAfter, Reading, done}
+use Rattle.jiter_steps.proofs.Words.{fault, Rules, Container, if_forgiven, follow, after_part, parts_at, container_at}
+use Rattle.jiter_steps.proofs.Words.{Step, more, closed, stuck, step}
 use Rattle.jiter_steps.proofs.Reading.Bounds.{Within}
 use Rattle.jiter_steps.proofs.Grammar.RowSteps.{PartAfter, After, StepIs, Delimits}
 use Rattle.jiter_steps.proofs.Reading.Values.{Goes, part-free}

@@ -1,15 +1,10 @@
 -- How the four forms stand to one another.
-use Rattle.std.proofs.Common.{◌≡◌, ◌≢◌, ℕ, ◌-◌, Bool, List, length, sym, ap, ◌∙◌, arith}
-use Rattle.std.specs.Prelude.{◌==◌}
-use Rattle.std.specs.Str.Lossy.{utf8_valid_len, utf8_error_len}
-use Rattle.std.proofs.lemmas.Bool.{eqb-true}
-use Rattle.std.proofs.lemmas.List.{take_all, drop_all}
-use Rattle.jiter_scan.specs.Kind.{Kind, invalid_code_point}
-use Rattle.jiter_scan.specs.Scanned.{taken, failed}
-use Rattle.jiter_scan.proofs.Choices.{if_gives, failed-taken, same_taken}
-use Rattle.jiter_steps.specs.Tree.{Text}
-use Rattle.jiter_steps.specs.StringReading.{Stop, closed, body_at, whole, kept, raw, valid_prefix, between}
-use Rattle.jiter_steps.specs.StringReading.{text_in_form, content_at}
+use Rattle.jiter_steps.proofs.Words.{◌≡◌, ◌≢◌, ℕ, ◌-◌, Bool, List, length, sym, ap, ◌∙◌, arith, ◌==◌, utf8_valid_len}
+use Rattle.jiter_steps.proofs.Words.{utf8_error_len, eqb-true, take_all, Kind, invalid_code_point, taken, failed}
+use Rattle.jiter_steps.proofs.Words.{if_gives, failed-taken, same_taken, Text, Stop, body_at, whole, kept, raw}
+use Rattle.jiter_steps.proofs.Words.{valid_prefix, between, text_in_form, content_at}
+use Rattle.std.proofs.lemmas.List.{drop_all}
+use Rattle.jiter_steps.specs.StringReading.{closed}
 
 pub kept-valid : (i e : ℕ) (o : Bool) (bs : List ℕ) → utf8_valid_len bs ≡ length bs
     → valid_prefix i o bs e ≡ taken (record { owned = o; bytes = bs }) e

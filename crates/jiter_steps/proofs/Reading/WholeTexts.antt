@@ -1,13 +1,9 @@
 -- The equations of a whole text's reading, and its bounds.
-use Rattle.std.proofs.Common.{◌≡◌, ℕ, ◌<◌, ◌≤◌, List, length, refl, ap, ◌∙◌, arith}
-use Rattle.std.specs.Prelude.{slice_get, Option, Some, None}
-use Rattle.std.proofs.lemmas.Option.{slice_get-get_or, slice_get_past, slice_get_within}
-use Rattle.jiter_scan.specs.Kind.{Kind, eof_value, trailing_characters}
-use Rattle.jiter_scan.proofs.Standing.{get-none}
-use Rattle.jiter_steps.specs.Blank.{past_blanks}
-use Rattle.jiter_steps.specs.Node.{nesting_limit}
-use Rattle.jiter_steps.specs.Read.{Reading, done, fault, Rules, value_at, if_last, to_end, if_begun, prefix_answer}
-use Rattle.jiter_steps.specs.Read.{whole_answer}
+use Rattle.jiter_steps.proofs.Words.{◌≡◌, ℕ, ◌<◌, ◌≤◌, List, length, refl, ap, ◌∙◌, arith, slice_get, Option, Some}
+use Rattle.jiter_steps.proofs.Words.{None, slice_get-get_or, slice_get_past, slice_get_within, Kind, eof_value}
+use Rattle.jiter_steps.proofs.Words.{get-none, past_blanks, nesting_limit, Reading, done, fault, Rules, value_at}
+use Rattle.jiter_steps.proofs.Words.{if_last, to_end, if_begun, prefix_answer, whole_answer}
+use Rattle.jiter_scan.specs.Kind.{trailing_characters}
 use Rattle.jiter_steps.proofs.Grammar.Blanks.{past_blanks-bound}
 use Rattle.jiter_steps.proofs.Reading.Bounds.{Within, fault-end, fault-byte}
 use Rattle.jiter_steps.proofs.Reading.Values.{Advances, value_at-within}

@@ -1,21 +1,12 @@
 -- A reading that refuses repeated keys agrees with the one that does not, or has the fault of a repeated key.
-use Rattle.std.proofs.Common.{◌≡◌, ◌⊎◌, inl, inr, ℕ, zero, suc, ◌+◌, false, List, [], ◌∷◌, ◌++◌, length, refl, sym}
-use Rattle.std.proofs.Common.{ap, ◌∙◌, subst}
-use Rattle.std.specs.Prelude.{slice_get, slice_index, Option, Some, None}
-use Rattle.jiter_scan.specs.Kind.{Kind, duplicate_key}
-use Rattle.jiter_scan.specs.Scanned.{Scanned, taken, failed}
-use Rattle.jiter_scan.specs.Word.{Extent}
-use Rattle.jiter_scan.proofs.Choices.{if-false}
-use Rattle.jiter_steps.specs.Blank.{past_blanks}
-use Rattle.jiter_steps.specs.Literal.{start_of}
-use Rattle.jiter_steps.specs.Node.{nesting_limit}
-use Rattle.jiter_steps.specs.Read.{Reading, done, fault, Rules, Container, with_key, after_colon, after_key}
-use Rattle.jiter_steps.specs.Read.{if_forgiven}
-use Rattle.jiter_steps.specs.Read.{unless_refused, follow, after_part, parts_at, container_at, array_of, object_of}
-use Rattle.jiter_steps.specs.Read.{value_with, inside_at, value_at, if_begun, to_end, prefix_answer, whole_answer}
-use Rattle.jiter_steps.specs.Step.{Step, more, closed, stuck, step, colon, object_colon}
-use Rattle.jiter_steps.specs.Unique.{is_among, after_its_colon, repeated_key, without_repeats}
-use Rattle.jiter_steps.specs.declared.parse.Start.{Start}
+use Rattle.jiter_steps.proofs.Words.{◌≡◌, ◌⊎◌, inl, inr, ℕ, zero, suc, ◌+◌, false, List, [], ◌∷◌, ◌++◌, length, refl}
+use Rattle.jiter_steps.proofs.Words.{sym, ap, ◌∙◌, subst, slice_get, slice_index, Option, Some, None, Kind}
+use Rattle.jiter_steps.proofs.Words.{duplicate_key, Scanned, taken, failed, Extent, if-false, past_blanks, start_of}
+use Rattle.jiter_steps.proofs.Words.{nesting_limit, Reading, done, fault, Rules, Container, with_key, after_colon}
+use Rattle.jiter_steps.proofs.Words.{after_key, if_forgiven, unless_refused, follow, after_part, parts_at, container_at}
+use Rattle.jiter_steps.proofs.Words.{array_of, object_of, value_with, inside_at, value_at, if_begun, to_end}
+use Rattle.jiter_steps.proofs.Words.{prefix_answer, whole_answer, Step, more, closed, stuck, step, colon, object_colon}
+use Rattle.jiter_steps.proofs.Words.{is_among, after_its_colon, repeated_key, without_repeats, Start}
 use Rattle.jiter_steps.specs.declared.parse.Start.TheVariants as start
 use Rattle.jiter_steps.proofs.Reading.Bounds.{either}
 use Rattle.jiter_steps.proofs.Reading.Values.{part_after}

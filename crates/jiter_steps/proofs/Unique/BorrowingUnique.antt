@@ -1,14 +1,10 @@
 -- With partial reading off: where a value is read without the rule on repeated keys, the reading with the rule gives
 -- that value if no object of it has a key twice, and else the fault of a repeated key.
-use Rattle.std.proofs.Common.{◌≡◌, ◌⊎◌, inl, inr, ℕ, zero, suc, ◌+◌, false, List, [], ◌∷◌, ◌++◌, length, refl, sym}
-use Rattle.std.proofs.Common.{ap, ◌∙◌, subst, append-nil, append_assoc}
-use Rattle.std.specs.Prelude.{Option, Some, None}
-use Rattle.jiter_scan.specs.Kind.{Kind}
-use Rattle.jiter_scan.proofs.Choices.{if-false}
-use Rattle.jiter_steps.specs.Read.{Reading, done, fault, Rules, Container, if_forgiven, unless_refused, follow}
-use Rattle.jiter_steps.specs.Read.{after_part, parts_at, container_at}
-use Rattle.jiter_steps.specs.Step.{Step, more, closed, stuck, step}
-use Rattle.jiter_steps.specs.Unique.{without_repeats}
+use Rattle.jiter_steps.proofs.Words.{◌≡◌, ◌⊎◌, inl, inr, ℕ, zero, suc, ◌+◌, false, List, [], ◌∷◌, ◌++◌, length, refl}
+use Rattle.jiter_steps.proofs.Words.{sym, ap, ◌∙◌, subst, append-nil, append_assoc, Option, Some, None, Kind, if-false}
+use Rattle.jiter_steps.proofs.Words.{Reading, done, fault, Rules, Container, if_forgiven, unless_refused, follow}
+use Rattle.jiter_steps.proofs.Words.{after_part, parts_at, container_at, Step, more, closed, stuck, step}
+use Rattle.jiter_steps.proofs.Words.{without_repeats}
 use Rattle.jiter_steps.proofs.Reading.Values.{part_after}
 use Rattle.jiter_steps.proofs.Unique.Agreeing.{IsOfRepeat, IsRepeat, Agrees, RefusesRepeats}
 

@@ -1,18 +1,11 @@
 -- The prefixes of a document with unique keys: no repeated key is met in them, so that what a cut leaves of the document
 -- is answered, and with partial reading off that the input ends too early.
-use Rattle.std.proofs.Common.{◌≡◌, ◌≢◌, ◌⊎◌, inl, inr, ℕ, ◌+◌, ◌<◌, ◌≤◌, Bool, true, false, List, ◌++◌, length, take}
-use Rattle.std.proofs.Common.{refl}
-use Rattle.std.proofs.Common.{sym, ap, ◌∙◌, subst, arith}
-use Rattle.std.specs.Prelude.{drop}
-use Rattle.std.proofs.lemmas.Bool.{cases_lt}
-use Rattle.std.proofs.lemmas.List.{take-append-drop, take-take, take_all}
-use Rattle.jiter_scan.specs.Kind.{Kind, is_end_kind, is_forgiven, invalid_code_point, duplicate_key}
-use Rattle.jiter_scan.specs.declared.partial_mode.PartialMode.{PartialMode}
-use Rattle.jiter_steps.specs.Answer.{whole_trees, partial_trees, partial_answer, answer}
-use Rattle.jiter_steps.specs.Node.{Node, begin, end, IsDocument, IsContainer}
-use Rattle.jiter_steps.specs.Read.{Reading, done, fault, to_end, prefix_answer, whole_answer}
-use Rattle.jiter_steps.specs.Tree.{Tree}
-use Rattle.jiter_steps.specs.Unique.{IsUniqueDocument, own_bytes, unique_answer}
+use Rattle.jiter_steps.proofs.Words.{◌≡◌, ◌≢◌, ◌⊎◌, inl, inr, ℕ, ◌+◌, ◌<◌, ◌≤◌, Bool, true, false, List, ◌++◌, length}
+use Rattle.jiter_steps.proofs.Words.{take, refl, sym, ap, ◌∙◌, subst, arith, drop, cases_lt, take-append-drop}
+use Rattle.jiter_steps.proofs.Words.{take-take, take_all, Kind, is_end_kind, is_forgiven, invalid_code_point}
+use Rattle.jiter_steps.proofs.Words.{duplicate_key, PartialMode, whole_trees, partial_trees, partial_answer, answer}
+use Rattle.jiter_steps.proofs.Words.{Node, begin, end, IsDocument, IsContainer, Reading, done, fault, to_end}
+use Rattle.jiter_steps.proofs.Words.{prefix_answer, whole_answer, Tree, IsUniqueDocument, own_bytes, unique_answer}
 use Rattle.jiter_steps.proofs.Cut.PrefixNodes.{EndsEarly}
 use Rattle.jiter_steps.proofs.Cut.DocumentPrefixes.{prefix-get, prefix-length, prefix-blank, cut-blank}
 use Rattle.jiter_steps.proofs.Cut.Prefixes.{prefix-refused}

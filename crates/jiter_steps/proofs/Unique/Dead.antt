@@ -1,20 +1,13 @@
 -- Where a fault of a byte is answered, that of a repeated key too, no document with unique keys begins with the bytes
 -- up to its index.
-use Rattle.std.proofs.Common.{◌≡◌, ◌≢◌, ℕ, ◌+◌, ◌<◌, ◌≤◌, ◌==◌, Bool, false, List, ◌++◌, map, take, refl, sym}
-use Rattle.std.proofs.Common.{ap, ◌∙◌, subst, arith, cond}
-use Rattle.std.specs.Prelude.{slice_get, Option, Some, None}
-use Rattle.std.proofs.lemmas.Option.{none-some, cond_some, slice_get_within}
-use Rattle.jiter_scan.specs.Kind.{Kind, is_end_kind, invalid_code_point}
-use Rattle.jiter_scan.specs.NumberReading.{extent_then}
-use Rattle.jiter_scan.specs.Scanned.{Scanned, taken, failed}
-use Rattle.jiter_steps.specs.Answer.{whole_trees, nothing_forgiven}
-use Rattle.jiter_steps.specs.Blank.{past_blanks}
-use Rattle.jiter_steps.specs.Read.{Rules, fault}
-use Rattle.jiter_steps.specs.Step.{step, colon, value_first, object_colon}
-use Rattle.jiter_steps.specs.StringReading.{whole, string_at}
-use Rattle.jiter_steps.specs.Tree.{Text, Tree}
-use Rattle.jiter_steps.specs.Unique.{BeginsNoUniqueDocument, is_among, after_its_colon, repeated_key}
-use Rattle.jiter_steps.specs.Unique.{without_repeats, own_bytes, unique_answer}
+use Rattle.jiter_steps.proofs.Words.{◌≡◌, ◌≢◌, ℕ, ◌+◌, ◌<◌, ◌≤◌, ◌==◌, Bool, false, List, ◌++◌, map, take, refl, sym}
+use Rattle.jiter_steps.proofs.Words.{ap, ◌∙◌, subst, arith, cond, slice_get, Option, Some, None, none-some}
+use Rattle.jiter_steps.proofs.Words.{slice_get_within, Kind, is_end_kind, invalid_code_point, extent_then, Scanned}
+use Rattle.jiter_steps.proofs.Words.{taken, failed, whole_trees, nothing_forgiven, past_blanks, Rules, fault, step}
+use Rattle.jiter_steps.proofs.Words.{colon, value_first, object_colon, whole, string_at, Text, Tree, is_among}
+use Rattle.jiter_steps.proofs.Words.{after_its_colon, repeated_key, without_repeats, own_bytes, unique_answer}
+use Rattle.std.proofs.lemmas.Option.{cond_some}
+use Rattle.jiter_steps.specs.Unique.{BeginsNoUniqueDocument}
 use Rattle.jiter_steps.proofs.Fault.Dead.{trees-keep, prefix-same}
 use Rattle.jiter_steps.proofs.Fault.SameReadings.{IsFault, KeepsScalars, ShownFault, whole_answer-stays}
 use Rattle.jiter_steps.proofs.Fault.SameRuns.{past_blanks-same}

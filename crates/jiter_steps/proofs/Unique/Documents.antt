@@ -1,17 +1,11 @@
 -- With partial reading off, the reading that refuses repeated keys answers exactly the documents in which no object has
 -- two keys of the same characters.
-use Rattle.std.proofs.Common.{◌≡◌, inl, inr, ℕ, Bool, List, [], ◌∷◌, map, refl, sym, ap, ◌∙◌, subst}
-use Rattle.std.specs.Prelude.{slice_get, Option, Some, None, if◌then◌else◌}
-use Rattle.jiter_scan.specs.Scanned.{Scanned, taken, failed}
-use Rattle.jiter_steps.specs.Answer.{seen_as, whole_trees}
-use Rattle.jiter_steps.specs.Blank.{past_blanks}
-use Rattle.jiter_steps.specs.Node.{Key, Node, end, value_of, nesting_limit}
-use Rattle.jiter_steps.specs.Read.{Reading, done, fault, if_last, to_end, if_begun, prefix_answer, whole_answer}
-use Rattle.jiter_steps.specs.Step.{step, colon}
-use Rattle.jiter_steps.specs.StringReading.{whole, string_at}
-use Rattle.jiter_steps.specs.Tree.{Text, Tree}
-use Rattle.jiter_steps.specs.Unique.{HasUniqueKeys, IsUniqueDocument, is_among, after_its_colon, repeated_key}
-use Rattle.jiter_steps.specs.Unique.{without_repeats, own_bytes, unique_answer}
+use Rattle.jiter_steps.proofs.Words.{◌≡◌, inl, inr, ℕ, Bool, List, [], ◌∷◌, map, refl, sym, ap, ◌∙◌, subst, slice_get}
+use Rattle.jiter_steps.proofs.Words.{Option, Some, None, if◌then◌else◌, Scanned, taken, failed, seen_as, whole_trees}
+use Rattle.jiter_steps.proofs.Words.{past_blanks, Key, Node, end, value_of, nesting_limit, Reading, done, fault}
+use Rattle.jiter_steps.proofs.Words.{if_last, to_end, if_begun, prefix_answer, whole_answer, step, colon, whole}
+use Rattle.jiter_steps.proofs.Words.{string_at, Text, Tree, HasUniqueKeys, IsUniqueDocument, is_among, after_its_colon}
+use Rattle.jiter_steps.proofs.Words.{repeated_key, without_repeats, own_bytes, unique_answer}
 use Rattle.jiter_steps.proofs.Grammar.Documents.{key_text, Fits, nodes-lead, answer-sound, prefix-complete}
 use Rattle.jiter_steps.proofs.Grammar.Documents.{answer-complete}
 use Rattle.jiter_steps.proofs.Grammar.NodeRules.{nodes, key_of}

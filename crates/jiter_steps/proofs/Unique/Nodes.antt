@@ -1,26 +1,14 @@
 -- Where a node is read with partial reading off, the reading that refuses repeated keys agrees exactly if no object of
 -- the node has two keys of the same characters.
-use Rattle.std.proofs.Common.{◌≡◌, ℕ, zero, suc, Bool, true, false, List}
-use Rattle.std.proofs.Common.{refl, sym, ap, ◌∙◌, subst}
-use Rattle.std.specs.Prelude.{slice_index, Some, None}
+use Rattle.jiter_steps.proofs.Words.{◌≡◌, ℕ, zero, suc, Bool, true, false, List, refl, sym, ap, ◌∙◌, subst, slice_index}
+use Rattle.jiter_steps.proofs.Words.{Some, None, none-some, Kind, duplicate_key, if-false, if-true, Scanned, taken}
+use Rattle.jiter_steps.proofs.Words.{failed, Extent, extent_then, number_at, seen_as, whole, string_at, start_of}
+use Rattle.jiter_steps.proofs.Words.{literal_at, Key, Node, Reading, done, fault, Rules, scalar_at, with_key}
+use Rattle.jiter_steps.proofs.Words.{after_colon, after_key, array_of, object_of, value_with, inside_at, value_at, step}
+use Rattle.jiter_steps.proofs.Words.{colon, value_first, object_colon, HasUniqueKeys, ItemsHaveUniqueKeys}
+use Rattle.jiter_steps.proofs.Words.{MembersHaveUniqueKeys, is_among, after_its_colon, repeated_key, without_repeats}
+use Rattle.jiter_steps.proofs.Words.{Start}
 use Rattle.std.proofs.lemmas.Bool.{false_from_ne_true}
-use Rattle.std.proofs.lemmas.Option.{none-some}
-use Rattle.jiter_scan.specs.Kind.{Kind, duplicate_key}
-use Rattle.jiter_scan.proofs.Choices.{if-false, if-true}
-use Rattle.jiter_scan.specs.Scanned.{Scanned, taken, failed}
-use Rattle.jiter_scan.specs.Word.{Extent}
-use Rattle.jiter_scan.specs.NumberReading.{extent_then, number_at}
-use Rattle.jiter_steps.specs.Answer.{seen_as}
-use Rattle.jiter_steps.specs.StringReading.{whole, string_at}
-use Rattle.jiter_steps.specs.Literal.{start_of, literal_at}
-use Rattle.jiter_steps.specs.Node.{Key, Node}
-use Rattle.jiter_steps.specs.Read.{Reading, done, fault, Rules, scalar_at, with_key, after_colon, after_key, array_of}
-use Rattle.jiter_steps.specs.Read.{object_of}
-use Rattle.jiter_steps.specs.Read.{value_with, inside_at, value_at}
-use Rattle.jiter_steps.specs.Step.{step, colon, value_first, object_colon}
-use Rattle.jiter_steps.specs.Unique.{HasUniqueKeys, ItemsHaveUniqueKeys, MembersHaveUniqueKeys, is_among}
-use Rattle.jiter_steps.specs.Unique.{after_its_colon, repeated_key, without_repeats}
-use Rattle.jiter_steps.specs.declared.parse.Start.{Start}
 use Rattle.jiter_steps.specs.declared.parse.Start.TheVariants as start
 use Rattle.jiter_steps.proofs.Grammar.NodeRules.{nodes, nodes_of, node_members_of}
 use Rattle.jiter_steps.proofs.Reading.Fused.{mapped}

@@ -1,38 +1,21 @@
 -- A partial reading beside the same reading with partial reading off, both of which refuse repeated keys: where that
 -- reads a value so does this, and where that misses the end of the input this meets no repeated key.
-use Rattle.std.proofs.Common.{◌≡◌, ◌≢◌, ℕ, zero, suc, ◌+◌, ◌<◌, ◌≤◌, ◌==◌, Bool, true, false, List, [], ◌∷◌, ◌++◌}
-use Rattle.std.proofs.Common.{length}
-use Rattle.std.proofs.Common.{IfSome}
-use Rattle.std.proofs.Common.{refl, sym, ap, ◌∙◌, subst, arith}
-use Rattle.std.specs.Prelude.{slice_get, slice_index, Option, Some, None, if◌then◌else◌}
-use Rattle.std.specs.Str.Lossy.{utf8_valid_len, utf8_error_len}
-use Rattle.std.specs.Prelude.{drop}
-use Rattle.std.proofs.lemmas.Bool.{false≢true}
-use Rattle.std.proofs.lemmas.Option.{slice_get_past, slice_get_within, slice_get-get_or}
-use Rattle.jiter_scan.specs.Kind.{Kind, is_end_kind, is_forgiven, duplicate_key, invalid_code_point}
-use Rattle.jiter_scan.specs.NumberReading.{number_at}
-use Rattle.jiter_scan.specs.PartialMode.{allows_trailing_strings}
-use Rattle.jiter_scan.specs.Scanned.{Scanned, taken, failed}
-use Rattle.jiter_scan.specs.Word.{Extent}
-use Rattle.jiter_scan.specs.declared.partial_mode.PartialMode.{PartialMode}
-use Rattle.jiter_scan.proofs.Scanning.{ScalarWithin}
-use Rattle.jiter_scan.proofs.Choices.{if-true}
-use Rattle.jiter_steps.specs.Answer.{seen_as, whole_trees, partial_trees, nothing_forgiven}
-use Rattle.jiter_steps.specs.Blank.{past_blanks}
-use Rattle.jiter_steps.specs.Literal.{start_of, literal_at}
-use Rattle.jiter_steps.specs.Node.{nesting_limit}
-use Rattle.jiter_steps.specs.Read.{Reading, done, fault, Rules, Container, scalar_at, with_key, after_colon}
-use Rattle.jiter_steps.specs.Read.{after_key}
-use Rattle.jiter_steps.specs.Read.{if_forgiven, unless_refused, follow, after_part, parts_at, container_at, array_of}
-use Rattle.jiter_steps.specs.Read.{object_of, value_with, inside_at, value_at, if_begun, prefix_answer}
-use Rattle.jiter_steps.specs.Step.{Step, more, closed, stuck, step, object_colon}
-use Rattle.jiter_steps.specs.StringReading.{Stop, closed, unclosed, cut, wrong, whole, kept, body_at, valid_prefix_by}
-use Rattle.jiter_steps.specs.StringReading.{text_in_form, content_at, string_at}
-use Rattle.jiter_steps.specs.Tree.{Text, Tree}
+use Rattle.jiter_steps.proofs.Words.{◌≡◌, ◌≢◌, ℕ, zero, suc, ◌+◌, ◌<◌, ◌≤◌, ◌==◌, Bool, true, false, List, [], ◌∷◌}
+use Rattle.jiter_steps.proofs.Words.{◌++◌, length, IfSome, refl, sym, ap, ◌∙◌, subst, arith, slice_get, slice_index}
+use Rattle.jiter_steps.proofs.Words.{Option, Some, None, if◌then◌else◌, utf8_valid_len, utf8_error_len, drop}
+use Rattle.jiter_steps.proofs.Words.{false≢true, slice_get_past, slice_get_within, slice_get-get_or, Kind, is_end_kind}
+use Rattle.jiter_steps.proofs.Words.{is_forgiven, duplicate_key, invalid_code_point, number_at, allows_trailing_strings}
+use Rattle.jiter_steps.proofs.Words.{Scanned, taken, failed, Extent, PartialMode, ScalarWithin, if-true, seen_as}
+use Rattle.jiter_steps.proofs.Words.{whole_trees, partial_trees, nothing_forgiven, past_blanks, start_of, literal_at}
+use Rattle.jiter_steps.proofs.Words.{nesting_limit, Reading, done, fault, Rules, Container, scalar_at, with_key}
+use Rattle.jiter_steps.proofs.Words.{after_colon, after_key, if_forgiven, unless_refused, follow, after_part, parts_at}
+use Rattle.jiter_steps.proofs.Words.{container_at, array_of, object_of, value_with, inside_at, value_at, if_begun}
+use Rattle.jiter_steps.proofs.Words.{prefix_answer, Step, more, closed, stuck, step, object_colon, Stop, unclosed, cut}
+use Rattle.jiter_steps.proofs.Words.{wrong, whole, kept, body_at, valid_prefix_by, text_in_form, content_at, string_at}
+use Rattle.jiter_steps.proofs.Words.{Text, Tree, without_repeats, own_bytes, Start}
+use Rattle.jiter_steps.specs.StringReading.{closed}
 use Rattle.jiter_steps.specs.Tree as tree
-use Rattle.jiter_steps.specs.Unique.{without_repeats, own_bytes}
 use Rattle.jiter_steps.specs.declared.parse.ContainerKind.TheVariants as shape
-use Rattle.jiter_steps.specs.declared.parse.Start.{Start}
 use Rattle.jiter_steps.specs.declared.parse.Start.TheVariants as start
 use Rattle.jiter_steps.proofs.Cut.Halting.{Halts, StuckAt, byte-halts, container-halts}
 use Rattle.jiter_steps.proofs.Reading.Bounds.{Ahead, ExtentAhead, Within, either, container_first-ahead}

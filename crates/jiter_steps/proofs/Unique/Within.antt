@@ -1,19 +1,10 @@
 -- Rules that refuse repeated keys: a repeated key's fault stands after the key and within the text, so that readings
 -- do.
-use Rattle.std.proofs.Common.{◌≡◌, ℕ, ◌+◌, ◌<◌, ◌≤◌, Bool, List, map, arith, refl, subst, ◌==◌}
-use Rattle.std.specs.Prelude.{Option, Some, None, slice_get}
-use Rattle.std.proofs.lemmas.Option.{slice_get_within}
-use Rattle.jiter_scan.specs.Kind.{Kind, duplicate_key}
-use Rattle.jiter_scan.specs.Scanned.{Scanned, taken, failed}
-use Rattle.jiter_scan.specs.declared.partial_mode.PartialMode.{PartialMode}
-use Rattle.jiter_scan.proofs.Scanning.{ScalarWithin, FaultAt}
-use Rattle.jiter_steps.specs.Answer.{whole_trees, partial_trees, value_form, nothing_forgiven}
-use Rattle.jiter_steps.specs.Blank.{past_blanks}
-use Rattle.jiter_steps.specs.Read.{Rules, prefix_answer}
-use Rattle.jiter_steps.specs.Step.{colon}
-use Rattle.jiter_steps.specs.StringReading.{whole}
-use Rattle.jiter_steps.specs.Unique.{is_among, after_its_colon, repeated_key, without_repeats, own_bytes}
-use Rattle.jiter_steps.specs.Unique.{unique_answer}
+use Rattle.jiter_steps.proofs.Words.{◌≡◌, ℕ, ◌+◌, ◌<◌, ◌≤◌, Bool, List, map, arith, refl, subst, ◌==◌, Option, Some}
+use Rattle.jiter_steps.proofs.Words.{None, slice_get, slice_get_within, Kind, duplicate_key, Scanned, taken, failed}
+use Rattle.jiter_steps.proofs.Words.{PartialMode, ScalarWithin, FaultAt, whole_trees, partial_trees, value_form}
+use Rattle.jiter_steps.proofs.Words.{nothing_forgiven, past_blanks, Rules, prefix_answer, colon, whole, is_among}
+use Rattle.jiter_steps.proofs.Words.{after_its_colon, repeated_key, without_repeats, own_bytes, unique_answer}
 use Rattle.jiter_steps.proofs.Grammar.Blanks.{past_blanks-after}
 use Rattle.jiter_steps.proofs.Reading.Bounds.{Within, either, fault-byte}
 use Rattle.jiter_steps.proofs.Reading.Instances.{trees-advances}

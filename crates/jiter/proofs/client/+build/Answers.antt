@@ -1,17 +1,10 @@
-use Rattle.std.proofs.Common.{◌≡◌, ◌∙◌, refl, sym, ap, subst, rules, arith, ◌<◌, Some, Ok, Err, option_map}
-use Rattle.jiter_scan.specs.Kind.{recursion_limit}
-use Rattle.jiter_steps.specs.Literal.{start_of}
+use Rattle.jiter.proofs.Words.{◌≡◌, ◌∙◌, refl, sym, ap, subst, rules, arith, ◌<◌, Some, Ok, Err, option_map}
+use Rattle.jiter.proofs.Words.{recursion_limit, start_of, member_view, view, json_error, owned_trees, byte_of, Reads}
+use Rattle.jiter.proofs.Words.{anywhere, refused, value_reply}
 use Rattle.jiter_steps.specs.declared.parse.Start.TheVariants as start
 use Rattle.jiter_steps.proofs.Grammar.Sound.{array-byte, object-byte}
 use Rattle.jiter_steps.proofs.Reading.Values.{inside_at-none, inside_at-starts}
-use Rattle.jiter_value.specs.Stacks.{member_view}
-use Rattle.jiter_value.specs.Value.{view}
 use Rattle.jiter_value.proofs.Views.{view_array, view_object}
-use Rattle.jiter.specs.Cause.{json_error}
-use Rattle.jiter.specs.Client.{owned_trees}
-use Rattle.jiter.specs.Jiter.{byte_of}
-use Rattle.jiter.specs.Reads.{Reads, anywhere}
-use Rattle.jiter.specs.Reader.{refused, value_reply}
 use Rattle.jiter.proofs.Building.{known-first, items-laws, members-laws}
 use Rattle.jiter.proofs.Containers.{passed-on, map-pushed, array-opens, object-opens, begins}
 use Rattle.jiter.proofs.Containers.{first-refused, part-refused, stuck-after, turn-ahead, goes-on, ended}

@@ -1,10 +1,7 @@
-use Rattle.std.proofs.Common.{◌+◌, ◌-◌, ◌*◌, length, map, option_map}
-use Rattle.jiter_steps.specs.StringDecoder.{text_view}
-use Rattle.jiter_value.specs.Stacks.{member_view}
-use Rattle.jiter_value.specs.Value.{view}
+use Rattle.jiter.proofs.Words.{◌+◌, ◌-◌, length, map, option_map, text_view, member_view, view, byte_of}
+use Rattle.std.proofs.Common.{◌*◌}
 use Rattle.jiter.proofs.Building.{items, members}
 use Rattle.jiter.proofs.Containers.{In}
-use Rattle.jiter.specs.Jiter.{byte_of}
 use Rattle.jiter.proofs.client.+build.Given as goal
 
 abbrev pub decreases-build_value : goal.decreases-build_value

@@ -1,8 +1,6 @@
-use Rattle.std.proofs.Common.{◌∙◌, ap, sym}
+use Rattle.jiter.proofs.Words.{◌∙◌, ap, sym, byte_of, reply_seen, gave}
 use Rattle.jiter_steps.specs.Tree.{boolean}
 use Rattle.jiter_value.proofs.Views.{view_bool}
-use Rattle.jiter.specs.Jiter.{byte_of, reply_seen}
-use Rattle.jiter.specs.Reader.{gave}
 use Rattle.jiter.proofs.Building.{known-first, bool-built}
 use Rattle.jiter.proofs.Containers.{passed-on}
 use Rattle.jiter.proofs.client.build_bool.Goals as goal

@@ -1,8 +1,4 @@
-use Rattle.std.proofs.Common.{option_map}
-use Rattle.jiter_steps.specs.StringReading.{whole}
-use Rattle.jiter_value.specs.Owned.{owned_text}
-use Rattle.jiter.specs.Jiter.{key_bytes}
-use Rattle.jiter.specs.Reader.{known, object_read}
+use Rattle.jiter.proofs.Words.{option_map, whole, owned_text, key_bytes, known, object_read}
 use Rattle.jiter.proofs.Containers.{passed-on, refused-seen}
 use Rattle.jiter.proofs.ReadLaws.{read-anywhere}
 use Rattle.jiter.proofs.client.first_key.Goals as goal

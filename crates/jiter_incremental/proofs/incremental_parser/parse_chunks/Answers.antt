@@ -1,6 +1,4 @@
-use Rattle.std.proofs.Common.{◌∙◌, ap, arith, subst, sym, take}
-use Rattle.std.proofs.lemmas.List.{take_all}
-use Rattle.jiter_incremental.specs.IncrementalParser.{HasReceived}
+use Rattle.jiter_incremental.proofs.Words.{◌∙◌, ap, arith, subst, sym, take, take_all, HasReceived}
 use Rattle.jiter_incremental.proofs.Pushing.{bytes_of, never-refused, chunks-more, chunks-refused, refused-promised}
 use Rattle.jiter_incremental.proofs.incremental_parser.parse_chunks.Goals as goal
 

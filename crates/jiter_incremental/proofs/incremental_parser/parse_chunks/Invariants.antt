@@ -1,6 +1,4 @@
-use Rattle.std.proofs.Common.{◌≡◌, ◌^◌, ◌<◌, take}
-use Rattle.std.specs.List.{flat_map}
-use Rattle.jiter_incremental.specs.IncrementalParser.{HasReceived}
+use Rattle.jiter_incremental.proofs.Words.{◌≡◌, ◌^◌, ◌<◌, take, flat_map, HasReceived}
 use Rattle.jiter_incremental.proofs.incremental_parser.parse_chunks.Given as goal
 
 -- the chunks before this one have been received

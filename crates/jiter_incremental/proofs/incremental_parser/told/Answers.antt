@@ -1,7 +1,4 @@
-use Rattle.std.proofs.Common.{Option, Some, subst}
-use Rattle.jiter_scan.specs.declared.errors.Fault.{Fault}
-use Rattle.jiter_incremental.specs.Ends.{AnswersSo}
-use Rattle.jiter_value.specs.Value.{view}
+use Rattle.jiter_incremental.proofs.Words.{Option, Some, subst, Fault, AnswersSo, view}
 use Rattle.jiter_incremental.proofs.Received.{fault-promised, value-promised}
 use Rattle.jiter_incremental.proofs.incremental_parser.told.Goals as goal
 

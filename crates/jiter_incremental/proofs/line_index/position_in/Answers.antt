@@ -1,5 +1,4 @@
-use Rattle.std.proofs.Common.{◌≡◌, ◌≤◌, ◌+◌, ◌∙◌, ap, arith, length, take}
-use Rattle.std.proofs.lemmas.List.{take_all}
+use Rattle.jiter_incremental.proofs.Words.{◌≡◌, ◌≤◌, ◌+◌, ◌∙◌, ap, arith, length, take, take_all}
 use Rattle.jiter_incremental.proofs.LinePlaces.{at_start, end-of-all, end-within, place-after, place-stays, place_in, position-found}
 use Rattle.jiter_incremental.proofs.line_index.position_in.Goals as goal
 use Rattle.jiter_incremental.proofs.line_index.position_in.Goals.{then-index-size, else-index-size, then-feed-end, else-feed-end}

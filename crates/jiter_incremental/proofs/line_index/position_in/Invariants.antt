@@ -1,4 +1,4 @@
-use Rattle.std.proofs.Common.{◌≡◌, ◌+◌, ◌≤◌, take}
+use Rattle.jiter_incremental.proofs.Words.{◌≡◌, ◌+◌, ◌≤◌, take}
 use Rattle.jiter_incremental.proofs.LinePlaces.{Place, at_start, place_in}
 use Rattle.jiter_incremental.proofs.line_index.position_in.Given as goal
 

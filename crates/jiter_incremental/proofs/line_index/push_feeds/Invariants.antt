@@ -1,5 +1,4 @@
-use Rattle.std.proofs.Common.{◌≡◌, ◌++◌, take}
-use Rattle.jiter_incremental.specs.LineIndex.{feeds_from}
+use Rattle.jiter_incremental.proofs.Words.{◌≡◌, ◌++◌, take, feeds_from}
 use Rattle.jiter_incremental.proofs.line_index.push_feeds.Given as goal
 
 abbrev pub invariant-loop-offset : goal.invariant-loop-offset

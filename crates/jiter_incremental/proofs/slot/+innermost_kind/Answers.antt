@@ -1,6 +1,4 @@
-use Rattle.std.proofs.Common.{◌-◌, ◌∙◌, refl, sym, ap, arith}
-use Rattle.std.specs.Vec.{with_item}
-use Rattle.jiter_value.specs.Value.{view}
+use Rattle.jiter_incremental.proofs.Words.{◌-◌, ◌∙◌, refl, sym, ap, arith, with_item, view}
 use Rattle.jiter_incremental.proofs.Innermost.{none-other, outermost}
 use Rattle.jiter_incremental.proofs.Slots.{array-place, array-swapped, object-place, object-swapped}
 use Rattle.jiter_incremental.proofs.slot.+innermost_kind.Goals as goal

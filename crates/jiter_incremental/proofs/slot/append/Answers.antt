@@ -1,10 +1,6 @@
-use Rattle.std.proofs.Common.{◌≡◌, ◌∷◌, ◌++◌, [], ◌∙◌, ap, ap₂, sym}
-use Rattle.jiter_steps.specs.StringDecoder.{text_view}
-use Rattle.jiter_incremental.specs.Slot.{OpenFrame, around, begun, IsOfKey}
-use Rattle.jiter_value.specs.Value.{view}
-use Rattle.jiter_value.specs.declared.value.JsonValue.{Array, Object}
+use Rattle.jiter_incremental.proofs.Words.{◌≡◌, ◌∷◌, ◌++◌, [], ◌∙◌, ap, ap₂, sym, text_view, OpenFrame, around, begun}
+use Rattle.jiter_incremental.proofs.Words.{IsOfKey, view, Array, Object, view_array, view_object}
 use Rattle.jiter_incremental.proofs.Slots.{array-around, object-around, array-begun, object-begun, out-array, out-object}
-use Rattle.jiter_value.proofs.Views.{view_array, view_object}
 use Rattle.jiter_incremental.proofs.slot.append.Goals as goal
 
 pub returns-in-Array : goal.returns-in-Array

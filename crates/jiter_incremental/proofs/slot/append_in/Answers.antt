@@ -1,6 +1,4 @@
-use Rattle.std.proofs.Common.{◌≡◌, ◌-◌, ◌<◌, ◌∙◌, refl, sym, ap, arith, vec_len}
-use Rattle.std.specs.Vec.{with_item}
-use Rattle.jiter_value.specs.Value.{view}
+use Rattle.jiter_incremental.proofs.Words.{◌≡◌, ◌-◌, ◌<◌, ◌∙◌, refl, sym, ap, arith, vec_len, with_item, view}
 use Rattle.jiter_incremental.proofs.Slots.{array-grown, array-kept, array-place, array-swapped, object-grown, object-kept, object-place}
 use Rattle.jiter_incremental.proofs.Slots.{object-swapped, out-array, out-object, root-grown}
 use Rattle.jiter_incremental.proofs.slot.append_in.Goals as goal

@@ -1,12 +1,8 @@
-use Rattle.std.proofs.Common.{◌≡◌, ◌∷◌, ◌++◌, [], ◌∙◌, ap, sym, arith, length, length-append, vec_len}
-use Rattle.jiter_steps.specs.StringDecoder.{text_view}
-use Rattle.jiter_steps.specs.Tree.{Tree}
-use Rattle.jiter_incremental.specs.Slot.{OpenFrame, IsOfKey, around, begun}
-use Rattle.jiter_value.specs.Value.{view}
-use Rattle.jiter_value.specs.declared.value.JsonValue.{Array, Object}
+use Rattle.jiter_incremental.proofs.Words.{◌≡◌, ◌∷◌, ◌++◌, [], ◌∙◌, ap, sym, arith, length, length-append, vec_len}
+use Rattle.jiter_incremental.proofs.Words.{text_view, Tree, OpenFrame, IsOfKey, around, begun, view, Array, Object}
+use Rattle.jiter_incremental.proofs.Words.{view_array, view_object}
 use Rattle.jiter_incremental.proofs.Slots.{array-last, object-last, array-without, last-item, last-member, object-without}
 use Rattle.jiter_incremental.proofs.Slots.{out-array, out-object}
-use Rattle.jiter_value.proofs.Views.{view_array, view_object}
 use Rattle.jiter_incremental.proofs.slot.remove.Goals as goal
 
 pub unreachable-requires : goal.unreachable-requires

@@ -1,6 +1,4 @@
-use Rattle.std.proofs.Common.{◌∙◌, sym, ap, arith}
-use lib.Count.{count_trailing_zeros}
-use Rattle.jiter_scan.specs.Digits.{is_digit}
+use Rattle.jiter_scan.proofs.Words.{◌∙◌, sym, ap, arith, count_trailing_zeros, is_digit}
 use Rattle.jiter_scan.proofs.Chunks.{prefix_len-all, prefix_len-failing, list_all-failing-zero}
 use Rattle.jiter_scan.proofs.decimal.digit_count.Goals as goal
 

@@ -1,5 +1,4 @@
-use Rattle.std.proofs.Common.{◌∙◌, sym, arith}
-use Rattle.jiter_scan.specs.Digits.{is_digit}
+use Rattle.jiter_scan.proofs.Words.{◌∙◌, sym, arith, is_digit}
 use Rattle.jiter_scan.proofs.Chunks.{run_end-clear, run_end-stopped}
 use Rattle.jiter_scan.proofs.Runs.{run_end-passing, run_end-stopping, run_end-past, run_end-within}
 use Rattle.jiter_scan.proofs.decimal.digit_run_end.Goals as goal

@@ -1,5 +1,4 @@
-use Rattle.std.proofs.Common.{◌≡◌, ◌-◌, ◌≤◌, length}
-use Rattle.jiter_scan.specs.Digits.{digit_run_end}
+use Rattle.jiter_scan.proofs.Words.{◌≡◌, ◌-◌, ◌≤◌, length, digit_run_end}
 use Rattle.jiter_scan.proofs.decimal.digit_run_end.Given as goal
 
 abbrev pub invariant-chunks : goal.invariant-chunks

@@ -1,12 +1,9 @@
-use Rattle.std.specs.List.{prefix_len}
-use Rattle.std.proofs.Math.Nat.{pow-le-pow_right, mul-le-mul}
-use Rattle.std.proofs.Common.{◌<◌, ℕ, ◌≤◌, ◌+◌, ◌*◌, ◌-◌, ◌^◌, take, drop, map, sym, ap, ap₂, ◌∙◌, arith, take-take}
-use Rattle.std.specs.Int.Digits.{number_from_digits, AllBelowBase}
-use Rattle.jiter_scan.specs.Digits.{is_digit}
-use Rattle.jiter_scan.specs.Simd.{less_zero}
+use Rattle.jiter_scan.proofs.Words.{prefix_len, pow-le-pow_right, ◌<◌, ℕ, ◌≤◌, ◌+◌, ◌*◌, ◌-◌, ◌^◌, take, drop, map, sym}
+use Rattle.jiter_scan.proofs.Words.{ap, ap₂, ◌∙◌, arith, take-take, number_from_digits, AllBelowBase, is_digit}
+use Rattle.jiter_scan.proofs.Words.{less_zero, length-map}
+use Rattle.std.proofs.Math.Nat.{mul-le-mul}
 use Rattle.jiter_scan.proofs.DigitWords.{decimal_of-digits, IsEightBytes-low, IsEightBytes-high, number-in_two}
 use Rattle.jiter_scan.proofs.DigitWords.{AllBelowBase-in_two, number-eight_below}
-use Rattle.std.proofs.lemmas.List.{length-map}
 use Rattle.jiter_scan.proofs.decimal.digit_word.Goals as goal
 
 -- eight digits, and at most eight after them

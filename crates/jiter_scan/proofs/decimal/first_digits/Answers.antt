@@ -1,4 +1,4 @@
-use Rattle.std.proofs.Common.{arith, ◌∙◌}
+use Rattle.jiter_scan.proofs.Words.{arith, ◌∙◌}
 use Rattle.jiter_scan.proofs.DigitWords.{number_l-shifted, number-eight_below}
 use Rattle.jiter_scan.proofs.decimal.first_digits.Goals as goal
 

@@ -1,4 +1,4 @@
-use Rattle.std.proofs.Common.{◌+◌, ◌-◌, ◌≡◌, ◌∙◌, ap, take, drop, take-take, arith}
+use Rattle.jiter_scan.proofs.Words.{◌+◌, ◌-◌, ◌≡◌, ◌∙◌, ap, take, drop, take-take, arith}
 use Rattle.jiter_scan.proofs.decimal.full_chunk_at.Goals as goal
 
 pub returns : goal.returns

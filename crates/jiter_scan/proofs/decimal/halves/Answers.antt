@@ -1,8 +1,5 @@
-use Rattle.std.proofs.Common.{◌+◌, ◌-◌, ◌/◌, ◌%◌, ◌^◌, ap, ◌∙◌, map, arith}
-use Rattle.std.proofs.lemmas.Simd.{zip2_splat}
-use Rattle.std.proofs.lemmas.List.{length-map}
-use lib.Lanes.{number_l}
-use Rattle.jiter_scan.specs.Simd.{less_zero}
+use Rattle.jiter_scan.proofs.Words.{◌+◌, ◌-◌, ◌/◌, ◌%◌, ◌^◌, ap, ◌∙◌, map, arith, zip2_splat, length-map, number_l}
+use Rattle.jiter_scan.proofs.Words.{less_zero}
 use Rattle.jiter_scan.proofs.DigitWords.{number_l-prefix, number_l-high, less_zero-below}
 use Rattle.jiter_scan.proofs.decimal.halves.Goals as goal
 

@@ -1,4 +1,4 @@
-use Rattle.std.proofs.Common.{◌+◌, ◌*◌, ap}
+use Rattle.jiter_scan.proofs.Words.{◌+◌, ◌*◌, ap}
 use Rattle.jiter_scan.proofs.DigitWords.{power-at}
 use Rattle.jiter_scan.proofs.decimal.joined.Goals as goal
 

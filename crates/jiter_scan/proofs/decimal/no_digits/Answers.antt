@@ -1,7 +1,4 @@
-use Rattle.std.proofs.Common.{◌+◌, ◌-◌, ◌%◌, refl}
-use Rattle.std.proofs.lemmas.Simd.{zip2_splat, zip2_of_maps, splat_is_map}
-use Rattle.jiter_scan.specs.Digits.{is_digit}
-use Rattle.jiter_scan.specs.Simd.{less_zero}
+use Rattle.jiter_scan.proofs.Words.{◌+◌, ◌-◌, ◌%◌, refl, zip2_splat, zip2_of_maps, splat_is_map, is_digit, less_zero}
 use Rattle.jiter_scan.proofs.Lanes.{if_at_most, failing-lanes}
 use Rattle.jiter_scan.proofs.decimal.no_digits.Goals as goal
 

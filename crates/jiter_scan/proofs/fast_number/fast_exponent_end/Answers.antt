@@ -1,5 +1,4 @@
-use Rattle.std.proofs.Common.{get_or, sym, ◌∙◌, arith}
-use Rattle.std.proofs.lemmas.Option.{IfSome_then, slice_get-get_or}
+use Rattle.jiter_scan.proofs.Words.{get_or, sym, ◌∙◌, arith, IfSome_then, slice_get-get_or}
 use Rattle.jiter_scan.proofs.FastNumbers.{exponent_at-run, exponent_at-none}
 use Rattle.jiter_scan.proofs.fast_number.fast_exponent_end.Goals as goal
 

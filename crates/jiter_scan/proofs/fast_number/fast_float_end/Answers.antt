@@ -1,4 +1,4 @@
-use Rattle.std.proofs.lemmas.Option.{IfSome_then}
+use Rattle.jiter_scan.proofs.Words.{IfSome_then}
 use Rattle.jiter_scan.proofs.NumberExtents.{tail-parts}
 use Rattle.jiter_scan.proofs.fast_number.fast_float_end.Goals as goal
 

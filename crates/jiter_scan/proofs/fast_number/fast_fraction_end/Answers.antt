@@ -1,7 +1,4 @@
-use Rattle.std.proofs.Common.{◌+◌, get_or, ap, ◌∙◌, arith}
-use Rattle.std.specs.Prelude.{Some}
-use Rattle.std.proofs.lemmas.Bool.{ne_eqb}
-use Rattle.std.proofs.lemmas.Option.{IfSome_then, slice_get-get_or}
+use Rattle.jiter_scan.proofs.Words.{◌+◌, get_or, ap, ◌∙◌, arith, Some, ne_eqb, IfSome_then, slice_get-get_or}
 use Rattle.jiter_scan.proofs.FastNumbers.{digits-counted, digits-of_chunk, fraction_at-run, fraction_at-none}
 use Rattle.jiter_scan.proofs.fast_number.fast_fraction_end.Goals as goal
 

@@ -1,4 +1,4 @@
-use Rattle.std.proofs.Common.{arith}
+use Rattle.jiter_scan.proofs.Words.{arith}
 use Rattle.jiter_scan.proofs.FastNumbers.{integer-last}
 use Rattle.jiter_scan.proofs.fast_number.last_integer_at.Goals as goal
 

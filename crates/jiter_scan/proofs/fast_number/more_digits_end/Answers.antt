@@ -1,4 +1,4 @@
-use Rattle.std.proofs.Common.{arith}
+use Rattle.jiter_scan.proofs.Words.{arith}
 use Rattle.jiter_scan.proofs.FastNumbers.{digits-in_two}
 use Rattle.jiter_scan.proofs.fast_number.more_digits_end.Goals as goal
 

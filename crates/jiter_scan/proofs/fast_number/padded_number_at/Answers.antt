@@ -1,8 +1,5 @@
-use Rattle.std.proofs.Common.{◌+◌, inl, inr, get_or, sym, ap, ◌∙◌, arith}
-use Rattle.std.proofs.lemmas.Option.{slice_get-get_or}
-use Rattle.std.proofs.lemmas.Bool.{false≢true}
-use Rattle.jiter_scan.specs.Digits.{decimal_of, is_digit}
-use Rattle.jiter_scan.specs.NumberReading.{is_float_sign}
+use Rattle.jiter_scan.proofs.Words.{◌+◌, inl, inr, get_or, sym, ap, ◌∙◌, arith, slice_get-get_or, false≢true}
+use Rattle.jiter_scan.proofs.Words.{decimal_of, is_digit, is_float_sign}
 use Rattle.jiter_scan.proofs.Runs.{run_end-passes}
 use Rattle.jiter_scan.proofs.Magnitudes.{decimal_of-few, magnitude_of-short}
 use Rattle.jiter_scan.proofs.NumberExtents.{decimal_at-tail}

@@ -1,5 +1,4 @@
-use Rattle.std.proofs.Common.{◌≡◌, ◌≢◌, inr, ◌+◌, get_or, sym, ◌∙◌, arith}
-use Rattle.std.proofs.lemmas.Option.{slice_get-get_or}
+use Rattle.jiter_scan.proofs.Words.{◌≡◌, ◌≢◌, inr, ◌+◌, get_or, sym, ◌∙◌, arith, slice_get-get_or}
 use Rattle.jiter_scan.proofs.Magnitudes.{decimal_of-few}
 use Rattle.jiter_scan.proofs.FastNumbers.{digits-in_two, int_part_at-run, decimal_at-int_part}
 use Rattle.jiter_scan.proofs.fast_number.two_chunks_at.Goals as goal

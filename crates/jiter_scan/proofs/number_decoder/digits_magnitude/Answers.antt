@@ -1,5 +1,4 @@
-use Rattle.std.proofs.Common.{◌∙◌, arith}
-use Rattle.jiter_scan.specs.Digits.{is_digit}
+use Rattle.jiter_scan.proofs.Words.{◌∙◌, arith, is_digit}
 use Rattle.jiter_scan.proofs.Chunks.{run_end-on}
 use Rattle.jiter_scan.proofs.Magnitudes.{decimal_of-few, decimal_of-joined, magnitude_of-short, magnitude_of-long}
 use Rattle.jiter_scan.proofs.number_decoder.digits_magnitude.Goals as goal

@@ -1,5 +1,4 @@
-use Rattle.std.proofs.Common.{◌≡◌, ◌+◌, ◌-◌, ◌∙◌, ap, arith, slice_range}
-use Rattle.jiter_scan.specs.Digits.{decimal_of}
+use Rattle.jiter_scan.proofs.Words.{◌≡◌, ◌+◌, ◌-◌, ◌∙◌, ap, arith, slice_range, decimal_of}
 use Rattle.jiter_scan.proofs.Magnitudes.{digits-prefix}
 use Rattle.jiter_scan.proofs.number_decoder.digits_value.Goals as goal
 

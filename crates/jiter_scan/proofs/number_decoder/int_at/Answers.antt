@@ -1,6 +1,4 @@
-use Rattle.std.proofs.Common.{◌∙◌, ap, sym}
-use Rattle.jiter_scan.specs.NumberReading.{int_seen}
-use Rattle.jiter_scan.specs.Scanned.{taken}
+use Rattle.jiter_scan.proofs.Words.{◌∙◌, ap, sym, int_seen, taken}
 use Rattle.jiter_scan.proofs.NumberStarts.{int_at-alone}
 use Rattle.jiter_scan.proofs.number_decoder.int_at.Goals as goal
 

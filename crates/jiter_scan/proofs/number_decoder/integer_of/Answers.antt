@@ -1,4 +1,4 @@
-use Rattle.std.proofs.Common.{◌∙◌}
+use Rattle.jiter_scan.proofs.Words.{◌∙◌}
 use Rattle.jiter_scan.proofs.NumberBytes.{IsAscii-integer}
 use Rattle.jiter_scan.proofs.NumberValues.{integer_value-positive, integer_value-negative}
 use Rattle.jiter_scan.proofs.number_decoder.integer_of.Goals as goal

@@ -1,6 +1,4 @@
-use Rattle.std.proofs.Common.{sym, ap, ◌∙◌}
-use Rattle.jiter_scan.specs.Number.{float}
-use Rattle.jiter_scan.specs.Scanned.{taken}
+use Rattle.jiter_scan.proofs.Words.{sym, ap, ◌∙◌, float, taken}
 use Rattle.jiter_scan.proofs.NumberBytes.{IsAscii-decimal}
 use Rattle.jiter_scan.proofs.NumberExtents.{extent-signed}
 use Rattle.jiter_scan.proofs.FastNumberValues.{number_at-extent, short-signed_float}

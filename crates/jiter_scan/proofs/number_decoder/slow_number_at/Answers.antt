@@ -1,8 +1,5 @@
-use Rattle.std.proofs.Common.{sym, ap, ◌∙◌, subst}
-use Rattle.jiter_scan.specs.Number.{float}
-use Rattle.jiter_scan.specs.NumberExtent.{IsExtent, extent_end}
-use Rattle.jiter_scan.specs.NumberReading.{number_at, with_value}
-use Rattle.jiter_scan.specs.Scanned.{taken}
+use Rattle.jiter_scan.proofs.Words.{sym, ap, ◌∙◌, subst, float, IsExtent, number_at, with_value, taken}
+use Rattle.jiter_scan.specs.NumberExtent.{extent_end}
 use Rattle.jiter_scan.proofs.FastNumberValues.{number_at-extent}
 use Rattle.jiter_scan.proofs.number_decoder.slow_number_at.Goals as goal
 

@@ -1,6 +1,4 @@
-use Rattle.std.proofs.Common.{◌+◌, ◌∙◌, ap, sym, arith}
-use Rattle.std.proofs.lemmas.Option.{slice_get_within, get_or_from_slice_get}
-use Rattle.jiter_scan.specs.Digits.{is_digit}
+use Rattle.jiter_scan.proofs.Words.{◌+◌, ◌∙◌, ap, sym, arith, slice_get_within, get_or_from_slice_get, is_digit}
 use Rattle.jiter_scan.proofs.Runs.{run_end-passing, run_end-ahead}
 use Rattle.jiter_scan.proofs.number_extent.int_part_end.Goals as goal
 

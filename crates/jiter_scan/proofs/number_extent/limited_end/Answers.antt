@@ -1,5 +1,4 @@
-use Rattle.std.proofs.Common.{arith}
-use Rattle.jiter_scan.specs.Digits.{is_digit}
+use Rattle.jiter_scan.proofs.Words.{arith, is_digit}
 use Rattle.jiter_scan.proofs.Magnitudes.{digits_end-some}
 use Rattle.jiter_scan.proofs.Runs.{run_end-within}
 use Rattle.jiter_scan.proofs.number_extent.limited_end.Goals as goal

@@ -1,4 +1,4 @@
-use Rattle.std.proofs.Common.{inr, refl}
+use Rattle.jiter_scan.proofs.Words.{inr, refl}
 use Rattle.jiter_scan.proofs.NumberExtents.{byte-got}
 use Rattle.jiter_scan.proofs.number_extent.minus_end.Goals as goal
 

@@ -1,5 +1,4 @@
-use Rattle.std.specs.Prelude.{Some}
-use Rattle.std.proofs.Common.{◌≡◌, ◌≢◌, sym, ap, ◌∙◌}
+use Rattle.jiter_scan.proofs.Words.{Some, ◌≡◌, ◌≢◌, sym, ap, ◌∙◌}
 use Rattle.jiter_scan.proofs.NumberStarts.{name-infinity, name-nan, no-name}
 use Rattle.jiter_scan.proofs.number_extent.name_from.Goals as goal
 use Rattle.jiter_scan.proofs.number_extent.name_from.Goals.{else-byte-eq78-via-then-byte-eq78+else-from-at}

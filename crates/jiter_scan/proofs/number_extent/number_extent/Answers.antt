@@ -1,6 +1,5 @@
-use Rattle.std.proofs.Common.{false, subst, sym, ◌∙◌}
-use Rattle.jiter_scan.specs.PartialNumber.{number_from}
-use Rattle.jiter_scan.specs.Scanned.{Scans, taken}
+use Rattle.jiter_scan.proofs.Words.{false, subst, sym, ◌∙◌, number_from, taken}
+use Rattle.jiter_scan.specs.Scanned.{Scans}
 use Rattle.jiter_scan.proofs.NumberStarts.{found_float, name-text}
 use Rattle.jiter_scan.proofs.number_extent.number_extent.Goals as goal
 

@@ -1,4 +1,4 @@
-use Rattle.jiter_scan.specs.NumberDecoder.{number_view}
+use Rattle.jiter_scan.proofs.Words.{number_view}
 use Rattle.jiter_scan.proofs.NumberEnds.{ends-within}
 use Rattle.jiter_scan.proofs.number_within.number_within.Goals as goal
 

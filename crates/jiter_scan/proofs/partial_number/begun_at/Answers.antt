@@ -1,5 +1,4 @@
-use Rattle.std.proofs.Common.{get_or}
-use Rattle.std.proofs.lemmas.Option.{slice_get-get_or}
+use Rattle.jiter_scan.proofs.Words.{get_or, slice_get-get_or}
 use Rattle.jiter_scan.proofs.NumberParts.{begins-there}
 use Rattle.jiter_scan.proofs.partial_number.begun_at.Goals as goal
 

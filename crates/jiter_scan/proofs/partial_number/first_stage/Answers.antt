@@ -1,5 +1,4 @@
-use Rattle.std.proofs.Common.{◌∙◌}
-use Rattle.std.proofs.lemmas.Bool.{ne_eqb}
+use Rattle.jiter_scan.proofs.Words.{◌∙◌, ne_eqb}
 use Rattle.jiter_scan.proofs.OpenNumbers.{begins-digit, extent-digit, decimal-begins}
 use Rattle.jiter_scan.proofs.partial_number.first_stage.Goals as goal
 

@@ -1,8 +1,5 @@
-use Rattle.std.proofs.Common.{◌≡◌, ap, arith, length, sym, ◌∙◌, of_z, to_z, to_z-of_z, w64}
-use Rattle.std.specs.Prelude.{Some}
-use Rattle.jiter_scan.specs.Number.{number_value}
-use Rattle.jiter_scan.specs.PartialNumber.{int_of}
-use Rattle.jiter_scan.specs.Scanned.{taken}
+use Rattle.jiter_scan.proofs.Words.{◌≡◌, ap, arith, length, sym, ◌∙◌, w64, Some, number_value, int_of, taken}
+use Rattle.std.proofs.Common.{of_z, to_z, to_z-of_z}
 use Rattle.jiter_scan.proofs.OpenValues.{whole-range}
 use Rattle.jiter_scan.proofs.partial_number.integer_in.Goals as goal
 

@@ -1,5 +1,4 @@
-use Rattle.std.proofs.Common.{◌+◌, ◌-◌, ◌≤◌, arith, sym, subst}
-use Rattle.jiter_scan.specs.PartialNumber.{GoesTo}
+use Rattle.jiter_scan.proofs.Words.{◌+◌, ◌-◌, ◌≤◌, arith, sym, subst, GoesTo}
 use Rattle.jiter_scan.specs.declared.partial_number.Stage.TheVariants as stage
 use Rattle.jiter_scan.proofs.NumberParts.{goes-room, goes-run}
 use Rattle.jiter_scan.proofs.partial_number.run_end.Goals as goal

@@ -1,5 +1,4 @@
-use Rattle.std.proofs.Common.{length, ◌-◌}
-use Rattle.jiter_scan.specs.PartialNumber.{GoesTo}
+use Rattle.jiter_scan.proofs.Words.{length, ◌-◌, GoesTo}
 use Rattle.jiter_scan.proofs.partial_number.stages_end.Given as goal
 
 abbrev pub invariant-loop-end : goal.invariant-loop-end

@@ -1,9 +1,5 @@
-use Rattle.std.proofs.Common.{◌≡◌, ℕ, ◌+◌, ◌-◌, ◌≤◌, sym, ap, ◌∙◌, arith}
-use Rattle.std.specs.Prelude.{nat_le}
-use Rattle.std.proofs.lemmas.Bool.{le-leb}
-use Rattle.std.proofs.lemmas.Bool.Decides.{nat_tests}
-use lib.Count.{count_trailing_zeros}
-use Rattle.jiter_scan.specs.Scan.{is_plain, scan_stop}
+use Rattle.jiter_scan.proofs.Words.{◌≡◌, ℕ, ◌+◌, ◌-◌, ◌≤◌, sym, ap, ◌∙◌, arith, nat_le, le-leb, nat_tests}
+use Rattle.jiter_scan.proofs.Words.{count_trailing_zeros, is_plain, scan_stop}
 use Rattle.jiter_scan.proofs.Chunks.{run_end-clear, run_end-stopped}
 use Rattle.jiter_scan.proofs.Runs.{run_end-ahead}
 use Rattle.jiter_scan.proofs.print_buffer.is_plain_to.Goals as goal

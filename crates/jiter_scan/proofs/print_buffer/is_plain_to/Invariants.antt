@@ -1,5 +1,4 @@
-use Rattle.std.proofs.Common.{◌≡◌, ◌-◌, ◌≤◌}
-use Rattle.jiter_scan.specs.Scan.{scan_stop}
+use Rattle.jiter_scan.proofs.Words.{◌≡◌, ◌-◌, ◌≤◌, scan_stop}
 use Rattle.jiter_scan.proofs.print_buffer.is_plain_to.Given as goal
 
 abbrev pub invariant-loop-from : goal.invariant-loop-from

@@ -1,4 +1,4 @@
-use Rattle.std.proofs.Common.{◌≡◌, length, take, arith, length-take-le}
+use Rattle.jiter_scan.proofs.Words.{◌≡◌, length, take, arith, length-take-le}
 use Rattle.std.proofs.lemmas.Simd.{take_more_put_chunk}
 use Rattle.jiter_scan.proofs.print_buffer.place_prefix.Goals as goal
 

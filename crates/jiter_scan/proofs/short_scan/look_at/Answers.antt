@@ -1,10 +1,7 @@
-use Rattle.std.proofs.Common.{◌≡◌, ℕ, ◌+◌, ◌<◌, ◌≤◌, ◌∙◌, ap, false, refl, sym, arith, get_or, length, List, true}
-use Rattle.std.specs.Prelude.{IsTrue, Some, slice_get}
-use Rattle.std.proofs.lemmas.Option.{slice_get-get_or}
-use lib.Count.{count_trailing_zeros}
-use lib.Lanes.{chunk}
-use Rattle.jiter_scan.specs.Scan.{is_plain, is_plain_ascii, run_end, scan_stop, IsAsciiTo, IsLook}
-use Rattle.jiter_scan.specs.Simd.{failing}
+use Rattle.jiter_scan.proofs.Words.{◌≡◌, ℕ, ◌+◌, ◌<◌, ◌≤◌, ◌∙◌, ap, false, refl, sym, arith, get_or, length, List, true}
+use Rattle.jiter_scan.proofs.Words.{IsTrue, Some, slice_get, slice_get-get_or, count_trailing_zeros, chunk, is_plain}
+use Rattle.jiter_scan.proofs.Words.{is_plain_ascii, run_end, scan_stop, IsAsciiTo, failing}
+use Rattle.jiter_scan.specs.Scan.{IsLook}
 use Rattle.jiter_scan.specs.declared.short_scan.Look.{Look}
 use Rattle.jiter_scan.specs.declared.short_scan.Look.TheVariants as look
 use Rattle.jiter_scan.proofs.AsciiRuns.{ascii-again, ascii-before, ascii-stops, ascii-through, low-stops, text-through}

@@ -1,7 +1,6 @@
-use Rattle.std.proofs.Common.{◌≡◌, ◌≢◌, ℕ, ◌<◌, false, refl, sym, ◌∙◌, arith, subst}
-use Rattle.std.specs.Prelude.{slice_get, Some}
-use Rattle.std.proofs.lemmas.Bool.Decides.{nat_tests}
-use Rattle.jiter_scan.specs.Scan.{is_plain, IsFaultOf}
+use Rattle.jiter_scan.proofs.Words.{◌≡◌, ◌≢◌, ℕ, ◌<◌, false, refl, sym, ◌∙◌, arith, subst, slice_get, Some, nat_tests}
+use Rattle.jiter_scan.proofs.Words.{is_plain}
+use Rattle.jiter_scan.specs.Scan.{IsFaultOf}
 use Rattle.jiter_scan.specs.declared.errors.FaultKind.TheVariants as fault
 use Rattle.jiter_scan.proofs.Runs.{run_end-stops}
 use Rattle.jiter_scan.proofs.short_scan.look_of.Goals as goal

@@ -1,8 +1,4 @@
-use Rattle.std.proofs.Common.{refl, sym}
-use Rattle.std.proofs.lemmas.List.{map-id}
-use Rattle.std.proofs.lemmas.Simd.{zip2_splat, zip2_of_maps, splat_is_map}
-use lib.Bits.{bit_or}
-use Rattle.jiter_scan.specs.Scan.{is_plain_ascii}
+use Rattle.jiter_scan.proofs.Words.{refl, sym, map-id, zip2_splat, zip2_of_maps, splat_is_map, bit_or, is_plain_ascii}
 use Rattle.jiter_scan.proofs.Lanes.{if_equal, if_less, if_at_most, failing-lanes}
 use Rattle.jiter_scan.proofs.simd.ascii_stops.Goals as goal
 

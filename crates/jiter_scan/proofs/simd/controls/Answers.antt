@@ -1,6 +1,4 @@
-use Rattle.std.proofs.Common.{refl}
-use Rattle.std.proofs.lemmas.Simd.{zip2_splat}
-use Rattle.jiter_scan.specs.Simd.{is_no_control}
+use Rattle.jiter_scan.proofs.Words.{refl, zip2_splat, is_no_control}
 use Rattle.jiter_scan.proofs.Lanes.{if_less, list_all-chosen}
 use Rattle.jiter_scan.proofs.simd.controls.Goals as goal
 

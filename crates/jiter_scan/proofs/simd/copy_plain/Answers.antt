@@ -1,7 +1,5 @@
-use Rattle.std.proofs.Common.{◌≡◌, ◌+◌, ◌-◌, ◌++◌, ◌&&◌, ◌∙◌, append_assoc, ap, arith, eqb, refl, sym, take}
-use Rattle.std.specs.Prelude.{slice_range}
-use lib.Count.{count_trailing_zeros}
-use Rattle.jiter_scan.specs.Scan.{is_plain, scan_stop}
+use Rattle.jiter_scan.proofs.Words.{◌≡◌, ◌+◌, ◌-◌, ◌++◌, ◌&&◌, ◌∙◌, append_assoc, ap, arith, eqb, refl, sym, take}
+use Rattle.jiter_scan.proofs.Words.{slice_range, count_trailing_zeros, is_plain, scan_stop}
 use Rattle.jiter_scan.proofs.Chunks.{run_end-clear, run_end-near, run_end-stopped}
 use Rattle.jiter_scan.proofs.PlainRuns.{IsAsciiTo-iff, ascii_from-clear, ascii_from-stopped, still-ascii}
 use Rattle.jiter_scan.proofs.Runs.{run_end-ahead, run_end-within}

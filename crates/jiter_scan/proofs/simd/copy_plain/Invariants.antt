@@ -1,7 +1,5 @@
-use Rattle.std.proofs.Common.{◌≡◌, ◌+◌, ◌≤◌, ◌++◌, ◌&&◌, length, take}
-use Rattle.std.specs.Prelude.{slice_range, vec_len}
-use Rattle.jiter_scan.specs.Scan.{scan_stop}
-use Rattle.jiter_scan.specs.Simd.{ascii_from}
+use Rattle.jiter_scan.proofs.Words.{◌≡◌, ◌+◌, ◌≤◌, ◌++◌, ◌&&◌, length, take, slice_range, vec_len, scan_stop}
+use Rattle.jiter_scan.proofs.Words.{ascii_from}
 use Rattle.jiter_scan.proofs.simd.copy_plain.Given as goal
 
 abbrev pub invariant-loop-left : goal.invariant-loop-left

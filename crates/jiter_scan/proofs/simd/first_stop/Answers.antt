@@ -1,6 +1,5 @@
-use Rattle.std.proofs.Common.{◌≡◌, ◌∙◌, ℕ, ◌&&◌, Bool, true, false, ap, arith, refl, sym}
-use Rattle.std.specs.Prelude.{nat_le}
-use Rattle.std.specs.Int.{trailing_zeros, w64}
+use Rattle.jiter_scan.proofs.Words.{◌≡◌, ◌∙◌, ℕ, ◌&&◌, Bool, true, false, ap, arith, refl, sym, nat_le, w64}
+use Rattle.std.specs.Int.{trailing_zeros}
 use Rattle.std.proofs.lemmas.Nat.{trailing_le}
 use Rattle.std.specs.Int.Count.{trailing_of_zero}
 use Rattle.jiter_scan.proofs.simd.first_stop.Goals as goal

@@ -1,4 +1,4 @@
-use Rattle.std.proofs.Common.{sym, ◌∙◌}
+use Rattle.jiter_scan.proofs.Words.{sym, ◌∙◌}
 use Rattle.jiter_scan.proofs.Lanes.{list_all-greater}
 use Rattle.jiter_scan.proofs.simd.greater.Goals as goal
 

@@ -1,7 +1,4 @@
-use Rattle.std.proofs.Common.{refl, sym}
-use Rattle.std.proofs.lemmas.List.{map-id}
-use Rattle.std.proofs.lemmas.Simd.{zip2_of_maps, splat_is_map}
-use Rattle.jiter_scan.specs.Scan.{is_ascii}
+use Rattle.jiter_scan.proofs.Words.{refl, sym, map-id, zip2_of_maps, splat_is_map, is_ascii}
 use Rattle.jiter_scan.proofs.Lanes.{if_at_most, failing-lanes}
 use Rattle.jiter_scan.proofs.simd.highs.Goals as goal
 

@@ -1,5 +1,4 @@
-use Rattle.std.proofs.Common.{eqb, sym, ap, ◌∙◌}
-use Rattle.jiter_scan.specs.Scan.{is_ascii}
+use Rattle.jiter_scan.proofs.Words.{eqb, sym, ap, ◌∙◌, is_ascii}
 use Rattle.jiter_scan.proofs.Chunks.{list_all-failing}
 use Rattle.jiter_scan.proofs.simd.is_ascii_chunk.Goals as goal
 

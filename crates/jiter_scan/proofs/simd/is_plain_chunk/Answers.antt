@@ -1,6 +1,4 @@
-use Rattle.std.proofs.Common.{Bool, ◌+◌, ◌&&◌, ap₂, sym, ◌∙◌}
-use lib.Lanes.{chunk}
-use Rattle.jiter_scan.specs.Scan.{is_plain, is_ascii}
+use Rattle.jiter_scan.proofs.Words.{Bool, ◌+◌, ◌&&◌, ap₂, sym, ◌∙◌, chunk, is_plain, is_ascii}
 use Rattle.jiter_scan.proofs.Chunks.{list_all-four}
 use Rattle.jiter_scan.proofs.Lanes.{list_all-plain-four}
 use Rattle.jiter_scan.proofs.simd.is_plain_chunk.Goals as goal

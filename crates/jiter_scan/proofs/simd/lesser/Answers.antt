@@ -1,4 +1,4 @@
-use Rattle.std.proofs.Common.{sym, ◌∙◌}
+use Rattle.jiter_scan.proofs.Words.{sym, ◌∙◌}
 use Rattle.jiter_scan.proofs.Lanes.{list_all-lesser}
 use Rattle.jiter_scan.proofs.simd.lesser.Goals as goal
 

@@ -1,7 +1,4 @@
-use Rattle.std.proofs.Common.{refl}
-use Rattle.std.proofs.lemmas.Simd.{zip2_splat, zip2_of_maps}
-use lib.Bits.{bit_or}
-use Rattle.jiter_scan.specs.Simd.{is_no_mark}
+use Rattle.jiter_scan.proofs.Words.{refl, zip2_splat, zip2_of_maps, bit_or, is_no_mark}
 use Rattle.jiter_scan.proofs.Lanes.{if_equal, list_all-chosen}
 use Rattle.jiter_scan.proofs.simd.marks.Goals as goal
 

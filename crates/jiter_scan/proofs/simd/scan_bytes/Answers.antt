@@ -1,6 +1,5 @@
-use Rattle.std.proofs.Common.{◌&&◌, get_or, not, ap, sym, ◌∙◌, arith}
+use Rattle.jiter_scan.proofs.Words.{◌&&◌, get_or, not, ap, sym, ◌∙◌, arith, is_plain, is_ascii}
 use Rattle.std.proofs.Math.Bool.{and-true}
-use Rattle.jiter_scan.specs.Scan.{is_plain, is_ascii}
 use Rattle.jiter_scan.proofs.Runs.{run_end-passing, run_end-stopping, run_end-past}
 use Rattle.jiter_scan.proofs.PlainRuns.{ascii_from-byte, ascii_from-stop, still-ascii}
 use Rattle.jiter_scan.proofs.simd.scan_bytes.Goals as goal

@@ -1,6 +1,4 @@
-use Rattle.std.proofs.Common.{◌≡◌, ◌-◌, ◌≤◌, ◌&&◌, length}
-use Rattle.jiter_scan.specs.Scan.{scan_stop}
-use Rattle.jiter_scan.specs.Simd.{ascii_from}
+use Rattle.jiter_scan.proofs.Words.{◌≡◌, ◌-◌, ◌≤◌, ◌&&◌, length, scan_stop, ascii_from}
 use Rattle.jiter_scan.proofs.simd.scan_chunks.Given as goal
 
 abbrev pub invariant-loop-i : goal.invariant-loop-i

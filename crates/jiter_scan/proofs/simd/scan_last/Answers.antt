@@ -1,7 +1,5 @@
-use Rattle.std.proofs.Common.{◌≡◌, ℕ, ◌+◌, ◌-◌, ◌/◌, ◌^◌, ◌<◌, ◌≤◌, Bool, List, length, eqb, sym, ap, ◌∙◌, arith, true, false, ◌&&◌, refl}
-use lib.Lanes.{chunk}
-use Rattle.jiter_scan.specs.Scan.{is_ascii, is_plain}
-use Rattle.jiter_scan.specs.Simd.{failing}
+use Rattle.jiter_scan.proofs.Words.{◌≡◌, ℕ, ◌+◌, ◌-◌, ◌/◌, ◌^◌, ◌<◌, ◌≤◌, Bool, List, length, eqb, sym, ap, ◌∙◌, arith}
+use Rattle.jiter_scan.proofs.Words.{true, false, ◌&&◌, refl, chunk, is_ascii, is_plain, failing}
 use Rattle.jiter_scan.proofs.Chunks.{failing-after, run_end-clear, run_end-stopped}
 use Rattle.jiter_scan.proofs.Runs.{run_end-ahead, run_end-within}
 use Rattle.jiter_scan.proofs.PlainRuns.{ascii_from-clear, ascii_from-stop, ascii_from-stopped}

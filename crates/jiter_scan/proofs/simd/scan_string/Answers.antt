@@ -1,5 +1,4 @@
-use Rattle.std.proofs.Common.{◌≡◌, ◌+◌, sym, ◌∙◌, arith}
-use Rattle.jiter_scan.specs.Scan.{is_plain, scan_stop}
+use Rattle.jiter_scan.proofs.Words.{◌≡◌, ◌+◌, sym, ◌∙◌, arith, is_plain, scan_stop}
 use Rattle.jiter_scan.proofs.Chunks.{run_end-clear, run_end-stopped}
 use Rattle.jiter_scan.proofs.Runs.{run_end-ahead, run_end-within}
 use Rattle.jiter_scan.proofs.PlainRuns.{ascii_from-clear, ascii_from-stopped, IsAsciiTo-iff}

@@ -1,6 +1,4 @@
-use Rattle.std.proofs.Common.{◌+◌, ◌&&◌, ap, sym, ◌∙◌, arith}
-use Rattle.jiter_scan.specs.Scan.{is_plain}
-use Rattle.jiter_scan.specs.Simd.{ascii_from}
+use Rattle.jiter_scan.proofs.Words.{◌+◌, ◌&&◌, ap, sym, ◌∙◌, arith, is_plain, ascii_from}
 use Rattle.jiter_scan.proofs.Chunks.{prefix_len-through}
 use Rattle.jiter_scan.proofs.PlainRuns.{ascii_from-through, still-ascii}
 use Rattle.jiter_scan.proofs.simd.scan_wide.Goals as goal

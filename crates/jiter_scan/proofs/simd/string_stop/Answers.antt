@@ -1,6 +1,5 @@
-use Rattle.std.proofs.Common.{◌≡◌, ◌+◌, ◌≤◌, ◌∙◌, arith, length, ℕ, List, sym}
-use lib.Count.{count_trailing_zeros}
-use Rattle.jiter_scan.specs.Scan.{is_plain, scan_stop}
+use Rattle.jiter_scan.proofs.Words.{◌≡◌, ◌+◌, ◌≤◌, ◌∙◌, arith, length, ℕ, List, sym, count_trailing_zeros, is_plain}
+use Rattle.jiter_scan.proofs.Words.{scan_stop}
 use Rattle.jiter_scan.proofs.Chunks.{run_end-clear, run_end-stopped}
 use Rattle.jiter_scan.proofs.Runs.{run_end-ahead, run_end-within}
 use Rattle.jiter_scan.proofs.simd.string_stop.Goals as goal

@@ -1,4 +1,4 @@
-use Rattle.std.proofs.Common.{◌++◌, take, ap, sym, ◌∙◌, arith}
+use Rattle.jiter_scan.proofs.Words.{◌++◌, take, ap, sym, ◌∙◌, arith}
 use Rattle.jiter_scan.proofs.Tapes.{put-two, put-three, put-four, encode-two, encode-three, encode-four}
 use Rattle.jiter_scan.proofs.tape.put_char.Goals as goal
 

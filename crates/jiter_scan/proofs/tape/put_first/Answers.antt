@@ -1,4 +1,4 @@
-use Rattle.std.proofs.Common.{◌-◌, ◌∙◌, ap, arith, drop, sym, take, take-take}
+use Rattle.jiter_scan.proofs.Words.{◌-◌, ◌∙◌, ap, arith, drop, sym, take, take-take}
 use Rattle.jiter_scan.proofs.tape.put_first.Goals as goal
 
 pub returns-then-len-ge32-clause-text : goal.returns-then-len-ge32-clause-text

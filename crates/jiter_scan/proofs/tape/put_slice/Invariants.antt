@@ -1,5 +1,4 @@
-use Rattle.std.proofs.Common.{◌≡◌, ◌+◌, ◌-◌, ◌≤◌, length, take}
-use Rattle.std.specs.Prelude.{vec_len}
+use Rattle.jiter_scan.proofs.Words.{◌≡◌, ◌+◌, ◌-◌, ◌≤◌, length, take, vec_len}
 use Rattle.jiter_scan.proofs.tape.put_slice.Given as goal
 
 abbrev pub invariant-loop-tape : goal.invariant-loop-tape

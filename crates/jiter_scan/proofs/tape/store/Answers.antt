@@ -1,4 +1,4 @@
-use Rattle.std.proofs.Common.{arith}
+use Rattle.jiter_scan.proofs.Words.{arith}
 use Rattle.std.proofs.lemmas.Simd.{put_chunk_whole}
 use Rattle.jiter_scan.proofs.tape.store.Goals as goal
 

@@ -1,5 +1,4 @@
-use Rattle.std.proofs.Common.{◌∙◌, sym, arith}
-use Rattle.std.proofs.lemmas.Option.{slice_get_within}
+use Rattle.jiter_scan.proofs.Words.{◌∙◌, sym, arith, slice_get_within}
 use Rattle.jiter_scan.proofs.WordLaws.{word_at-cut, word_at-other, word_at-same, word_at-end}
 use Rattle.jiter_scan.proofs.word.word_end.Goals as goal
 

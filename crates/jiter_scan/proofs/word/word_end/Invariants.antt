@@ -1,5 +1,4 @@
-use Rattle.std.proofs.Common.{◌≡◌, ◌+◌, ◌≤◌, length, drop}
-use Rattle.jiter_scan.specs.Word.{word_at}
+use Rattle.jiter_scan.proofs.Words.{◌≡◌, ◌+◌, ◌≤◌, length, drop, word_at}
 use Rattle.jiter_scan.proofs.word.word_end.Given as goal
 
 abbrev pub invariant-loop-expected : goal.invariant-loop-expected

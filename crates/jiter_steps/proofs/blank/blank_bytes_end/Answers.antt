@@ -1,4 +1,4 @@
-use Rattle.std.proofs.Common.{arith}
+use Rattle.jiter_steps.proofs.Words.{arith}
 use Rattle.std.proofs.lemmas.Grind.{common_steps}
 use Rattle.jiter_steps.proofs.Grammar.Blanks.{past_blanks-blank, past_blanks-other, past_blanks-end}
 use Rattle.jiter_steps.proofs.blank.blank_bytes_end.Goals as goal

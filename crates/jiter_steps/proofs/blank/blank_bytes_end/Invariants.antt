@@ -1,5 +1,4 @@
-use Rattle.std.proofs.Common.{length, ◌-◌, ◌≡◌, ◌≤◌}
-use Rattle.jiter_steps.specs.Blank.{past_blanks}
+use Rattle.jiter_steps.proofs.Words.{length, ◌-◌, ◌≡◌, ◌≤◌, past_blanks}
 use Rattle.jiter_steps.proofs.blank.blank_bytes_end.Given as goal
 
 abbrev pub invariant-loop-at : goal.invariant-loop-at

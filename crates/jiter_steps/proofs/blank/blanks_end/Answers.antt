@@ -1,5 +1,4 @@
-use Rattle.std.proofs.Common.{◌+◌, ◌∙◌, sym, ap, arith}
-use lib.Count.{count_trailing_zeros}
+use Rattle.jiter_steps.proofs.Words.{◌+◌, ◌∙◌, sym, ap, arith, count_trailing_zeros}
 use Rattle.jiter_steps.proofs.Grammar.Blanks.{past_blanks-blank, past_blanks-other, past_blanks-above}
 use Rattle.jiter_steps.proofs.Grammar.Blanks.{past_blanks-bound, past_blanks-through, past_blanks-inside}
 use Rattle.jiter_steps.proofs.blank.blanks_end.Goals.{then-is_blank, else-is_blank}

@@ -1,7 +1,7 @@
-use Rattle.std.proofs.Common.{ℕ, bit_and, refl}
+use Rattle.jiter_steps.proofs.Words.{ℕ, refl, is_blank}
+use Rattle.std.proofs.Common.{bit_and}
 use Rattle.std.proofs.lemmas.Simd.{zip2_splat, zip2_of_maps}
 use Rattle.jiter_scan.proofs.Lanes.{failing-lanes}
-use Rattle.jiter_steps.specs.Blank.{is_blank}
 use Rattle.jiter_steps.proofs.blank.no_blanks.Goals as goal
 
 pub returns : goal.returns

@@ -1,8 +1,5 @@
-use Rattle.std.proofs.Common.{◌≡◌, ◌∙◌, drop, sym, ap, subst}
-use Rattle.std.proofs.Math.Seq.{drop-length}
-use Rattle.std.specs.Str.{IsValidUpTo}
-use Rattle.std.specs.Str.Lossy.{utf8_error_len}
-use Rattle.jiter_steps.specs.PartialText.{IsUnfinished}
+use Rattle.jiter_steps.proofs.Words.{◌≡◌, ◌∙◌, drop, sym, ap, subst, drop-length, IsValidUpTo, utf8_error_len}
+use Rattle.jiter_steps.proofs.Words.{IsUnfinished}
 use Rattle.jiter_steps.proofs.OpenTexts.{broken-after, nil-unfinished, open-after}
 use Rattle.jiter_steps.proofs.characters.valid_utf8_end_far.Goals as goal
 

@@ -1,8 +1,4 @@
-use Rattle.std.proofs.Common.{◌+◌, true, ap, sym, ◌∙◌, arith}
-use Rattle.std.specs.Prelude.{Some}
-use Rattle.std.proofs.lemmas.Option.{slice_get-get_or}
-use Rattle.std.specs.Char.{encode_utf8}
-use Rattle.jiter_steps.specs.StringReading.{part}
+use Rattle.jiter_steps.proofs.Words.{◌+◌, true, ap, sym, ◌∙◌, arith, Some, slice_get-get_or, encode_utf8, part}
 use Rattle.jiter_steps.proofs.Calls.DecodeSteps.{decode-unit, decode-letter}
 use Rattle.jiter_steps.proofs.escape.escape_at.Goals as goal
 

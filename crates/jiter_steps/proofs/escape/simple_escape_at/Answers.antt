@@ -1,7 +1,5 @@
-use Rattle.std.proofs.Common.{◌≡◌, ◌+◌, ap, sym, subst, ◌∙◌, arith}
-use Rattle.std.specs.Prelude.{Some}
-use Rattle.std.proofs.lemmas.Option.{slice_get-get_or, none-some}
-use Rattle.jiter_steps.specs.Escape.{short_escape}
+use Rattle.jiter_steps.proofs.Words.{◌≡◌, ◌+◌, ap, sym, subst, ◌∙◌, arith, Some, slice_get-get_or, none-some}
+use Rattle.jiter_steps.proofs.Words.{short_escape}
 use Rattle.jiter_steps.proofs.Calls.DecodeSteps.{decode-letter}
 use Rattle.jiter_steps.proofs.escape.simple_escape_at.Goals as goal
 

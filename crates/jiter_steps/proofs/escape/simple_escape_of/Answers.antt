@@ -1,4 +1,4 @@
-use Rattle.std.proofs.Common.{arith}
+use Rattle.jiter_steps.proofs.Words.{arith}
 use Rattle.jiter_steps.proofs.Calls.Letters.{letter-ascii, letter-sign}
 use Rattle.jiter_steps.proofs.escape.simple_escape_of.Goals as goal
 

@@ -1,5 +1,4 @@
-use Rattle.std.proofs.Common.{◌+◌, ◌∙◌, ◌∷◌, [], refl, ap, arith}
-use Rattle.std.specs.Prelude.{Some}
+use Rattle.jiter_steps.proofs.Words.{◌+◌, ◌∙◌, ◌∷◌, [], refl, ap, arith, Some}
 use Rattle.jiter_steps.proofs.Grammar.Places.{got}
 use Rattle.jiter_steps.proofs.Calls.FastAnswers.{plain-letter, plain-four}
 use Rattle.jiter_steps.proofs.fast.fast_literal_end.Goals as goal

@@ -1,4 +1,4 @@
-use Rattle.std.proofs.Common.{arith}
+use Rattle.jiter_steps.proofs.Words.{arith}
 use Rattle.jiter_steps.proofs.Calls.FastSkips.{colon-stands, colon-spaced}
 use Rattle.jiter_steps.proofs.fast_skip.after_colon.Goals as goal
 

@@ -1,4 +1,4 @@
-use Rattle.std.proofs.Common.{◌∙◌}
+use Rattle.jiter_steps.proofs.Words.{◌∙◌}
 use Rattle.jiter_steps.proofs.Calls.FastSkips.{empty-ends}
 use Rattle.jiter_steps.proofs.fast_skip.empty_end.Goals as goal
 

@@ -1,4 +1,4 @@
-use Rattle.std.proofs.Common.{◌∙◌, sym, arith}
+use Rattle.jiter_steps.proofs.Words.{◌∙◌, sym, arith}
 use Rattle.jiter_steps.proofs.Calls.FastSkips.{some-as, plain-comma}
 use Rattle.jiter_steps.proofs.fast_skip.fast_next_inside.Goals as goal
 

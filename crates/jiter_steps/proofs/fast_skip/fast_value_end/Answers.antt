@@ -1,7 +1,4 @@
-use Rattle.std.proofs.Common.{◌≡◌, arith}
-use Rattle.std.proofs.lemmas.Bool.Decides.{nat_tests}
-use Rattle.std.specs.Prelude.{slice_index}
-use Rattle.jiter_steps.specs.Literal.{start_of}
+use Rattle.jiter_steps.proofs.Words.{◌≡◌, arith, nat_tests, slice_index, start_of}
 use Rattle.jiter_steps.specs.declared.parse.Start.TheVariants as start
 use Rattle.jiter_steps.proofs.Calls.FastSkips.{some-as, number-ends}
 use Rattle.jiter_steps.proofs.fast_skip.fast_value_end.Goals.{in-45-1, in_default+else-this-lt48+then-this-lt58}

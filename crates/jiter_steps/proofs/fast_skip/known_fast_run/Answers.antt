@@ -1,5 +1,4 @@
-use Rattle.std.proofs.Common.{◌∷◌, ◌∙◌, refl, arith}
-use Rattle.jiter_steps.specs.Skip.{frame_of}
+use Rattle.jiter_steps.proofs.Words.{◌∷◌, ◌∙◌, refl, arith, frame_of}
 use Rattle.jiter_steps.proofs.Calls.FastSkips.{plain-next, plain-passed}
 use Rattle.jiter_steps.proofs.fast_skip.known_fast_run.Goals as goal
 

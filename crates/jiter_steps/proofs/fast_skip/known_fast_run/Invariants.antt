@@ -1,8 +1,5 @@
-use Rattle.std.proofs.Common.{◌≡◌, ◌≤◌, ◌<◌, ◌-◌, ◌∷◌, Bool, List, length}
-use Rattle.jiter_steps.specs.Answer.{only_ends}
-use Rattle.jiter_steps.specs.Frames.{Frame, resume}
-use Rattle.jiter_steps.specs.Read.{done}
-use Rattle.jiter_steps.specs.Skip.{frame_of}
+use Rattle.jiter_steps.proofs.Words.{◌≡◌, ◌≤◌, ◌<◌, ◌-◌, ◌∷◌, Bool, List, length, only_ends, Frame, resume, done}
+use Rattle.jiter_steps.proofs.Words.{frame_of}
 use Rattle.jiter_steps.proofs.fast_skip.known_fast_run.Given as goal
 
 abbrev pub invariant-parts : goal.invariant-parts

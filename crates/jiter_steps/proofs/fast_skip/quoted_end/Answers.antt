@@ -1,6 +1,4 @@
-use Rattle.std.proofs.Common.{◌+◌, ◌∙◌, ap, sym, arith}
-use Rattle.std.specs.Prelude.{Some}
-use Rattle.jiter_scan.specs.Scan.{is_plain}
+use Rattle.jiter_steps.proofs.Words.{◌+◌, ◌∙◌, ap, sym, arith, Some, is_plain}
 use Rattle.jiter_scan.proofs.Chunks.{run_end-clear, run_end-stopped, run_end-near}
 use Rattle.jiter_steps.proofs.Calls.FastSkips.{near-closed, stop-stands}
 use Rattle.jiter_steps.proofs.Grammar.Places.{got}

@@ -1,6 +1,5 @@
-use Rattle.std.proofs.Common.{◌∙◌}
+use Rattle.jiter_steps.proofs.Words.{◌∙◌, IsUtf8-string_bytes}
 use Rattle.std.specs.Prelude.{string_bytes}
-use Rattle.std.proofs.lemmas.Str.{IsUtf8-string_bytes}
 use Rattle.jiter_steps.proofs.OpenStrings.{text-within}
 use Rattle.jiter_steps.proofs.partial_string.closed_within.Goals as goal
 

@@ -1,5 +1,4 @@
-use Rattle.std.proofs.Common.{◌∙◌, ap, false, subst, sym, take, true}
-use Rattle.jiter_steps.specs.PartialString.{IsTextWithin}
+use Rattle.jiter_steps.proofs.Words.{◌∙◌, ap, false, subst, sym, take, true, IsTextWithin}
 use Rattle.jiter_steps.proofs.StringsWithin.{decoded-within}
 use Rattle.jiter_steps.proofs.partial_string.decoded_within.Goals as goal
 

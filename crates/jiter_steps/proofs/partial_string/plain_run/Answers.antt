@@ -1,6 +1,4 @@
-use Rattle.std.proofs.Common.{◌+◌, ◌-◌, take, drop, arith}
-use Rattle.jiter_scan.specs.Scan.{is_plain}
-use Rattle.jiter_scan.proofs.Chunks.{prefix_len-pass}
+use Rattle.jiter_steps.proofs.Words.{◌+◌, ◌-◌, take, drop, arith, is_plain, prefix_len-pass}
 use Rattle.jiter_steps.proofs.OpenStrings.{near-range}
 use Rattle.jiter_steps.proofs.partial_string.plain_run.Goals as goal
 

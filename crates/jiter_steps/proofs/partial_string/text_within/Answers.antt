@@ -1,6 +1,4 @@
-use Rattle.std.proofs.Common.{◌+◌, ◌∙◌, Some, ap, subst}
-use Rattle.jiter_scan.specs.Scan.{IsLook}
-use Rattle.jiter_scan.specs.declared.short_scan.Look.{Look}
+use Rattle.jiter_steps.proofs.Words.{◌+◌, ◌∙◌, Some, ap, subst, IsLook, Look}
 use Rattle.jiter_steps.proofs.Calls.FastAnswers.{plain-utf8}
 use Rattle.jiter_steps.proofs.Calls.Looks.{look-whole}
 use Rattle.jiter_steps.proofs.Grammar.Places.{got}

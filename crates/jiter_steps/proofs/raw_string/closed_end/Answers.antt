@@ -1,5 +1,4 @@
-use Rattle.std.proofs.Common.{◌+◌, false, ap, arith}
-use Rattle.jiter_steps.specs.Answer.{seen_as}
+use Rattle.jiter_steps.proofs.Words.{◌+◌, false, ap, arith, seen_as}
 use Rattle.jiter_steps.proofs.Calls.RawStrings.{raw-closed, raw-over_after}
 use Rattle.jiter_steps.proofs.raw_string.closed_end.Goals as goal
 

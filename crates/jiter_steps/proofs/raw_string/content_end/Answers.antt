@@ -1,6 +1,4 @@
-use Rattle.std.proofs.Common.{◌≡◌, ◌∙◌, sym}
-use Rattle.std.specs.Prelude.{slice_get, Some, None}
-use Rattle.std.proofs.lemmas.Option.{none-some, same_Some}
+use Rattle.jiter_steps.proofs.Words.{◌≡◌, ◌∙◌, sym, slice_get, Some, None, none-some, same_Some}
 use Rattle.jiter_steps.proofs.Calls.RawStrings.{raw-run, raw-over_again, raw-over_run}
 use Rattle.jiter_steps.proofs.raw_string.content_end.Goals as goal
 

@@ -1,4 +1,4 @@
-use Rattle.std.proofs.Common.{◌∙◌, arith}
+use Rattle.jiter_steps.proofs.Words.{◌∙◌, arith}
 use Rattle.jiter_steps.proofs.Calls.RawStrings.{raw-escape_ahead, raw-escape, raw-over_here}
 use Rattle.jiter_steps.proofs.raw_string.escaped_end.Goals as goal
 

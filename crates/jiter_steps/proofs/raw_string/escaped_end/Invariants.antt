@@ -1,6 +1,4 @@
-use Rattle.std.proofs.Common.{◌≡◌, ◌-◌, ◌≤◌, length, slice_get, IfSome, true}
-use Rattle.jiter_scan.specs.Scan.{is_stop}
-use Rattle.jiter_steps.specs.StringReading.{body_at}
+use Rattle.jiter_steps.proofs.Words.{◌≡◌, ◌-◌, ◌≤◌, length, slice_get, IfSome, true, is_stop, body_at}
 use Rattle.jiter_steps.proofs.raw_string.escaped_end.Given as goal
 
 abbrev pub invariant-loop-end : goal.invariant-loop-end

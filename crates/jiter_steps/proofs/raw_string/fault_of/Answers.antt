@@ -1,4 +1,4 @@
-use Rattle.jiter_steps.specs.StringReading.{raw_form}
+use Rattle.jiter_steps.proofs.Words.{raw_form}
 use Rattle.jiter_steps.proofs.Calls.RawStrings.{raw-by, raw-no_quote, raw-cut, raw-quote}
 use Rattle.jiter_steps.proofs.raw_string.fault_of.Goals as goal
 

@@ -1,4 +1,4 @@
-use Rattle.std.proofs.Common.{◌+◌}
+use Rattle.jiter_steps.proofs.Words.{◌+◌}
 use Rattle.jiter_steps.proofs.Calls.RawStrings.{raw-closed, raw-unclosed}
 use Rattle.jiter_steps.proofs.raw_string.raw_string_at.Goals as goal
 

@@ -1,5 +1,4 @@
-use Rattle.std.proofs.Common.{◌+◌, false, ap}
-use Rattle.jiter_steps.specs.Answer.{seen_as}
+use Rattle.jiter_steps.proofs.Words.{◌+◌, false, ap, seen_as}
 use Rattle.jiter_steps.proofs.Calls.RawStrings.{raw-closed}
 use Rattle.jiter_steps.proofs.raw_string.string_end.Goals as goal
 

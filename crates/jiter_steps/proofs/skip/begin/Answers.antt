@@ -1,8 +1,4 @@
-use Rattle.std.proofs.Common.{◌∙◌, ap, sym, arith}
-use Rattle.jiter_steps.specs.Answer.{only_ends}
-use Rattle.jiter_steps.specs.Frames.{value_from}
-use Rattle.jiter_steps.specs.Read.{done}
-use Rattle.jiter_steps.specs.Skip.{frame_of, open_frames}
+use Rattle.jiter_steps.proofs.Words.{◌∙◌, ap, sym, arith, only_ends, value_from, done, frame_of, open_frames}
 use Rattle.jiter_steps.proofs.Calls.Skipping.{first_inside-is, value_from-limit, length-open_frames, open_frames-opens}
 use Rattle.jiter_steps.proofs.skip.begin.Goals as goal
 

@@ -1,6 +1,4 @@
-use Rattle.std.proofs.Common.{◌∙◌, arith}
-use Rattle.std.proofs.lemmas.Result.{err_from_is_err_and}
-use Rattle.jiter_steps.specs.Skip.{open_frames}
+use Rattle.jiter_steps.proofs.Words.{◌∙◌, arith, err_from_is_err_and, open_frames}
 use Rattle.jiter_steps.proofs.Calls.Skipping.{value_from-is, fault-passes}
 use Rattle.jiter_steps.proofs.skip.begin_value.Goals as goal
 

@@ -1,7 +1,4 @@
-use Rattle.std.proofs.Common.{◌<◌, ◌∙◌, sym, ap, subst, arith, length}
-use Rattle.jiter_steps.specs.Answer.{only_ends}
-use Rattle.jiter_steps.specs.Frames.{value_from}
-use Rattle.jiter_steps.specs.Read.{done}
+use Rattle.jiter_steps.proofs.Words.{◌<◌, ◌∙◌, sym, ap, subst, arith, length, only_ends, value_from, done}
 use Rattle.jiter_steps.proofs.Calls.Skipping.{innermost-led, open_frames-innermost}
 use Rattle.jiter_steps.proofs.skip.end_value.Goals as goal
 

@@ -1,9 +1,4 @@
-use Rattle.std.proofs.Common.{◌≡◌, Bool}
-use Rattle.jiter_steps.specs.Answer.{only_ends}
-use Rattle.jiter_steps.specs.Frames.{resume}
-use Rattle.jiter_steps.specs.Parse.{Moves}
-use Rattle.jiter_steps.specs.Read.{done}
-use Rattle.jiter_steps.specs.Skip.{open_frames}
+use Rattle.jiter_steps.proofs.Words.{◌≡◌, Bool, only_ends, resume, Moves, done, open_frames}
 use Rattle.jiter_steps.proofs.skip.end_value.Given as goal
 
 abbrev pub invariant-closing : goal.invariant-closing

@@ -1,4 +1,4 @@
-use Rattle.std.proofs.Common.{◌∙◌, true, false, arith}
+use Rattle.jiter_steps.proofs.Words.{◌∙◌, true, false, arith}
 use Rattle.jiter_steps.proofs.Calls.FastSkips.{run-leads, end-leads}
 use Rattle.jiter_steps.proofs.skip.fast_after.Goals as goal
 

@@ -1,8 +1,4 @@
-use Rattle.std.proofs.Common.{◌≡◌, ◌≤◌, Bool, length}
-use Rattle.jiter_steps.specs.Answer.{only_ends}
-use Rattle.jiter_steps.specs.Frames.{resume}
-use Rattle.jiter_steps.specs.Read.{done}
-use Rattle.jiter_steps.specs.Skip.{open_frames}
+use Rattle.jiter_steps.proofs.Words.{◌≡◌, ◌≤◌, Bool, length, only_ends, resume, done, open_frames}
 use Rattle.jiter_steps.proofs.skip.fast_after.Given as goal
 
 abbrev pub invariant-closing : goal.invariant-closing

@@ -1,5 +1,4 @@
-use Rattle.std.proofs.Common.{ap, arith}
-use Rattle.jiter_steps.specs.Literal.{start_of}
+use Rattle.jiter_steps.proofs.Words.{ap, arith, start_of}
 use Rattle.jiter_steps.specs.declared.parse.ContainerKind.TheVariants as shape
 use Rattle.jiter_steps.proofs.Calls.FastSkips.{plain-opens}
 use Rattle.jiter_steps.proofs.skip.fast_open.Goals as goal

@@ -1,9 +1,6 @@
-use Rattle.std.proofs.Common.{◌∙◌, Bool, refl, sym, ap, true, false, arith}
+use Rattle.jiter_steps.proofs.Words.{◌∙◌, Bool, refl, sym, ap, true, false, arith, only_ends, value_from, open_frames}
 use Rattle.jiter_steps.proofs.Calls.FastSkips.{plain-passed, continues-told}
 use Rattle.jiter_steps.proofs.Calls.Skipping.{length-open_frames}
-use Rattle.jiter_steps.specs.Answer.{only_ends}
-use Rattle.jiter_steps.specs.Frames.{value_from}
-use Rattle.jiter_steps.specs.Skip.{open_frames}
 use Rattle.jiter_steps.proofs.skip.fast_turns.Goals as goal
 
 pub turns-init : goal.turns-init

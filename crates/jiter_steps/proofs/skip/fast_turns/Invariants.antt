@@ -1,7 +1,4 @@
-use Rattle.std.proofs.Common.{◌≡◌, ◌≤◌, ◌<◌, ◌-◌, Bool, length}
-use Rattle.jiter_steps.specs.Answer.{only_ends}
-use Rattle.jiter_steps.specs.Frames.{value_from}
-use Rattle.jiter_steps.specs.Skip.{open_frames}
+use Rattle.jiter_steps.proofs.Words.{◌≡◌, ◌≤◌, ◌<◌, ◌-◌, Bool, length, only_ends, value_from, open_frames}
 use Rattle.jiter_steps.proofs.skip.fast_turns.Given as goal
 
 abbrev pub invariant-turns : goal.invariant-turns

@@ -1,5 +1,4 @@
-use Rattle.std.proofs.Common.{refl, sym, arith}
-use Rattle.jiter_steps.specs.Answer.{only_ends}
+use Rattle.jiter_steps.proofs.Words.{refl, sym, arith, only_ends}
 use Rattle.jiter_steps.proofs.Calls.Resumed.{value_in-levels}
 use Rattle.jiter_steps.proofs.skip.skip_container.Goals as goal
 

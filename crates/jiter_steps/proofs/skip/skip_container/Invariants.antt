@@ -1,8 +1,4 @@
-use Rattle.std.proofs.Common.{◌≡◌, ◌<◌, ◌-◌, length}
-use Rattle.jiter_steps.specs.Answer.{only_ends, skip_at}
-use Rattle.jiter_steps.specs.Frames.{value_from}
-use Rattle.jiter_steps.specs.Parse.{Moves}
-use Rattle.jiter_steps.specs.Skip.{open_frames}
+use Rattle.jiter_steps.proofs.Words.{◌≡◌, ◌<◌, ◌-◌, length, only_ends, skip_at, value_from, Moves, open_frames}
 use Rattle.jiter_steps.proofs.skip.skip_container.Given as goal
 
 abbrev pub invariant-skipping : goal.invariant-skipping

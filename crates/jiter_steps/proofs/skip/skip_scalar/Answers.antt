@@ -1,6 +1,4 @@
-use Rattle.std.proofs.Common.{◌∙◌, ap, sym}
-use Rattle.std.proofs.lemmas.Result.{err_from_is_err_and}
-use Rattle.jiter_steps.specs.Read.{scalar_at}
+use Rattle.jiter_steps.proofs.Words.{◌∙◌, ap, sym, err_from_is_err_and, scalar_at}
 use Rattle.jiter_steps.proofs.Calls.Skipping.{number-value}
 use Rattle.jiter_steps.proofs.skip.skip_scalar.Goals as goal
 

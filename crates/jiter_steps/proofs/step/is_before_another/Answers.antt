@@ -1,6 +1,4 @@
-use Rattle.std.proofs.Common.{◌∙◌, ap, arith, sym}
-use Rattle.std.specs.Prelude.{Some}
-use Rattle.std.proofs.lemmas.Bool.{eqb-true}
+use Rattle.jiter_steps.proofs.Words.{◌∙◌, ap, arith, sym, Some, eqb-true}
 use Rattle.jiter_steps.proofs.Grammar.Blanks.{past_blanks-above}
 use Rattle.jiter_steps.proofs.Grammar.Places.{got}
 use Rattle.jiter_steps.proofs.step.is_before_another.Goals as goal

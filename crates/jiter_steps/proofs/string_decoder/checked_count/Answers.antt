@@ -1,12 +1,7 @@
-use Rattle.std.proofs.Common.{◌≡◌, ◌≢◌, ℕ, ◌+◌, ◌∙◌, ◌++◌, [], Bool, List, ap, arith, drop, false, length, nat_eq, sym, take, true, ◌≤◌}
-use Rattle.std.specs.Str.{IsUtf8}
-use Rattle.std.proofs.lemmas.Bool.{eq-eqb, ne_eqb}
-use Rattle.std.proofs.lemmas.List.{length-drop, length-take, take-append-drop, take_all}
-use Rattle.jiter_scan.specs.Kind.{invalid_code_point}
-use Rattle.jiter_scan.specs.Scanned.{Scanned, failed, taken}
-use Rattle.jiter_steps.specs.PartialText.{IsBroken, IsUnfinished}
-use Rattle.jiter_steps.specs.StringReading.{checked}
-use Rattle.jiter_steps.specs.Tree.{Text}
+use Rattle.jiter_steps.proofs.Words.{◌≡◌, ◌≢◌, ℕ, ◌+◌, ◌∙◌, ◌++◌, [], Bool, List, ap, arith, drop, false, length}
+use Rattle.jiter_steps.proofs.Words.{nat_eq, sym, take, true, ◌≤◌, IsUtf8, eq-eqb, ne_eqb, length-drop, length-take}
+use Rattle.jiter_steps.proofs.Words.{take-append-drop, take_all, invalid_code_point, Scanned, failed, taken, IsBroken}
+use Rattle.jiter_steps.proofs.Words.{IsUnfinished, checked, Text}
 use Rattle.jiter_steps.proofs.Calls.StringAnswers.{string-checked}
 use Rattle.jiter_steps.proofs.OpenTexts.{broken-fails, open-kept, open-whole}
 use Rattle.jiter_steps.proofs.string_decoder.checked_count.Goals as goal

@@ -1,8 +1,6 @@
-use Rattle.std.proofs.Common.{◌+◌, ◌∙◌, true, ap, subst, take, rules}
-use Rattle.std.specs.Str.{IsUtf8}
-use Rattle.std.proofs.lemmas.Result.{err_from_is_err_and}
-use Rattle.jiter_scan.specs.Scanned.{taken}
-use Rattle.jiter_steps.specs.StringReading.{body_at, text_form}
+use Rattle.jiter_steps.proofs.Words.{◌+◌, ◌∙◌, true, ap, subst, take, IsUtf8, err_from_is_err_and, taken, body_at}
+use Rattle.jiter_steps.proofs.Words.{text_form}
+use Rattle.std.proofs.Common.{rules}
 use Rattle.jiter_steps.proofs.Calls.Decoded.{prefix-prefix}
 use Rattle.jiter_steps.proofs.Calls.StringAnswers.{string-escaped}
 use Rattle.jiter_steps.proofs.string_decoder.decode_inline.Goals as goal

@@ -1,9 +1,5 @@
-use Rattle.std.proofs.Common.{◌++◌, ◌∙◌, ap, arith, subst, sym}
-use Rattle.std.specs.Str.{IsUtf8}
-use Rattle.jiter_scan.specs.Scan.{is_plain}
-use Rattle.jiter_scan.proofs.Runs.{run_end-ahead}
-use Rattle.jiter_steps.specs.StringDecoder.{stop_view}
-use Rattle.jiter_steps.specs.StringReading.{Body, body_at}
+use Rattle.jiter_steps.proofs.Words.{◌++◌, ◌∙◌, ap, arith, subst, sym, IsUtf8, is_plain, run_end-ahead, stop_view, Body}
+use Rattle.jiter_steps.proofs.Words.{body_at}
 use Rattle.jiter_steps.proofs.Calls.DecodeSteps.{copied-decoded, copied-known, copied-within, decode-more, decode-over}
 use Rattle.jiter_steps.proofs.Calls.DecodeSteps.{known-escape}
 use Rattle.jiter_steps.proofs.Calls.FastAnswers.{plain-utf8}

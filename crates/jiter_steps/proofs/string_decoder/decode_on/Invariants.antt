@@ -1,8 +1,6 @@
-use Rattle.std.proofs.Common.{◌≡◌, ◌+◌, ◌-◌, ◌≤◌, ◌++◌, length, take, true}
-use Rattle.std.specs.Prelude.{slice_get, vec_len, IfSome, IsTrue}
-use Rattle.std.specs.Str.{IsUtf8}
-use Rattle.jiter_scan.specs.Scan.{is_stop}
-use Rattle.jiter_steps.specs.StringReading.{body_at}
+use Rattle.jiter_steps.proofs.Words.{◌≡◌, ◌+◌, ◌-◌, ◌≤◌, ◌++◌, length, take, true, slice_get, IfSome, IsTrue, IsUtf8}
+use Rattle.jiter_steps.proofs.Words.{is_stop, body_at}
+use Rattle.std.specs.Prelude.{vec_len}
 use Rattle.jiter_steps.proofs.string_decoder.decode_on.Given as goal
 
 abbrev pub invariant-loop-at : goal.invariant-loop-at

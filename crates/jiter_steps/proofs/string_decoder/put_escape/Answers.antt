@@ -1,5 +1,4 @@
-use Rattle.std.proofs.Common.{◌+◌, ◌++◌, ◌∙◌, ap, arith, take}
-use Rattle.std.specs.Char.{encode_utf8}
+use Rattle.jiter_steps.proofs.Words.{◌+◌, ◌++◌, ◌∙◌, ap, arith, take, encode_utf8}
 use Rattle.std.proofs.lemmas.Grind.{take-set_at}
 use Rattle.jiter_steps.proofs.Calls.DecodeSteps.{encode-sign}
 use Rattle.jiter_steps.proofs.string_decoder.put_escape.Goals as goal

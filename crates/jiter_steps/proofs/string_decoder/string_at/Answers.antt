@@ -1,10 +1,6 @@
-use Rattle.std.proofs.Common.{◌≡◌, ◌≢◌, ◌+◌, ◌∙◌, ℕ, arith, inl, inr, length, subst, sym, true}
-use Rattle.std.proofs.lemmas.Bool.{false≢true}
-use Rattle.std.proofs.lemmas.Option.{slice_get_within}
-use Rattle.jiter_scan.specs.Scan.{IsLook}
-use Rattle.jiter_scan.specs.declared.short_scan.Look.{Look}
+use Rattle.jiter_steps.proofs.Words.{◌≡◌, ◌≢◌, ◌+◌, ◌∙◌, ℕ, arith, inl, inr, length, subst, sym, true, false≢true}
+use Rattle.jiter_steps.proofs.Words.{slice_get_within, IsLook, Look, text_form}
 use Rattle.jiter_scan.specs.declared.short_scan.Look.TheVariants as look
-use Rattle.jiter_steps.specs.StringReading.{text_form}
 use Rattle.jiter_steps.proofs.Calls.FastAnswers.{plain-utf8}
 use Rattle.jiter_steps.proofs.Calls.Looks.{look-checked, look-ended, look-plain, look-unkept}
 use Rattle.jiter_steps.proofs.Calls.StringAnswers.{string-advances}

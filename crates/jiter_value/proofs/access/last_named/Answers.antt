@@ -1,7 +1,5 @@
-use Rattle.std.proofs.Common.{◌≡◌, ◌∙◌, ◌+◌, ◌-◌, ◌<◌, None, ap, arith, length, sym, take}
-use Rattle.std.specs.Str.{bytes_eq}
-use Rattle.jiter_value.specs.Access.{last_such}
-use Rattle.jiter_value.specs.Value.{member_views}
+use Rattle.jiter_value.proofs.Words.{◌≡◌, ◌∙◌, ◌+◌, ◌-◌, ◌<◌, None, ap, arith, length, sym, take, bytes_eq, last_such}
+use Rattle.jiter_value.proofs.Words.{member_views}
 use Rattle.jiter_value.proofs.Looking.{last_such_hit, last_such_miss}
 use Rattle.jiter_value.proofs.access.last_named.Goals as goal
 

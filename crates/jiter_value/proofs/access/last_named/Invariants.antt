@@ -1,7 +1,4 @@
-use Rattle.std.proofs.Common.{◌≡◌, ◌≤◌, None, length, take}
-use Rattle.std.specs.Str.{bytes_eq}
-use Rattle.jiter_value.specs.Access.{last_such}
-use Rattle.jiter_value.specs.Value.{member_views}
+use Rattle.jiter_value.proofs.Words.{◌≡◌, ◌≤◌, None, length, take, bytes_eq, last_such, member_views}
 use Rattle.jiter_value.proofs.access.last_named.Given as goal
 
 abbrev pub invariant-loop-rest : goal.invariant-loop-rest

@@ -1,6 +1,4 @@
-use Rattle.std.proofs.Common.{◌≡◌, map, take}
-use Rattle.jiter_value.specs.Stacks.{member_view}
-use Rattle.jiter_value.specs.Value.{view}
+use Rattle.jiter_value.proofs.Words.{◌≡◌, map, take, member_view, view}
 use Rattle.jiter_value.proofs.copies.+copy.Given as goal
 
 abbrev pub invariant-copy_items-loop-i : goal.invariant-copy_items-loop-i

@@ -1,8 +1,4 @@
-use Rattle.std.proofs.Common.{◌≡◌, map, ◌∙◌, ap, ap₂, rules, arith}
-use Rattle.jiter_steps.specs.StringDecoder.{text_view}
-use Rattle.jiter_value.specs.Owned.{owned_member}
-use Rattle.jiter_value.specs.Stacks.{member_view}
-use Rattle.jiter_value.specs.Value.{view}
+use Rattle.jiter_value.proofs.Words.{◌≡◌, map, ◌∙◌, ap, ap₂, rules, arith, text_view, owned_member, member_view, view}
 use Rattle.jiter_value.proofs.Owning.{moved-more}
 use Rattle.jiter_value.proofs.copies.+move_out.Goals as goal
 

@@ -1,7 +1,4 @@
-use Rattle.std.proofs.Common.{◌≡◌, map, take}
-use Rattle.jiter_value.specs.Owned.{owned_tree, owned_member}
-use Rattle.jiter_value.specs.Stacks.{member_view}
-use Rattle.jiter_value.specs.Value.{view}
+use Rattle.jiter_value.proofs.Words.{◌≡◌, map, take, owned_tree, owned_member, member_view, view}
 use Rattle.jiter_value.proofs.copies.+move_out.Given as goal
 
 abbrev pub invariant-move_items-loop-i : goal.invariant-move_items-loop-i

@@ -1,8 +1,4 @@
-use Rattle.std.proofs.Common.{ap, arith}
-use Rattle.jiter_steps.specs.Tree.{Text, Tree}
-use Rattle.jiter_value.specs.Owned.{owned_tree, owned_member}
-use Rattle.jiter_value.specs.Stacks.{member_view}
-use Rattle.jiter_value.specs.Value.{view}
+use Rattle.jiter_value.proofs.Words.{ap, arith, Text, Tree, owned_tree, owned_member, member_view, view}
 use Rattle.jiter_value.proofs.Equal.{array-decides, object-decides, differ-at}
 use Rattle.jiter_value.proofs.equality.+same.Goals as goal
 

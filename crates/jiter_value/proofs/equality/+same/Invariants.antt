@@ -1,7 +1,4 @@
-use Rattle.std.proofs.Common.{◌≡◌, map, take}
-use Rattle.jiter_value.specs.Owned.{owned_tree, owned_member}
-use Rattle.jiter_value.specs.Stacks.{member_view}
-use Rattle.jiter_value.specs.Value.{view}
+use Rattle.jiter_value.proofs.Words.{◌≡◌, map, take, owned_tree, owned_member, member_view, view}
 use Rattle.jiter_value.proofs.equality.+same.Given as goal
 
 abbrev pub invariant-same_items-loop-i : goal.invariant-same_items-loop-i

@@ -1,8 +1,4 @@
-use Rattle.std.proofs.Common.{◌≤◌, ap, arith, length, Ok, Err}
-use Rattle.jiter_steps.specs.Blank.{past_blanks}
-use Rattle.jiter_value.specs.Parses.{as_read}
-use Rattle.jiter_value.specs.Value.{MayGrow}
-use Rattle.jiter_value.specs.declared.value.JsonValue.{JsonValue}
+use Rattle.jiter_value.proofs.Words.{◌≤◌, ap, arith, length, Ok, Err, past_blanks, as_read, MayGrow, JsonValue}
 use Rattle.jiter_value.proofs.MadeAnswers.{lent-gives}
 use Rattle.jiter_value.proofs.ParsedDocuments.{value-parses, error-parses}
 use Rattle.jiter_value.proofs.TurnOutcomes.{refused-weaker}

@@ -1,9 +1,6 @@
-use Rattle.std.proofs.Common.{refl, ap, ◌∙◌, sym, arith}
-use Rattle.std.specs.Prelude.{slice_get}
+use Rattle.jiter_value.proofs.Words.{refl, ap, ◌∙◌, sym, arith, slice_get, value_first, lent, rules_as}
 use Rattle.std.proofs.lemmas.Option.{slice_get_past}
-use Rattle.jiter_steps.specs.Step.{value_first}
 use Rattle.jiter_scan.specs.Kind.{eof_value}
-use Rattle.jiter_value.specs.Settings.{lent, rules_as}
 use Rattle.jiter_value.proofs.WholeTextAnswers.{answer-none, begins-at-value}
 use Rattle.jiter_value.proofs.machine.begin.Goals as goal
 

@@ -1,7 +1,4 @@
-use Rattle.std.proofs.Common.{refl}
-use Rattle.jiter_steps.specs.Blank.{past_blanks}
-use Rattle.jiter_value.specs.Owned.{owned_tree}
-use Rattle.jiter_value.specs.Value.{MayGrow}
+use Rattle.jiter_value.proofs.Words.{refl, past_blanks, owned_tree, MayGrow}
 use Rattle.jiter_value.proofs.ParsedDocuments.{parses-same}
 use Rattle.jiter_value.proofs.TurnOutcomes.{grows-container}
 use Rattle.jiter_value.proofs.parse_owned.own_text.Goals as goal

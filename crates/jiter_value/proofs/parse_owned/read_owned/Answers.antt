@@ -1,8 +1,5 @@
-use Rattle.std.proofs.Common.{refl, subst, inl}
-use Rattle.jiter_steps.specs.Parse.{Gives}
-use Rattle.jiter_value.specs.Owned.{owned_text}
+use Rattle.jiter_value.proofs.Words.{refl, subst, inl, Gives, owned_text, view}
 use Rattle.jiter_value.specs.Settings.{each}
-use Rattle.jiter_value.specs.Value.{view}
 use Rattle.jiter_value.proofs.MadeTexts.{value_at-as}
 use Rattle.jiter_value.proofs.TurnOutcomes.{refused-weaker}
 use Rattle.jiter_value.proofs.parse_owned.read_owned.Goals as goal

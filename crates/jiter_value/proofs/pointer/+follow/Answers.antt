@@ -1,8 +1,7 @@
-use Rattle.std.proofs.Common.{◌≡◌, None, option_and_then, sym, ap, ◌∙◌, arith}
-use Rattle.std.specs.List.{slice_split}
+use Rattle.jiter_value.proofs.Words.{◌≡◌, None, option_and_then, sym, ap, ◌∙◌, arith, slice_split, pointed, is_slash}
+use Rattle.jiter_value.proofs.Words.{view}
 use Rattle.std.proofs.lemmas.Str.Pattern.{split_parts}
-use Rattle.jiter_value.specs.Pointer.{pointed, part_spelled, is_slash}
-use Rattle.jiter_value.specs.Value.{view}
+use Rattle.jiter_value.specs.Pointer.{part_spelled}
 use Rattle.jiter_value.proofs.Pointing.{first_token, last_token, nothing_after}
 use Rattle.jiter_value.proofs.pointer.+follow.Goals as goal
 

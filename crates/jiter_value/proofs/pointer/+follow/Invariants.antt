@@ -1,4 +1,4 @@
-use Rattle.std.proofs.Common.{length}
+use Rattle.jiter_value.proofs.Words.{length}
 use Rattle.jiter_value.proofs.pointer.+follow.Given as goal
 
 abbrev pub decreases-follow : goal.decreases-follow

@@ -1,4 +1,4 @@
-use Rattle.std.proofs.Common.{◌<◌, ◌≤◌, length, slice_index, ap, arith}
+use Rattle.jiter_value.proofs.Words.{◌<◌, ◌≤◌, length, slice_index, ap, arith}
 use Rattle.jiter_value.proofs.Pointing.{no_index, index_parsed}
 use Rattle.jiter_value.proofs.pointer.index_of.Goals as goal
 use Rattle.jiter_value.proofs.pointer.index_of.Goals.{else-bytes-gt1-via-then-bytes-gt1+else-bytes-lt49}

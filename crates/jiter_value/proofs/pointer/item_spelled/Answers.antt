@@ -1,4 +1,4 @@
-use Rattle.std.proofs.Common.{◌∙◌, arith}
+use Rattle.jiter_value.proofs.Words.{◌∙◌, arith}
 use Rattle.jiter_value.proofs.Pointing.{spelled_there, spelled_nowhere}
 use Rattle.jiter_value.proofs.pointer.item_spelled.Goals as goal
 

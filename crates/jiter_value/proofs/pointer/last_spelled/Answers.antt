@@ -1,8 +1,5 @@
-use Rattle.std.proofs.Common.{◌≡◌, ◌∙◌, ◌+◌, ◌-◌, ◌<◌, Bool, List, None, ap, arith, length, take, ℕ}
-use Rattle.std.specs.Str.{bytes_eq}
-use Rattle.jiter_value.specs.Access.{last_such}
-use Rattle.jiter_value.specs.Pointer.{token_of}
-use Rattle.jiter_value.specs.Value.{member_views}
+use Rattle.jiter_value.proofs.Words.{◌≡◌, ◌∙◌, ◌+◌, ◌-◌, ◌<◌, Bool, List, None, ap, arith, length, take, ℕ, bytes_eq}
+use Rattle.jiter_value.proofs.Words.{last_such, token_of, member_views}
 use Rattle.jiter_value.proofs.Looking.{last_such_hit, last_such_miss}
 use Rattle.jiter_value.proofs.Pointing.{not_spelled_if, spelled_if}
 use Rattle.jiter_value.proofs.pointer.last_spelled.Goals as goal

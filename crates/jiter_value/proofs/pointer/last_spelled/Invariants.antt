@@ -1,8 +1,4 @@
-use Rattle.std.proofs.Common.{◌≡◌, ◌≤◌, None, length, take}
-use Rattle.std.specs.Str.{bytes_eq}
-use Rattle.jiter_value.specs.Access.{last_such}
-use Rattle.jiter_value.specs.Pointer.{token_of}
-use Rattle.jiter_value.specs.Value.{member_views}
+use Rattle.jiter_value.proofs.Words.{◌≡◌, ◌≤◌, None, length, take, bytes_eq, last_such, token_of, member_views}
 use Rattle.jiter_value.proofs.pointer.last_spelled.Given as goal
 
 abbrev pub invariant-loop-rest : goal.invariant-loop-rest

@@ -1,5 +1,4 @@
-use Rattle.std.proofs.Common.{◌≡◌, ◌↔◌, drop}
-use Rattle.jiter_value.specs.Pointer.{token_of}
+use Rattle.jiter_value.proofs.Words.{◌≡◌, ◌↔◌, drop, token_of}
 use Rattle.jiter_value.proofs.pointer.spells.Given as goal
 
 abbrev pub invariant-loop-i : goal.invariant-loop-i

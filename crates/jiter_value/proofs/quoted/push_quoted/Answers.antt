@@ -1,5 +1,4 @@
-use Rattle.std.proofs.Common.{refl}
-use Rattle.std.proofs.lemmas.Str.{IsCharBoundary-start}
+use Rattle.jiter_value.proofs.Words.{refl, IsCharBoundary-start}
 use Rattle.jiter_value.proofs.quoted.push_quoted.Goals as goal
 
 pub loop-at-init : goal.loop-at-init

@@ -1,8 +1,5 @@
-use Rattle.std.proofs.Common.{◌≡◌, ◌++◌, ◌-◌, length}
-use Rattle.std.specs.Prelude.{flat_map, string_bytes}
-use Rattle.std.specs.Str.{IsCharBoundary}
-use Rattle.jiter_scan.specs.Quoted.{quoted_byte}
-use Rattle.jiter_value.specs.QuotedKeys.{quoted_from}
+use Rattle.jiter_value.proofs.Words.{◌≡◌, ◌++◌, ◌-◌, length, flat_map, string_bytes, IsCharBoundary, quoted_byte}
+use Rattle.jiter_value.proofs.Words.{quoted_from}
 use Rattle.jiter_value.proofs.quoted.push_quoted.Given as goal
 
 abbrev pub invariant-loop-at : goal.invariant-loop-at

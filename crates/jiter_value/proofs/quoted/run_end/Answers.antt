@@ -1,6 +1,4 @@
-use Rattle.std.proofs.Common.{◌≡◌, ◌++◌, subst, length, arith}
-use Rattle.std.specs.Prelude.{slice_range}
-use Rattle.jiter_value.specs.QuotedKeys.{quoted_from}
+use Rattle.jiter_value.proofs.Words.{◌≡◌, ◌++◌, subst, length, arith, slice_range, quoted_from}
 use Rattle.jiter_value.proofs.QuotedKeys.{run-begins, run-more}
 use Rattle.jiter_value.proofs.quoted.run_end.Goals as goal
 

@@ -1,6 +1,4 @@
-use Rattle.std.proofs.Common.{◌≡◌, ◌++◌}
-use Rattle.std.specs.Prelude.{slice_range}
-use Rattle.jiter_value.specs.QuotedKeys.{quoted_from}
+use Rattle.jiter_value.proofs.Words.{◌≡◌, ◌++◌, slice_range, quoted_from}
 use Rattle.jiter_value.proofs.quoted.run_end.Given as goal
 
 abbrev pub invariant-loop-i : goal.invariant-loop-i

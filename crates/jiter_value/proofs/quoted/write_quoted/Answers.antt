@@ -1,9 +1,5 @@
-use Rattle.std.proofs.Common.{refl, rules, [], ◌++◌}
-use Rattle.std.specs.Prelude.{flat_map}
+use Rattle.jiter_value.proofs.Words.{refl, rules, [], ◌++◌, flat_map, IsCharBoundary-start, quoted_byte, quoted_from}
 use Rattle.std.proofs.Output.{has_written_append}
-use Rattle.std.proofs.lemmas.Str.{IsCharBoundary-start}
-use Rattle.jiter_scan.specs.Quoted.{quoted_byte}
-use Rattle.jiter_value.specs.QuotedKeys.{quoted_from}
 use Rattle.jiter_value.proofs.QuotedKeys.{printed-more}
 use Rattle.jiter_value.proofs.quoted.write_quoted.Goals as goal
 

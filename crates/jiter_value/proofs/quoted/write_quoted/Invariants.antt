@@ -1,9 +1,6 @@
-use Rattle.std.proofs.Common.{◌≡◌, ◌++◌, ◌-◌, List, ℕ, length}
-use Rattle.std.specs.Prelude.{flat_map}
+use Rattle.jiter_value.proofs.Words.{◌≡◌, ◌++◌, ◌-◌, List, ℕ, length, flat_map, IsCharBoundary, quoted_byte}
+use Rattle.jiter_value.proofs.Words.{quoted_from}
 use Rattle.std.specs.Fmt.{HasWritten, IsPlainFormatter}
-use Rattle.std.specs.Str.{IsCharBoundary}
-use Rattle.jiter_scan.specs.Quoted.{quoted_byte}
-use Rattle.jiter_value.specs.QuotedKeys.{quoted_from}
 use Rattle.jiter_value.proofs.quoted.write_quoted.Given as goal
 
 abbrev pub invariant-loop-at : goal.invariant-loop-at

@@ -1,8 +1,4 @@
-use Rattle.std.proofs.Common.{◌≡◌, ◌≢◌, ap, refl, true}
-use Rattle.jiter_scan.specs.PartialMode.{is_active}
-use Rattle.jiter_scan.specs.declared.partial_mode.PartialMode.{PartialMode}
-use Rattle.std.proofs.lemmas.Result.{err_from_is_err_and}
-use Rattle.jiter_value.specs.Settings.{rules_as}
+use Rattle.jiter_value.proofs.Words.{◌≡◌, ◌≢◌, ap, refl, true, is_active, PartialMode, err_from_is_err_and, rules_as}
 use Rattle.jiter_value.proofs.WholeTextAnswers.{answer-prefix, answer-end, answer-trailing}
 use Rattle.jiter_value.proofs.reading.finish_whole.Goals as goal
 

@@ -1,7 +1,4 @@
-use Rattle.jiter_steps.specs.Blank.{past_blanks}
-use Rattle.jiter_value.specs.Owned.{as_it_is, tree_as}
-use Rattle.jiter_value.specs.Parses.{as_read}
-use Rattle.jiter_value.specs.Value.{MayGrowBy, MayGrow}
+use Rattle.jiter_value.proofs.Words.{past_blanks, as_it_is, tree_as, as_read, MayGrowBy, MayGrow}
 use Rattle.jiter_value.proofs.MadeTexts.{tree_as-it_is}
 use Rattle.jiter_value.proofs.ParsedDocuments.{parses-same}
 use Rattle.jiter_value.proofs.TurnOutcomes.{grows-borrowing}

@@ -1,7 +1,4 @@
-use Rattle.std.proofs.Common.{◌∙◌, ap, arith, length}
-use Rattle.jiter_steps.specs.Blank.{past_blanks}
-use Rattle.jiter_value.specs.Owned.{tree_as}
-use Rattle.jiter_value.specs.Value.{MayGrowBy}
+use Rattle.jiter_value.proofs.Words.{◌∙◌, ap, arith, length, past_blanks, tree_as, MayGrowBy}
 use Rattle.jiter_value.proofs.MadeTexts.{answer_as-is}
 use Rattle.jiter_value.proofs.ParsedDocuments.{value-parses, error-parses}
 use Rattle.jiter_value.proofs.reading.read_text_as.Goals as goal

@@ -1,6 +1,4 @@
-use Rattle.std.proofs.Common.{subst}
-use Rattle.jiter_steps.specs.Parse.{Gives}
-use Rattle.jiter_value.specs.Value.{view}
+use Rattle.jiter_value.proofs.Words.{subst, Gives, view}
 use Rattle.jiter_value.proofs.MadeTexts.{value_at-it_is}
 use Rattle.jiter_value.proofs.TurnOutcomes.{refused-weaker, grows-borrowing}
 use Rattle.jiter_value.proofs.reading.read_value.Goals as goal

@@ -1,6 +1,4 @@
-use Rattle.std.proofs.Common.{◌∙◌, refl, ap, sym}
-use Rattle.std.proofs.lemmas.Result.{err_from_is_err_and}
-use Rattle.jiter_value.specs.Settings.{rules_as}
+use Rattle.jiter_value.proofs.Words.{◌∙◌, refl, ap, sym, err_from_is_err_and, rules_as}
 use Rattle.jiter_value.proofs.WholeTextAnswers.{answer-none, answer-refused, value-begins-at}
 use Rattle.jiter_value.proofs.reading.read_whole.Goals as goal
 

@@ -1,5 +1,5 @@
-use Rattle.std.proofs.Common.{◌≡◌, ◌≢◌, ◌⊎◌, inl, inr, false, true, refl, ap, sym, ◌∙◌}
-use Rattle.jiter_scan.specs.Kind.{fault_kind, is_forgiven}
+use Rattle.jiter_value.proofs.Words.{◌≡◌, ◌≢◌, ◌⊎◌, inl, inr, false, true, refl, ap, sym, ◌∙◌, fault_kind}
+use Rattle.jiter_scan.specs.Kind.{is_forgiven}
 use Rattle.jiter_scan.specs.declared.errors.FaultKind.{FaultKind}
 use Rattle.jiter_scan.specs.declared.errors.FaultKind.TheVariants.{EofWhileParsingList, EofWhileParsingObject}
 use Rattle.jiter_scan.specs.declared.errors.FaultKind.TheVariants.{EofWhileParsingString, EofWhileParsingValue}

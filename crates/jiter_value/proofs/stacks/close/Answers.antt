@@ -1,8 +1,6 @@
-use Rattle.std.proofs.Common.{◌∙◌, sym, ap, map, reverse}
-use Rattle.jiter_steps.specs.Tree.{array, object, items_of, members_of}
+use Rattle.jiter_value.proofs.Words.{◌∙◌, sym, ap, map, reverse, array, object, items_of, members_of, frames}
+use Rattle.jiter_value.proofs.Words.{member_view, view}
 use Rattle.jiter_steps.specs.declared.parse.ContainerKind.TheVariants as shape
-use Rattle.jiter_value.specs.Stacks.{frames, member_view}
-use Rattle.jiter_value.specs.Value.{view}
 use Rattle.jiter_value.proofs.KeptKeys.{leaves-taken, leaves-then}
 use Rattle.jiter_value.proofs.StackTurns.{container-closes}
 use Rattle.jiter_value.proofs.Sizes.{container-size}

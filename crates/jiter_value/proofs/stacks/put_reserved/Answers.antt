@@ -1,4 +1,5 @@
-use Rattle.std.proofs.Common.{◌-◌, length, take, reverse, rules as library_rules}
+use Rattle.jiter_value.proofs.Words.{◌-◌, length, take, reverse}
+use Rattle.std.proofs.Common.{rules as library_rules}
 use Rattle.jiter_value.proofs.Sizes.{put-item-size, put-value-size}
 use Rattle.jiter_value.proofs.StackTurns.{put-item, put-value, last-member, key-above}
 use Rattle.jiter_value.proofs.stacks.put_reserved.Goals as goal

@@ -1,5 +1,4 @@
-use Rattle.std.proofs.Common.{◌≡◌, ◌-◌, ◌∷◌, [], ◌∙◌, ap, arith, length, length-append}
-use Rattle.std.specs.Prelude.{slice_set}
+use Rattle.jiter_value.proofs.Words.{◌≡◌, ◌-◌, ◌∷◌, [], ◌∙◌, ap, arith, length, length-append, slice_set}
 use Rattle.jiter_value.proofs.KeptKeys.{leaves-set}
 use Rattle.jiter_value.proofs.StackTurns.{set-last}
 use Rattle.jiter_value.proofs.stacks.set_last.Goals as goal

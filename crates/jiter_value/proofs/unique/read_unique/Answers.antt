@@ -1,6 +1,4 @@
-use Rattle.std.proofs.Common.{◌∙◌, refl, ap, arith, sym, Err}
-use Rattle.jiter_scan.specs.Kind.{fault_kind}
-use Rattle.jiter_value.specs.declared.value.JsonValue.{JsonValue}
+use Rattle.jiter_value.proofs.Words.{◌∙◌, refl, ap, arith, sym, Err, fault_kind, JsonValue}
 use Rattle.jiter_value.proofs.Repeats.{stops-grows, whole-none, whole-stopped, whole-given}
 use Rattle.jiter_value.proofs.TurnOutcomes.{refused-weaker}
 use Rattle.jiter_value.proofs.WholeTextAnswers.{value-begins-at}

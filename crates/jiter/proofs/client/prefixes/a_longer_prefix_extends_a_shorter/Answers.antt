@@ -1,5 +1,4 @@
-use Rattle.jiter_value.specs.Owned.{owned_tree}
-use Rattle.jiter_value.specs.Parses.{as_read}
+use Rattle.jiter.proofs.Words.{owned_tree, as_read}
 use Rattle.jiter.proofs.Growth.{prefixes-grow, extends-owned}
 use Rattle.jiter.proofs.client.prefixes.a_longer_prefix_extends_a_shorter.Goals as goal
 

@@ -1,9 +1,5 @@
-use Rattle.std.proofs.Common.{subst, sym, take, take-take, arith}
-use Rattle.std.specs.Prelude.{Ok}
-use Rattle.std.proofs.lemmas.List.{length-take}
-use Rattle.jiter_steps.specs.Answer.{answer_in}
-use Rattle.jiter_value.specs.Parses.{as_read, reading_as}
-use Rattle.jiter_value.specs.Value.{Answers}
+use Rattle.jiter.proofs.Words.{subst, sym, take, take-take, arith, Ok, length-take, answer_in, as_read, reading_as}
+use Rattle.jiter.proofs.Words.{Answers}
 use Rattle.jiter.proofs.Growth.{prefixes-grow}
 use Rattle.jiter.proofs.client.prefixes.two_prefixes.Goals as goal
 

@@ -1,4 +1,4 @@
-use Rattle.std.proofs.Common.{◌∙◌, sym}
+use Rattle.jiter.proofs.Words.{◌∙◌, sym}
 use Rattle.jiter.specs.Errors.{type_of}
 use Rattle.jiter.proofs.ReadLaws.{other-refused}
 use Rattle.jiter.proofs.jiter.Jiter.cold_stop_at.Goals as goal

@@ -1,9 +1,6 @@
-use Rattle.std.proofs.Common.{◌∙◌, ◌<◌, refl, sym, subst, length, arith}
-use Rattle.std.proofs.lemmas.Option.{slice_get_within}
-use Rattle.jiter_scan.proofs.Scanning.{ScalarWithin}
-use Rattle.jiter_steps.specs.StringReading.{text_form}
+use Rattle.jiter.proofs.Words.{◌∙◌, ◌<◌, refl, sym, subst, length, arith, slice_get_within, ScalarWithin, text_form}
+use Rattle.jiter.proofs.Words.{string_at-within}
 use Rattle.jiter_steps.proofs.Calls.Looks.{look-escaped}
-use Rattle.jiter_steps.proofs.Grammar.StringLaws.{string_at-within}
 use Rattle.jiter.proofs.FastReplies.{decoded, undecoded}
 use Rattle.jiter.proofs.jiter.Jiter.escaped_str.Goals as goal
 

@@ -1,7 +1,4 @@
-use Rattle.std.proofs.Common.{refl, ap}
-use Rattle.jiter_steps.specs.RawString.{raw_view}
-use Rattle.jiter_steps.specs.StringReading.{raw}
-use Rattle.jiter.specs.Reader.{ReaderState}
+use Rattle.jiter.proofs.Words.{refl, ap, raw_view, raw, ReaderState}
 use Rattle.jiter.proofs.FastReplies.{key-read}
 use Rattle.jiter.proofs.jiter.Jiter.key_bytes.Goals as goal
 

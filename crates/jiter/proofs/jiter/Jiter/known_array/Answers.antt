@@ -1,5 +1,4 @@
-use Rattle.std.proofs.Common.{arith}
-use Rattle.jiter.specs.Reader.{array_read}
+use Rattle.jiter.proofs.Words.{arith, array_read}
 use Rattle.jiter.proofs.Peeking.{known-above}
 use Rattle.jiter.proofs.jiter.Jiter.known_array.Goals as goal
 

@@ -1,5 +1,4 @@
-use Rattle.std.proofs.Common.{◌<◌, ◌≤◌, arith, rules}
-use Rattle.jiter.specs.Reader.{bool_read}
+use Rattle.jiter.proofs.Words.{◌<◌, ◌≤◌, arith, rules, bool_read}
 use Rattle.jiter.proofs.Peeking.{known-above, known-low}
 use Rattle.jiter.proofs.ReadLaws.{read-bytes}
 use Rattle.jiter.proofs.jiter.Jiter.known_bool.Goals as goal

@@ -1,8 +1,5 @@
-use Rattle.std.proofs.Common.{rules, ◌∙◌, ap, sym}
-use Rattle.std.proofs.lemmas.Option.{get_or_from_slice_get}
+use Rattle.jiter.proofs.Words.{rules, ◌∙◌, ap, sym, get_or_from_slice_get, start_of, int_read}
 use Rattle.jiter_scan.proofs.NumberLaws.{int_at-within}
-use Rattle.jiter_steps.specs.Literal.{start_of}
-use Rattle.jiter.specs.Reader.{int_read}
 use Rattle.jiter.proofs.ReadLaws.{read-bytes}
 use Rattle.jiter.proofs.Refusals.{refusal-failed}
 use Rattle.jiter.proofs.jiter.Jiter.known_int.Goals as goal

@@ -1,5 +1,4 @@
-use Rattle.std.proofs.Common.{◌<◌, ◌≤◌, arith, rules}
-use Rattle.jiter.specs.Reader.{number_bytes_read}
+use Rattle.jiter.proofs.Words.{◌<◌, ◌≤◌, arith, rules, number_bytes_read}
 use Rattle.jiter.proofs.Peeking.{known-above, known-low}
 use Rattle.jiter.proofs.ReadLaws.{read-bytes}
 use Rattle.jiter.proofs.jiter.Jiter.known_number_bytes.Goals as goal

@@ -1,7 +1,4 @@
-use Rattle.std.proofs.Common.{sym, subst, rules}
-use Rattle.std.proofs.lemmas.Option.{slice_get_within}
-use Rattle.jiter_steps.proofs.Reading.Instances.{skip_at-within}
-use Rattle.jiter.specs.Jiter.{byte_of}
+use Rattle.jiter.proofs.Words.{sym, subst, rules, slice_get_within, skip_at-within, byte_of}
 use Rattle.jiter.proofs.ReadLaws.{read-bytes}
 use Rattle.jiter.proofs.Refusals.{IsInside, reads-fault, refuses}
 use Rattle.jiter.proofs.SkipReplies.{known-read-skipped}

@@ -1,9 +1,4 @@
-use Rattle.std.proofs.Common.{sym, subst, rules, arith}
-use Rattle.std.proofs.lemmas.Grind.{common_steps}
-use Rattle.std.proofs.lemmas.Option.{slice_get_within}
-use Rattle.jiter_steps.proofs.Reading.Instances.{read_at-within}
-use Rattle.jiter_value.specs.Value.{view}
-use Rattle.jiter.specs.Jiter.{byte_of}
+use Rattle.jiter.proofs.Words.{sym, subst, rules, arith, common_steps, slice_get_within, read_at-within, view, byte_of}
 use Rattle.jiter.proofs.Refusals.{IsInside, index-parser, index-refused}
 use Rattle.jiter.proofs.jiter.Jiter.known_value.Goals as goal
 

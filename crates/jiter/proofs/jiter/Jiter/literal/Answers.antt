@@ -1,5 +1,4 @@
-use Rattle.std.proofs.Common.{rules}
-use Rattle.jiter_steps.proofs.Reading.Instances.{literal_at-within}
+use Rattle.jiter.proofs.Words.{rules, literal_at-within}
 use Rattle.jiter.proofs.ReadLaws.{read-bytes}
 use Rattle.jiter.proofs.Refusals.{reading-within, reads-fault, refuses}
 use Rattle.jiter.proofs.jiter.Jiter.literal.Goals as goal

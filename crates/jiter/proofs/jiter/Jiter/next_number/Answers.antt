@@ -1,6 +1,4 @@
-use Rattle.std.proofs.Common.{refl}
-use Rattle.jiter.specs.Jiter.{byte_of}
-use Rattle.jiter.specs.Reader.{number_read}
+use Rattle.jiter.proofs.Words.{refl, byte_of, number_read}
 use Rattle.jiter.proofs.Peeking.{read-peeked}
 use Rattle.jiter.proofs.jiter.Jiter.next_number.Goals as goal
 

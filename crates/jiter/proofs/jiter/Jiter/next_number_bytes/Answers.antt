@@ -1,4 +1,4 @@
-use Rattle.std.proofs.Common.{◌∙◌, refl, sym}
+use Rattle.jiter.proofs.Words.{◌∙◌, refl, sym}
 use Rattle.jiter.proofs.FastReplies.{number-read}
 use Rattle.jiter.proofs.jiter.Jiter.next_number_bytes.Goals as goal
 

@@ -1,7 +1,4 @@
-use Rattle.std.proofs.Common.{refl}
-use Rattle.std.proofs.lemmas.Result.{err_from_is_err_and}
-use Rattle.jiter_steps.specs.StringReading.{whole}
-use Rattle.jiter.specs.Jiter.{key_bytes}
+use Rattle.jiter.proofs.Words.{refl, err_from_is_err_and, whole, key_bytes}
 use Rattle.jiter.proofs.ReadLaws.{error-seen}
 use Rattle.jiter.proofs.jiter.Jiter.next_object.Goals as goal
 

@@ -1,6 +1,4 @@
-use Rattle.std.proofs.lemmas.Result.{err_from_is_err_and}
-use Rattle.jiter_steps.specs.StringReading.{raw}
-use Rattle.jiter.specs.Reads.{never}
+use Rattle.jiter.proofs.Words.{err_from_is_err_and, raw, never}
 use Rattle.jiter.proofs.ReadLaws.{error-same}
 use Rattle.jiter.proofs.jiter.Jiter.next_object_bytes.Goals as goal
 

@@ -1,6 +1,4 @@
-use Rattle.std.proofs.Common.{refl}
-use Rattle.jiter.specs.Jiter.{byte_of}
-use Rattle.jiter.specs.Reader.{skip_read}
+use Rattle.jiter.proofs.Words.{refl, byte_of, skip_read}
 use Rattle.jiter.proofs.Peeking.{read-peeked}
 use Rattle.jiter.proofs.SkipReplies.{next-read-skipped}
 use Rattle.jiter.proofs.jiter.Jiter.next_skip.Goals as goal

@@ -1,5 +1,4 @@
-use Rattle.std.proofs.Common.{◌≡◌, refl, subst, Some, slice_get}
-use Rattle.jiter.specs.Reader.{ReaderState, value_place}
+use Rattle.jiter.proofs.Words.{◌≡◌, refl, subst, Some, slice_get, ReaderState, value_place}
 use Rattle.jiter.proofs.FastReplies.{decoded}
 use Rattle.jiter.proofs.jiter.Jiter.next_str.Goals as goal
 

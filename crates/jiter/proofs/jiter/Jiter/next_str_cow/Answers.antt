@@ -1,6 +1,4 @@
-use Rattle.std.proofs.Common.{◌≡◌, subst, Some, slice_get}
-use Rattle.jiter_steps.specs.StringDecoder.{text_view}
-use Rattle.jiter.specs.Reader.{ReaderState, value_place}
+use Rattle.jiter.proofs.Words.{◌≡◌, subst, Some, slice_get, text_view, ReaderState, value_place}
 use Rattle.jiter.proofs.FastReplies.{string-given}
 use Rattle.jiter.proofs.jiter.Jiter.next_str_cow.Goals as goal
 

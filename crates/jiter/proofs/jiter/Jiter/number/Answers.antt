@@ -1,5 +1,4 @@
-use Rattle.std.proofs.Common.{sym, subst, rules}
-use Rattle.jiter_scan.proofs.NumberLaws.{number_at-within}
+use Rattle.jiter.proofs.Words.{sym, subst, rules, number_at-within}
 use Rattle.jiter_scan.specs.NumberDecoder.{number_view}
 use Rattle.jiter.proofs.ReadLaws.{read-bytes}
 use Rattle.jiter.proofs.Refusals.{IsInside, reading-within, reads-fault, refuses}

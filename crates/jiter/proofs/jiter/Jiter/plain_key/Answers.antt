@@ -1,4 +1,4 @@
-use Rattle.std.proofs.Common.{◌∙◌, ap, false}
+use Rattle.jiter.proofs.Words.{◌∙◌, ap, false}
 use Rattle.jiter_steps.specs.Found.{extent_of}
 use Rattle.jiter.proofs.FastReplies.{plain-key}
 use Rattle.jiter.proofs.jiter.Jiter.plain_key.Goals as goal

@@ -1,6 +1,4 @@
-use Rattle.std.proofs.Common.{sym, subst, rules}
-use Rattle.jiter_steps.proofs.Grammar.StringLaws.{string_at-within}
-use Rattle.jiter_steps.specs.RawString.{raw_view}
+use Rattle.jiter.proofs.Words.{sym, subst, rules, string_at-within, raw_view}
 use Rattle.jiter.proofs.ReadLaws.{read-bytes}
 use Rattle.jiter.proofs.Refusals.{IsInside, reading-within, reads-fault, refuses}
 use Rattle.jiter.proofs.jiter.Jiter.raw_string.Goals as goal

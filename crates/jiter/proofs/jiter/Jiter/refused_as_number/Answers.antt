@@ -1,5 +1,4 @@
-use Rattle.std.proofs.Common.{sym, subst}
-use Rattle.jiter_scan.proofs.NumberLaws.{number_at-within}
+use Rattle.jiter.proofs.Words.{sym, subst, number_at-within}
 use Rattle.jiter.proofs.Refusals.{scalar-within, IsInside, refusal-failed}
 use Rattle.jiter.proofs.jiter.Jiter.refused_as_number.Goals as goal
 

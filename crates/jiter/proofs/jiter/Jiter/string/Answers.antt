@@ -1,6 +1,4 @@
-use Rattle.std.proofs.Common.{◌∙◌, sym, subst, rules}
-use Rattle.jiter_steps.proofs.Grammar.StringLaws.{string_at-within}
-use Rattle.jiter_steps.specs.StringDecoder.{text_view}
+use Rattle.jiter.proofs.Words.{◌∙◌, sym, subst, rules, string_at-within, text_view}
 use Rattle.jiter.proofs.Refusals.{IsInside, reading-within, index-parser, index-refused}
 use Rattle.jiter.proofs.jiter.Jiter.string.Goals as goal
 

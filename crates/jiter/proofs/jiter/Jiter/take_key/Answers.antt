@@ -1,7 +1,4 @@
-use Rattle.std.proofs.Common.{refl, ap}
-use Rattle.jiter_steps.specs.StringDecoder.{text_view}
-use Rattle.jiter_steps.specs.StringReading.{whole}
-use Rattle.jiter.specs.Reader.{ReaderState}
+use Rattle.jiter.proofs.Words.{refl, ap, text_view, whole, ReaderState}
 use Rattle.jiter.proofs.FastReplies.{key-read}
 use Rattle.jiter.proofs.ReadLaws.{read-never}
 use Rattle.jiter.proofs.jiter.Jiter.take_key.Goals as goal

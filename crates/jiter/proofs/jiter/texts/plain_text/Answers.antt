@@ -1,5 +1,4 @@
-use Rattle.std.proofs.Common.{arith}
-use Rattle.std.proofs.lemmas.Option.{slice_get_within}
+use Rattle.jiter.proofs.Words.{arith, slice_get_within}
 use Rattle.jiter_steps.proofs.Calls.Looks.{look-plain, look-text}
 use Rattle.jiter.proofs.FastReplies.{plain-closed}
 use Rattle.jiter.proofs.jiter.texts.plain_text.Goals as goal

@@ -1,8 +1,4 @@
-use Rattle.std.proofs.Common.{Option, Some, subst}
-use Rattle.jiter_scan.specs.declared.errors.Fault.{Fault}
-use Rattle.jiter_incremental.specs.Document.{strictly}
-use Rattle.jiter_incremental.specs.Ends.{AnswersSo}
-use Rattle.jiter_value.specs.Value.{view}
+use Rattle.jiter_incremental.proofs.Words.{Option, Some, subst, Fault, strictly, AnswersSo, view}
 use Rattle.jiter_incremental.proofs.Received.{fault-promised, value-promised}
 use Rattle.jiter_incremental.proofs.incremental_parser.IncrementalParser.error.Goals as goal
 

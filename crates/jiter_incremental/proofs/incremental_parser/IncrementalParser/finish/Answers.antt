@@ -1,4 +1,4 @@
-use Rattle.jiter_incremental.specs.Document.{strictly}
+use Rattle.jiter_incremental.proofs.Words.{strictly}
 use Rattle.jiter_incremental.proofs.incremental_parser.IncrementalParser.finish.Goals as goal
 
 pub returns : goal.returns

@@ -1,4 +1,4 @@
-use Rattle.std.proofs.Common.{[]}
+use Rattle.jiter_incremental.proofs.Words.{[]}
 use Rattle.jiter_incremental.proofs.Pushing.{received-none}
 use Rattle.jiter_incremental.proofs.incremental_parser.IncrementalParser.new.Goals as goal
 

@@ -1,5 +1,4 @@
-use Rattle.std.proofs.Common.{◌+◌, ◌-◌, ◌≡◌, ◌++◌, ◌<◌, ◌^◌, ap, arith, take, rules}
-use Rattle.jiter_incremental.specs.declared.reader.Reader.{Reader}
+use Rattle.jiter_incremental.proofs.Words.{◌+◌, ◌-◌, ◌≡◌, ◌++◌, ◌<◌, ◌^◌, ap, arith, take, rules, Reader}
 use Rattle.jiter_incremental.proofs.Documents.Blanks.{if-refused}
 use Rattle.jiter_incremental.proofs.Pushing.{received-so}
 use Rattle.jiter_incremental.proofs.incremental_parser.IncrementalParser.push.Goals as goal

@@ -1,5 +1,5 @@
-use Rattle.std.proofs.Common.{◌≡◌, ◌∙◌, ◌+◌, ◌++◌, ap, ap₂, arith, length, length-append, sym}
-use Rattle.jiter_incremental.specs.LineIndex.{Passed, feeds_from}
+use Rattle.jiter_incremental.proofs.Words.{◌≡◌, ◌∙◌, ◌+◌, ◌++◌, ap, ap₂, arith, length, length-append, sym, feeds_from}
+use Rattle.jiter_incremental.specs.LineIndex.{Passed}
 use Rattle.jiter_incremental.proofs.LinePlaces.{line_index-more}
 use Rattle.jiter_incremental.proofs.line_index.LineIndex.push.Goals as goal
 

@@ -1,10 +1,6 @@
-use Rattle.std.proofs.Common.{◌≡◌, ◌-◌, ◌<◌, ◌∙◌, refl, sym, ap, arith, vec_len}
-use Rattle.std.specs.Vec.{with_item}
-use Rattle.std.specs.Prelude.{Ok}
+use Rattle.jiter_incremental.proofs.Words.{◌≡◌, ◌-◌, ◌<◌, ◌∙◌, refl, sym, ap, arith, vec_len, with_item, Ok, around}
+use Rattle.jiter_incremental.proofs.Words.{view, Array, Object}
 use Rattle.std.proofs.lemmas.Result.{on_err_weaker}
-use Rattle.jiter_incremental.specs.Slot.{around}
-use Rattle.jiter_value.specs.Value.{view}
-use Rattle.jiter_value.specs.declared.value.JsonValue.{Array, Object}
 use Rattle.jiter_incremental.proofs.Leading.{above, below, last-part, ready-then, refuses-above, refuses-then, went-then}
 use Rattle.jiter_incremental.proofs.Documents.Blanks.{if-refused}
 use Rattle.jiter_incremental.proofs.Slots.{array-place, array-swapped, object-place, object-swapped, out-array, out-object}

@@ -1,8 +1,4 @@
-use Rattle.std.proofs.Common.{◌<◌, ◌∙◌, ap, arith, refl, subst, sym}
-use Rattle.std.specs.Prelude.{slice_index}
-use Rattle.jiter_steps.specs.Step.{closer_of}
-use Rattle.jiter_value.specs.Value.{view}
-use Rattle.jiter_incremental.specs.Reader.{Steps}
+use Rattle.jiter_incremental.proofs.Words.{◌<◌, ◌∙◌, ap, arith, refl, subst, sym, slice_index, closer_of, view, Steps}
 use Rattle.jiter_incremental.specs.declared.reader.Awaits.TheVariants as awaits
 use Rattle.jiter_incremental.proofs.Arms.{comma-of, comma-passed, container-ends, trailed}
 use Rattle.jiter_incremental.proofs.Between.{row-end}

@@ -1,9 +1,4 @@
-use Rattle.std.proofs.Common.{◌∙◌, ap, subst, sym}
-use Rattle.std.proofs.lemmas.Bool.{ne_eqb}
-use Rattle.std.specs.Prelude.{slice_index}
-use Rattle.jiter_value.specs.Value.{view}
-use Rattle.jiter_incremental.specs.Document.{WordBegins}
-use Rattle.jiter_incremental.specs.Reader.{Steps, refused}
+use Rattle.jiter_incremental.proofs.Words.{◌∙◌, ap, subst, sym, ne_eqb, slice_index, view, WordBegins, Steps, refused}
 use Rattle.jiter_scan.specs.declared.errors.FaultKind.TheVariants as fault_of
 use Rattle.jiter_incremental.specs.declared.names.Name.TheVariants as name
 use Rattle.jiter_incremental.proofs.Documents.Tokens.{infinity-begins, infinity-first, nan-begins}

@@ -1,8 +1,5 @@
-use Rattle.std.proofs.Common.{◌-◌, ap, subst, sym, ◌∙◌}
-use Rattle.jiter_value.specs.Value.{view}
-use Rattle.jiter_incremental.specs.Reader.{AsRead, Steps, with_shown}
+use Rattle.jiter_incremental.proofs.Words.{◌-◌, ap, subst, sym, ◌∙◌, view, AsRead, Steps, with_shown, Reader}
 use Rattle.jiter_incremental.specs.declared.reader.Awaits.TheVariants as awaits
-use Rattle.jiter_incremental.specs.declared.reader.Reader.{Reader}
 use Rattle.jiter_incremental.proofs.Documents.Blanks.{if-refused}
 use Rattle.jiter_incremental.proofs.NumberBegins.{number-kept, stays-so}
 use Rattle.jiter_incremental.proofs.reader.Reader.begin_number.Goals as goal

@@ -1,7 +1,4 @@
-use Rattle.std.proofs.Common.{◌∙◌, ap, sym}
-use Rattle.std.specs.Prelude.{slice_index}
-use Rattle.jiter_steps.specs.Step.{begins_part}
-use Rattle.jiter_value.specs.Value.{view}
+use Rattle.jiter_incremental.proofs.Words.{◌∙◌, ap, sym, slice_index, begins_part, view}
 use Rattle.jiter_incremental.proofs.Arms.{awaits-item, awaits-key, before-some}
 use Rattle.jiter_incremental.proofs.reader.Reader.between.Goals as goal
 

@@ -1,9 +1,6 @@
-use Rattle.std.proofs.Common.{◌-◌, ◌∙◌, ap, refl, subst, sym}
-use Rattle.jiter_steps.specs.Step.{comma_kind_of}
-use Rattle.jiter_value.specs.Value.{view}
-use Rattle.jiter_incremental.specs.Reader.{Steps, after_level, noted, refused}
+use Rattle.jiter_incremental.proofs.Words.{◌-◌, ◌∙◌, ap, refl, subst, sym, comma_kind_of, view, Steps, after_level}
+use Rattle.jiter_incremental.proofs.Words.{noted, refused, Reader}
 use Rattle.jiter_incremental.specs.declared.reader.Awaits.TheVariants as awaits
-use Rattle.jiter_incremental.specs.declared.reader.Reader.{Reader}
 use Rattle.jiter_incremental.proofs.Arms.{between-some, container-misses, container-refused, comma-between}
 use Rattle.jiter_incremental.proofs.reader.Reader.close_before.Goals as goal
 

@@ -1,7 +1,4 @@
-use Rattle.std.proofs.Common.{List, arith, length, ℕ, ◌+◌, ap, sym, subst}
-use Rattle.jiter_incremental.specs.Reader.{Steps}
-use Rattle.jiter_incremental.specs.declared.reader.Reader.{Reader}
-use Rattle.jiter_value.specs.Value.{view}
+use Rattle.jiter_incremental.proofs.Words.{List, arith, length, ℕ, ◌+◌, ap, sym, subst, Steps, Reader, view}
 use Rattle.jiter_incremental.proofs.StringSteps.{IsPutSo, quote-kept-put, quote-low, quote-refused, quote-whole-put}
 use Rattle.jiter_incremental.proofs.reader.Reader.close_string.Goals as goal
 

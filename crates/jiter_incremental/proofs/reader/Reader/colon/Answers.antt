@@ -1,9 +1,5 @@
-use Rattle.std.proofs.Common.{◌∙◌, ap, subst, sym}
-use Rattle.std.proofs.lemmas.Bool.{eq-eqb, ne_eqb}
-use Rattle.std.specs.Prelude.{slice_index}
+use Rattle.jiter_incremental.proofs.Words.{◌∙◌, ap, subst, sym, eq-eqb, ne_eqb, slice_index, view, Steps, refused}
 use Rattle.jiter_scan.specs.declared.errors.FaultKind.TheVariants as fault_of
-use Rattle.jiter_value.specs.Value.{view}
-use Rattle.jiter_incremental.specs.Reader.{Steps, refused}
 use Rattle.jiter_incremental.proofs.Arms.{colon-missed, colon-passed}
 use Rattle.jiter_incremental.proofs.reader.Reader.colon.Goals as goal
 

@@ -1,7 +1,4 @@
-use Rattle.std.proofs.Common.{◌∙◌, ap}
-use Rattle.jiter_incremental.specs.Ends.{kind_at_end}
-use Rattle.jiter_incremental.specs.Reader.{document}
-use Rattle.jiter_value.specs.Value.{view}
+use Rattle.jiter_incremental.proofs.Words.{◌∙◌, ap, kind_at_end, document, view}
 use Rattle.jiter_incremental.proofs.Documents.Ends.{end-none, end-some}
 use Rattle.jiter_incremental.proofs.reader.Reader.end_fault.Goals as goal
 

@@ -1,11 +1,7 @@
-use Rattle.std.proofs.Common.{◌+◌, ◌∙◌, ap, refl, subst, sym}
-use Rattle.std.specs.Prelude.{slice_index}
-use Rattle.jiter_scan.specs.PartialNumber.{Leads}
+use Rattle.jiter_incremental.proofs.Words.{◌+◌, ◌∙◌, ap, refl, subst, sym, slice_index, Leads, view, Steps, refused}
+use Rattle.jiter_incremental.proofs.Words.{Reader}
 use Rattle.jiter_scan.specs.declared.errors.FaultKind.TheVariants as fault_of
 use Rattle.jiter_scan.specs.declared.partial_number.Went.TheVariants as went
-use Rattle.jiter_value.specs.Value.{view}
-use Rattle.jiter_incremental.specs.Reader.{Steps, refused}
-use Rattle.jiter_incremental.specs.declared.reader.Reader.{Reader}
 use Rattle.jiter_incremental.proofs.NumberSteps.{invalid-only, number-wrong}
 use Rattle.jiter_incremental.proofs.reader.Reader.end_invalid.Goals as goal
 

@@ -1,6 +1,4 @@
-use Rattle.std.proofs.Common.{◌∙◌, sym}
-use Rattle.jiter_incremental.specs.Reader.{document}
-use Rattle.jiter_value.specs.Value.{view}
+use Rattle.jiter_incremental.proofs.Words.{◌∙◌, sym, document, view}
 use Rattle.jiter_incremental.proofs.Answering.{number-ends}
 use Rattle.jiter_incremental.proofs.reader.Reader.end_kind.Goals as goal
 

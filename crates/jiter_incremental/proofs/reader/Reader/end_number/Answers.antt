@@ -1,15 +1,5 @@
-use Rattle.std.proofs.Common.{◌≡◌, ◌∙◌, ap, subst, sym, true}
-use Rattle.std.specs.Prelude.{slice_index}
-use Rattle.jiter_scan.specs.Number.{Number}
-use Rattle.jiter_steps.specs.Blank.{is_blank}
-use Rattle.jiter_steps.specs.Node.{number_tree}
-use Rattle.jiter_steps.specs.StringDecoder.{text_view}
-use Rattle.jiter_steps.specs.Tree.{Tree}
-use Rattle.jiter_value.specs.Owned.{owned_text, tree_as}
-use Rattle.jiter_value.specs.Value.{view}
-use Rattle.jiter_incremental.specs.Reader.{IsHere, Steps}
-use Rattle.jiter_incremental.specs.Slot.{IsPut}
-use Rattle.jiter_incremental.specs.declared.reader.Reader.{Reader}
+use Rattle.jiter_incremental.proofs.Words.{◌≡◌, ◌∙◌, ap, subst, sym, true, slice_index, Number, is_blank, number_tree}
+use Rattle.jiter_incremental.proofs.Words.{text_view, Tree, owned_text, tree_as, view, IsHere, Steps, IsPut, Reader}
 use Rattle.jiter_incremental.proofs.NumberSteps.{ended-blank, ended-here, ended-then}
 use Rattle.jiter_incremental.proofs.reader.Reader.end_number.Goals as goal
 

@@ -1,5 +1,4 @@
-use Rattle.std.proofs.Common.{◌∙◌}
-use Rattle.std.specs.Prelude.{string_bytes}
+use Rattle.jiter_incremental.proofs.Words.{◌∙◌, string_bytes}
 use Rattle.jiter_incremental.proofs.reader.Reader.give_back.Goals as goal
 
 pub returns-then-matches-clause-number : goal.returns-then-matches-clause-number

@@ -1,5 +1,4 @@
-use Rattle.std.proofs.Common.{◌≡◌, ◌+◌, ◌-◌, arith, slice_range, subst, sym}
-use Rattle.jiter_scan.specs.Scan.{Pass, is_plain_ascii}
+use Rattle.jiter_incremental.proofs.Words.{◌≡◌, ◌+◌, ◌-◌, arith, slice_range, subst, sym, Pass, is_plain_ascii}
 use Rattle.jiter_incremental.proofs.GrownTexts.{plain-run}
 use Rattle.jiter_incremental.proofs.reader.Reader.growth.Goals as goal
 

@@ -1,7 +1,4 @@
-use Rattle.std.proofs.Common.{ap, false, subst, sym}
-use Rattle.jiter_value.specs.Value.{view}
-use Rattle.jiter_incremental.specs.Reader.{AsRead, with_shown}
-use Rattle.jiter_incremental.specs.declared.reader.Reader.{Reader}
+use Rattle.jiter_incremental.proofs.Words.{ap, false, subst, sym, view, AsRead, with_shown, Reader}
 use Rattle.jiter_incremental.proofs.Showing.{hides-moved, shown-part}
 use Rattle.jiter_incremental.proofs.reader.Reader.hide.Goals as goal
 

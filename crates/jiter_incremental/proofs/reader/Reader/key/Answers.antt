@@ -1,9 +1,6 @@
-use Rattle.std.proofs.Common.{refl, subst, sym, string_bytes}
-use Rattle.jiter_value.specs.Value.{view}
+use Rattle.jiter_incremental.proofs.Words.{refl, subst, sym, string_bytes, view, Steps, Reader}
 use Rattle.std.specs.declared.borrow.CowStr.TheVariants.{Owned}
-use Rattle.jiter_incremental.specs.Reader.{Steps}
 use Rattle.jiter_incremental.specs.declared.reader.Awaits.TheVariants as awaits
-use Rattle.jiter_incremental.specs.declared.reader.Reader.{Reader}
 use Rattle.jiter_incremental.proofs.Documents.Blanks.{if-refused}
 use Rattle.jiter_incremental.proofs.NumberBegins.{stays-so}
 use Rattle.jiter_incremental.proofs.TextBegins.{key-colon, key-kept, key-whole}

@@ -1,14 +1,7 @@
-use Rattle.std.proofs.Common.{◌-◌, subst, sym}
-use Rattle.jiter_steps.specs.StringDecoder.{text_view}
-use Rattle.jiter_steps.specs.Tree.{Tree}
-use Rattle.jiter_value.specs.Value.{view}
-use Rattle.jiter_incremental.specs.Reader.{Steps}
-use Rattle.jiter_incremental.specs.Slot.{IsPut}
-use Rattle.jiter_incremental.specs.declared.reader.Reader.{Reader}
+use Rattle.jiter_incremental.proofs.Words.{◌-◌, subst, sym, text_view, Tree, view, Steps, IsPut, Reader, slice_index}
 use Rattle.jiter_incremental.proofs.Placing.{scalar-put, word-step}
 use Rattle.jiter_incremental.proofs.Documents.Tokens.{literal-begins}
 use Rattle.jiter_incremental.specs.declared.names.Name.TheVariants as name
-use Rattle.std.specs.Prelude.{slice_index}
 use Rattle.jiter_incremental.proofs.WholeLiterals.{literal-scalar}
 use Rattle.jiter_incremental.proofs.reader.Reader.literal.Goals as goal
 

@@ -1,6 +1,4 @@
-use Rattle.std.proofs.Common.{[], Some, ◌∙◌, sym}
-use Rattle.jiter_incremental.specs.Document.{by_mode}
-use Rattle.jiter_value.specs.Value.{view}
+use Rattle.jiter_incremental.proofs.Words.{[], Some, ◌∙◌, sym, by_mode, view}
 use Rattle.jiter_incremental.proofs.Documents.Ends.{fault-found}
 use Rattle.jiter_incremental.proofs.reader.Reader.mode_fault.Goals as goal
 

@@ -1,6 +1,4 @@
-use Rattle.std.proofs.Common.{false, subst, sym}
-use Rattle.jiter_value.specs.Value.{view}
-use Rattle.jiter_incremental.specs.Reader.{AsRead, Stays}
+use Rattle.jiter_incremental.proofs.Words.{false, subst, sym, view, AsRead, Stays}
 use Rattle.jiter_incremental.proofs.Showing.{container-here, here-as, stays-as, stays-here, steps-as}
 use Rattle.jiter_incremental.proofs.reader.Reader.move_on.Goals as goal
 use Rattle.jiter_incremental.proofs.Documents.Blanks.{if-refused}

@@ -1,9 +1,6 @@
-use Rattle.std.proofs.Common.{List, ℕ, subst, sym, ◌-◌, ◌≡◌, arith}
-use Rattle.jiter_steps.specs.PartialString.{Goes, HasTaken}
+use Rattle.jiter_incremental.proofs.Words.{List, ℕ, subst, sym, ◌-◌, ◌≡◌, arith, Goes, HasTaken, Steps, refused, Reader}
+use Rattle.jiter_incremental.proofs.Words.{view}
 use Rattle.jiter_steps.specs.declared.partial_string.Went.{Went}
-use Rattle.jiter_incremental.specs.Reader.{Steps, refused}
-use Rattle.jiter_incremental.specs.declared.reader.Reader.{Reader}
-use Rattle.jiter_value.specs.Value.{view}
 use Rattle.jiter_incremental.proofs.StringSteps.{quote-here, quote-is, quote-steps, taken-steps, wrong-before, wrong-steps}
 use Rattle.jiter_incremental.proofs.reader.Reader.move_string.Goals as goal
 

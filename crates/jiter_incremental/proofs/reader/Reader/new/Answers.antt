@@ -1,5 +1,4 @@
-use Rattle.std.proofs.Common.{[], refl}
-use Rattle.jiter_incremental.specs.Document.{anything}
+use Rattle.jiter_incremental.proofs.Words.{[], refl, anything}
 use Rattle.jiter_incremental.proofs.Between.{none-read}
 use Rattle.jiter_incremental.proofs.Documents.{new-arrived}
 use Rattle.jiter_incremental.proofs.Settling.{reads-apart}

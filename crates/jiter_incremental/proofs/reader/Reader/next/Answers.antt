@@ -1,5 +1,4 @@
-use Rattle.std.proofs.Common.{◌-◌, arith}
-use Rattle.jiter_value.specs.Value.{view}
+use Rattle.jiter_incremental.proofs.Words.{◌-◌, arith, view}
 use Rattle.jiter_incremental.proofs.Arms.{awaits-value}
 use Rattle.jiter_incremental.proofs.Documents.Blanks.{if-refused, not-passed}
 use Rattle.jiter_incremental.proofs.Passing.{blanks-step}

@@ -1,10 +1,6 @@
-use Rattle.std.proofs.Common.{◌+◌, ◌∙◌, ap, refl, subst, sym}
-use Rattle.std.specs.Prelude.{slice_index}
-use Rattle.jiter_scan.specs.Kind.{trailing_comma}
+use Rattle.jiter_incremental.proofs.Words.{◌+◌, ◌∙◌, ap, refl, subst, sym, slice_index, trailing_comma, closer_of}
+use Rattle.jiter_incremental.proofs.Words.{closed, stuck, view, Steps, refused}
 use Rattle.jiter_scan.specs.declared.errors.FaultKind.TheVariants as fault_of
-use Rattle.jiter_steps.specs.Step.{closer_of, closed, stuck}
-use Rattle.jiter_value.specs.Value.{view}
-use Rattle.jiter_incremental.specs.Reader.{Steps, refused}
 use Rattle.jiter_incremental.proofs.Arms.{before-some, container-ends, part-refused}
 use Rattle.jiter_incremental.proofs.Between.{RowIs, between-of, next-of, row-first-end, row-next-end, row-no-part}
 use Rattle.jiter_incremental.proofs.reader.Reader.no_part.Goals as goal

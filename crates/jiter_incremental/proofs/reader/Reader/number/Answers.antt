@@ -1,7 +1,4 @@
-use Rattle.std.proofs.Common.{◌-◌, subst, sym}
-use Rattle.jiter_value.specs.Value.{view}
-use Rattle.jiter_incremental.specs.Reader.{Steps}
-use Rattle.jiter_incremental.specs.declared.reader.Reader.{Reader}
+use Rattle.jiter_incremental.proofs.Words.{◌-◌, subst, sym, view, Steps, Reader}
 use Rattle.jiter_incremental.proofs.Documents.Blanks.{if-refused}
 use Rattle.jiter_incremental.proofs.NumberBegins.{stays-so, whole-number}
 use Rattle.jiter_incremental.proofs.reader.Reader.number.Goals as goal

@@ -1,11 +1,5 @@
-use Rattle.std.proofs.Common.{subst, sym, ◌+◌}
-use Rattle.jiter_steps.specs.StringDecoder.{text_view}
-use Rattle.jiter_steps.specs.Tree.{Tree}
-use Rattle.jiter_value.specs.Value.{view}
-use Rattle.jiter_incremental.specs.Reader.{Steps}
+use Rattle.jiter_incremental.proofs.Words.{subst, sym, ◌+◌, text_view, Tree, view, Steps, Reader, IsPut}
 use Rattle.jiter_incremental.specs.declared.reader.Awaits.TheVariants as awaits
-use Rattle.jiter_incremental.specs.declared.reader.Reader.{Reader}
-use Rattle.jiter_incremental.specs.Slot.{IsPut}
 use Rattle.jiter_incremental.proofs.Arms.{turned}
 use Rattle.jiter_incremental.proofs.Placing.{container-opens}
 use Rattle.jiter_incremental.proofs.reader.Reader.open.Goals as goal

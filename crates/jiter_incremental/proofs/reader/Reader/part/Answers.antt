@@ -1,4 +1,4 @@
-use Rattle.jiter_value.specs.Value.{view}
+use Rattle.jiter_incremental.proofs.Words.{view}
 use Rattle.jiter_incremental.proofs.Leading.{steps-went}
 use Rattle.jiter_incremental.proofs.reader.Reader.part.Goals as goal
 

@@ -1,9 +1,6 @@
-use Rattle.std.proofs.Common.{◌+◌, ◌∙◌, List, ℕ, ap, arith, length, refl, subst, sym}
-use Rattle.std.proofs.lemmas.Bool.{false≢true}
-use Rattle.std.specs.Str.{IsUtf8}
+use Rattle.jiter_incremental.proofs.Words.{◌+◌, ◌∙◌, List, ℕ, ap, arith, length, refl, subst, sym, false≢true, IsUtf8}
+use Rattle.jiter_incremental.proofs.Words.{document, view}
 use Rattle.jiter_scan.specs.declared.errors.FaultKind.TheVariants as fault_of
-use Rattle.jiter_incremental.specs.Reader.{document}
-use Rattle.jiter_value.specs.Value.{view}
 use Rattle.jiter_incremental.proofs.Answering.{ShowsText, broken-index, broken-so, broken-told, good-so, keeps-hidden}
 use Rattle.jiter_incremental.proofs.Answering.{keeps-shown, none-told, value-told}
 use Rattle.jiter_incremental.proofs.reader.Reader.partial_fault.Goals.{else-keeps-via-then-keeps+else-not-self}

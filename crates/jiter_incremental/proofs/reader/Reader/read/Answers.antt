@@ -1,5 +1,4 @@
-use Rattle.std.proofs.Common.{arith, refl, []}
-use Rattle.jiter_value.specs.Value.{view}
+use Rattle.jiter_incremental.proofs.Words.{arith, refl, [], view}
 use Rattle.jiter_incremental.proofs.Documents.Blanks.{if-refused}
 use Rattle.jiter_incremental.proofs.Leading.{arrived-all, arrived-free, chunk-begun, outermost, outermost-ready}
 use Rattle.jiter_incremental.proofs.Leading.{outermost-refuses, ready-start, ready-then, refuses-then, went-from, went-none, went-then}

@@ -1,6 +1,4 @@
-use Rattle.std.proofs.Common.{length, ◌+◌, ◌-◌, ◌*◌}
-use Rattle.jiter_incremental.specs.Reader.{Went}
-use Rattle.jiter_value.specs.Value.{view}
+use Rattle.jiter_incremental.proofs.Words.{length, ◌+◌, ◌-◌, ◌*◌, Went, view}
 use Rattle.jiter_incremental.proofs.reader.Reader.read.Given as goal
 
 abbrev pub invariant-loop-self : goal.invariant-loop-self

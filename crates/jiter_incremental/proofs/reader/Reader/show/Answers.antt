@@ -1,12 +1,7 @@
-use Rattle.std.proofs.Common.{◌∙◌, ap, subst, sym, true}
-use Rattle.jiter_steps.specs.StringDecoder.{text_view}
-use Rattle.jiter_value.specs.Value.{view}
-use Rattle.jiter_incremental.specs.Reader.{AsRead, with_shown}
-use Rattle.jiter_incremental.specs.Slot.{IsPut}
-use Rattle.jiter_incremental.specs.declared.reader.Reader.{Reader}
+use Rattle.jiter_incremental.proofs.Words.{◌∙◌, ap, subst, sym, true, text_view, view, AsRead, with_shown, IsPut}
+use Rattle.jiter_incremental.proofs.Words.{Reader, null}
 use Rattle.jiter_incremental.proofs.Showing.{shows-moved}
 use Rattle.jiter_incremental.proofs.reader.Reader.show.Goals as goal
-use Rattle.jiter_steps.specs.Tree.{null}
 
 pub returns-then-is_showable-clause-shows : goal.returns-then-is_showable-clause-shows
 returns-then-is_showable-clause-shows c =

@@ -1,4 +1,4 @@
-use Rattle.jiter_value.specs.Value.{view}
+use Rattle.jiter_incremental.proofs.Words.{view}
 use Rattle.jiter_incremental.proofs.Over.{opened-so, over-step, refuses-blank, refuses-token}
 use Rattle.jiter_incremental.proofs.reader.Reader.step.Goals as goal
 

@@ -1,7 +1,4 @@
-use Rattle.std.proofs.Common.{[], Some, ◌∙◌, sym}
-use Rattle.jiter_incremental.specs.Document.{strict, strictly}
-use Rattle.jiter_incremental.specs.Reader.{document}
-use Rattle.jiter_value.specs.Value.{view}
+use Rattle.jiter_incremental.proofs.Words.{[], Some, ◌∙◌, sym, strict, strictly, document, view}
 use Rattle.jiter_incremental.proofs.Answering.{strict-told}
 use Rattle.jiter_incremental.proofs.Documents.Ends.{fault-found, none-found}
 use Rattle.jiter_incremental.proofs.reader.Reader.strict_fault.Goals as goal

@@ -1,8 +1,5 @@
-use Rattle.std.proofs.Common.{◌∙◌, ap, subst, sym}
+use Rattle.jiter_incremental.proofs.Words.{◌∙◌, ap, subst, sym, view, Steps, refused, Reader}
 use Rattle.jiter_scan.specs.declared.errors.FaultKind.TheVariants as fault_of
-use Rattle.jiter_value.specs.Value.{view}
-use Rattle.jiter_incremental.specs.Reader.{Steps, refused}
-use Rattle.jiter_incremental.specs.declared.reader.Reader.{Reader}
 use Rattle.jiter_incremental.proofs.NumberSteps.{name-begins, name-wrong}
 use Rattle.jiter_incremental.proofs.reader.Reader.take_name.Goals as goal
 

@@ -1,6 +1,4 @@
-use Rattle.std.proofs.Common.{◌+◌}
-use Rattle.std.specs.Prelude.{slice_range}
-use Rattle.jiter_value.specs.Value.{view}
+use Rattle.jiter_incremental.proofs.Words.{◌+◌, slice_range, view}
 use Rattle.jiter_incremental.proofs.NumberSteps.{begun-more, number-held, number-kept, number-steps}
 use Rattle.jiter_incremental.proofs.reader.Reader.take_number.Goals as goal
 

@@ -1,6 +1,5 @@
-use Rattle.std.proofs.Common.{◌+◌, ◌<◌, arith, slice_range}
+use Rattle.jiter_incremental.proofs.Words.{◌+◌, ◌<◌, arith, slice_range, view}
 use Rattle.jiter_steps.proofs.OpenStrings.{ascii-of}
-use Rattle.jiter_value.specs.Value.{view}
 use Rattle.jiter_incremental.proofs.GrownTexts.{growing-steps, growing-text}
 use Rattle.jiter_incremental.proofs.reader.Reader.take_string.Goals as goal
 

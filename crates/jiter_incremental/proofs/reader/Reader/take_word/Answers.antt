@@ -1,11 +1,5 @@
-use Rattle.std.proofs.Common.{◌≡◌, subst, sym}
-use Rattle.jiter_steps.specs.StringDecoder.{text_view}
-use Rattle.jiter_steps.specs.Tree.{Tree}
-use Rattle.jiter_incremental.specs.Reader.{Steps, refused}
-use Rattle.jiter_incremental.specs.Slot.{IsPut}
-use Rattle.jiter_incremental.specs.declared.reader.Reader.{Reader}
+use Rattle.jiter_incremental.proofs.Words.{◌≡◌, subst, sym, text_view, Tree, Steps, refused, IsPut, Reader, view}
 use Rattle.jiter_scan.specs.declared.errors.FaultKind.TheVariants as fault_of
-use Rattle.jiter_value.specs.Value.{view}
 use Rattle.jiter_incremental.proofs.Showing.{container-here}
 use Rattle.jiter_incremental.proofs.StringSteps.{word-last, word-part, word-wrong}
 use Rattle.jiter_incremental.proofs.reader.Reader.take_word.Goals as goal

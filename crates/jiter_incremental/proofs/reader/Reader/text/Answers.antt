@@ -1,11 +1,6 @@
-use Rattle.std.proofs.Common.{◌-◌, ◌∙◌, ap, subst, sym, string_bytes}
-use Rattle.jiter_steps.specs.StringDecoder.{text_view}
-use Rattle.jiter_steps.specs.Tree.{Tree}
-use Rattle.jiter_value.specs.Value.{view}
-use Rattle.jiter_incremental.specs.Reader.{AsRead, Steps, with_shown}
-use Rattle.jiter_incremental.specs.Slot.{IsPut}
+use Rattle.jiter_incremental.proofs.Words.{◌-◌, ◌∙◌, ap, subst, sym, string_bytes, text_view, Tree, view, AsRead, Steps}
+use Rattle.jiter_incremental.proofs.Words.{with_shown, IsPut, Reader}
 use Rattle.jiter_incremental.specs.declared.reader.Awaits.TheVariants as awaits
-use Rattle.jiter_incremental.specs.declared.reader.Reader.{Reader}
 use Rattle.jiter_incremental.proofs.Documents.Blanks.{if-refused}
 use Rattle.jiter_incremental.proofs.Documents.WholeTexts.{text-scalar}
 use Rattle.jiter_incremental.proofs.NumberBegins.{stays-so}

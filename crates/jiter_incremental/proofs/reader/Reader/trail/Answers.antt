@@ -1,7 +1,6 @@
-use Rattle.std.proofs.Common.{◌∙◌, ◌∷◌, [], ap, refl, sym, subst, ◌++◌}
+use Rattle.jiter_incremental.proofs.Words.{◌∙◌, ◌∷◌, [], ap, refl, sym, subst, ◌++◌, HasTakenIn, anything}
+use Rattle.jiter_incremental.proofs.Words.{between_tokens, with_byte, document, noted, refused}
 use Rattle.jiter_scan.specs.declared.errors.FaultKind.TheVariants as fault_of
-use Rattle.jiter_incremental.specs.Document.{HasTakenIn, anything, between_tokens, with_byte}
-use Rattle.jiter_incremental.specs.Reader.{document, noted, refused}
 use Rattle.jiter_incremental.proofs.Documents.{ended, follows-byte, trailing-ended, trailing-noted}
 use Rattle.jiter_incremental.proofs.reader.Reader.trail.Goals as goal
 

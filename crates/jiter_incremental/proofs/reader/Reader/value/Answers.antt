@@ -1,9 +1,6 @@
-use Rattle.std.proofs.Common.{◌≡◌, ◌∙◌, ap, arith, subst, sym}
-use Rattle.std.proofs.lemmas.Bool.{false≢true}
+use Rattle.jiter_incremental.proofs.Words.{◌≡◌, ◌∙◌, ap, arith, subst, sym, false≢true, view, Stays, Steps, refused}
 use Rattle.jiter_scan.specs.declared.errors.FaultKind.TheVariants as fault_of
 use Rattle.jiter_steps.specs.declared.parse.Start.TheVariants as start
-use Rattle.jiter_value.specs.Value.{view}
-use Rattle.jiter_incremental.specs.Reader.{Stays, Steps, refused}
 use Rattle.jiter_incremental.proofs.Documents.Blanks.{if-refused}
 use Rattle.jiter_incremental.proofs.NumberBegins.{room-there, stays-so}
 use Rattle.jiter_incremental.proofs.Placing.{no-value, too-deep}

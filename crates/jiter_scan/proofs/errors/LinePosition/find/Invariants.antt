@@ -1,4 +1,4 @@
-use Rattle.std.proofs.Common.{◌≡◌, ◌≤◌, ◌+◌, take}
+use Rattle.jiter_scan.proofs.Words.{◌≡◌, ◌≤◌, ◌+◌, take}
 use Rattle.jiter_scan.specs.Position.{line_of, column_of}
 use Rattle.jiter_scan.proofs.errors.LinePosition.find.Given as goal
 

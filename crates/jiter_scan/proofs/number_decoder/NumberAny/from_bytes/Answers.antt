@@ -1,5 +1,4 @@
-use Rattle.jiter_scan.specs.NumberReading.{number_alone}
-use Rattle.jiter_scan.specs.NumberDecoder.{number_view}
+use Rattle.jiter_scan.proofs.Words.{number_alone, number_view}
 use Rattle.jiter_scan.proofs.NumberBounds.{number_alone-within}
 use Rattle.jiter_scan.proofs.Scanning.{AnswersAlone-fault}
 use Rattle.jiter_scan.proofs.number_decoder.NumberAny.from_bytes.Goals as goal

@@ -1,5 +1,4 @@
-use Rattle.std.proofs.Common.{◌++◌, ◌∙◌, ap, arith}
-use Rattle.std.specs.Prelude.{slice_range}
+use Rattle.jiter_scan.proofs.Words.{◌++◌, ◌∙◌, ap, arith, slice_range}
 use Rattle.std.proofs.lemmas.Result.{on_ok_weaker}
 use Rattle.jiter_scan.proofs.NumberParts.{held-first}
 use Rattle.jiter_scan.proofs.partial_number.PartialNumber.begin.Goals as goal

@@ -1,4 +1,4 @@
-use Rattle.std.proofs.Common.{sym, ◌∙◌, string_bytes}
+use Rattle.jiter_scan.proofs.Words.{sym, ◌∙◌, string_bytes}
 use Rattle.jiter_scan.proofs.OpenValues.{float-value}
 use Rattle.jiter_scan.proofs.partial_number.PartialNumber.kind.Goals as goal
 

@@ -1,6 +1,4 @@
-use Rattle.std.proofs.Common.{◌≡◌, ◌+◌, ◌-◌, ◌++◌, arith, subst, sym}
-use Rattle.std.specs.Prelude.{slice_range}
-use Rattle.jiter_scan.specs.PartialNumber.{GoesTo, HoldsNumber}
+use Rattle.jiter_scan.proofs.Words.{◌≡◌, ◌+◌, ◌-◌, ◌++◌, arith, subst, sym, slice_range, GoesTo, HoldsNumber}
 use Rattle.jiter_scan.proofs.NumberParts.{goes-none, goes_next, held-on}
 use Rattle.jiter_scan.proofs.partial_number.PartialNumber.more.Goals as goal
 

@@ -1,9 +1,5 @@
-use Rattle.std.proofs.Common.{◌≡◌, ◌<◌, ap, subst, sym, ◌∙◌, length, string_bytes, false}
-use Rattle.jiter_scan.specs.Number.{number_value}
-use Rattle.jiter_scan.specs.NumberExtent.{minus_end}
-use Rattle.jiter_scan.specs.NumberReading.{int_part_at, number_at}
-use Rattle.jiter_scan.specs.PartialNumber.{int_of}
-use Rattle.jiter_scan.specs.Scanned.{taken}
+use Rattle.jiter_scan.proofs.Words.{◌≡◌, ◌<◌, ap, subst, sym, ◌∙◌, length, string_bytes, false, number_value, minus_end}
+use Rattle.jiter_scan.proofs.Words.{int_part_at, number_at, int_of, taken}
 use Rattle.jiter_scan.proofs.OpenValues.{begun-some, begun-read, begun-digits, begun-big, begun-answer}
 use Rattle.jiter_scan.proofs.partial_number.PartialNumber.small_integer.Goals as goal
 

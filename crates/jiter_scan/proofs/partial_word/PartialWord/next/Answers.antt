@@ -1,4 +1,4 @@
-use Rattle.std.proofs.Common.{◌+◌, sym, ◌∙◌, arith}
+use Rattle.jiter_scan.proofs.Words.{◌+◌, sym, ◌∙◌, arith}
 use Rattle.jiter_scan.proofs.WordLaws.{word_at-other, word_at-same, word_at-end}
 use Rattle.jiter_scan.proofs.partial_word.PartialWord.next.Goals as goal
 

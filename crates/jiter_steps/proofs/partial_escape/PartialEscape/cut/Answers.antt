@@ -1,4 +1,4 @@
-use Rattle.std.proofs.Common.{ap, arith, length}
+use Rattle.jiter_steps.proofs.Words.{ap, arith, length}
 use Rattle.jiter_steps.proofs.OpenEscapes.{cut_short}
 use Rattle.jiter_steps.proofs.partial_escape.PartialEscape.cut.Goals as goal
 

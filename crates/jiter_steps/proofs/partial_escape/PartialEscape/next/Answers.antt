@@ -1,9 +1,6 @@
-use Rattle.std.proofs.Common.{◌≡◌, ◌∙◌, ◌∷◌, ◌++◌, [], List, ℕ, ap, arith, length-append, refl, subst, sym, true}
-use Rattle.std.specs.Prelude.{IfSome, Some, slice_get}
-use Rattle.jiter_scan.specs.Kind.{fault_kind}
-use Rattle.jiter_scan.specs.Scan.{is_stop}
-use Rattle.jiter_steps.specs.StringDecoder.{stop_view}
-use Rattle.jiter_steps.specs.StringReading.{cut, over, event_at, wrong}
+use Rattle.jiter_steps.proofs.Words.{◌≡◌, ◌∙◌, ◌∷◌, ◌++◌, [], List, ℕ, ap, arith, length-append, refl, subst, sym, true}
+use Rattle.jiter_steps.proofs.Words.{IfSome, Some, slice_get, fault_kind, is_stop, stop_view, cut, over, event_at}
+use Rattle.jiter_steps.proofs.Words.{wrong}
 use Rattle.jiter_steps.proofs.OpenEscapes.{begins-after, cut_begins, cut_short, no-close, no-end, spelled-next, spelled-wrong, wrong-within}
 use Rattle.jiter_steps.proofs.partial_escape.PartialEscape.next.Goals as goal
 

@@ -1,6 +1,4 @@
-use Rattle.std.proofs.Common.{◌∙◌, ◌+◌, ◌||◌, length, ap, sym}
-use Rattle.std.specs.Prelude.{is_some}
-use Rattle.jiter_steps.specs.StringReading.{checked}
+use Rattle.jiter_steps.proofs.Words.{◌∙◌, ◌+◌, ◌||◌, length, ap, sym, is_some, checked}
 use Rattle.jiter_steps.proofs.OpenStrings.{closed-text, ended}
 use Rattle.jiter_steps.proofs.partial_string.PartialString.is_text.Goals as goal
 

@@ -1,5 +1,4 @@
-use Rattle.std.proofs.Common.{◌≡◌, None, arith, refl}
-use Rattle.std.specs.Prelude.{slice_index}
+use Rattle.jiter_steps.proofs.Words.{◌≡◌, None, arith, refl, slice_index}
 use Rattle.jiter_scan.specs.declared.errors.FaultKind.TheVariants as fault
 use Rattle.jiter_steps.proofs.Grammar.Places.{got}
 use Rattle.jiter_steps.proofs.OpenStrings.{control-fails, none_open}

@@ -1,5 +1,4 @@
-use Rattle.std.proofs.Common.{◌-◌, refl}
-use Rattle.std.specs.Prelude.{slice_range}
+use Rattle.jiter_steps.proofs.Words.{◌-◌, refl, slice_range}
 use Rattle.jiter_steps.proofs.OpenStrings.{grown-range, run-goes-if, run-plain, run-whole}
 use Rattle.jiter_steps.proofs.partial_string.PartialString.plain_whole.Goals as goal
 

@@ -1,6 +1,5 @@
-use Rattle.std.proofs.Common.{◌≡◌, ◌∙◌, ◌∷◌, ◌++◌, [], ◌-◌, length, ap, arith, subst, sym}
-use Rattle.std.specs.Prelude.{None, Some, slice_index}
-use Rattle.jiter_steps.specs.PartialString.{HasTaken}
+use Rattle.jiter_steps.proofs.Words.{◌≡◌, ◌∙◌, ◌∷◌, ◌++◌, [], ◌-◌, length, ap, arith, subst, sym, None, Some}
+use Rattle.jiter_steps.proofs.Words.{slice_index, HasTaken}
 use Rattle.jiter_steps.proofs.Grammar.Places.{got}
 use Rattle.jiter_steps.proofs.OpenStrings.{escape-ends, escape-fails, escape-goes, one-byte}
 use Rattle.jiter_steps.proofs.partial_string.PartialString.spell.Goals as goal

@@ -1,4 +1,4 @@
-use Rattle.std.proofs.Common.{◌+◌, arith}
+use Rattle.jiter_steps.proofs.Words.{◌+◌, arith}
 use Rattle.jiter_steps.proofs.OpenStrings.{escape-whole}
 use Rattle.jiter_steps.proofs.partial_string.PartialString.take_escape.Goals as goal
 

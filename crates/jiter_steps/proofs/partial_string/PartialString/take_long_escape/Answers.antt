@@ -1,10 +1,7 @@
-use Rattle.std.proofs.Common.{◌≡◌, ◌∙◌, ◌+◌, ◌-◌, ◌++◌, ap, arith, length, subst, sym, take}
-use Rattle.std.specs.Prelude.{slice_range}
-use Rattle.jiter_steps.specs.PartialString.{HasTaken}
+use Rattle.jiter_steps.proofs.Words.{◌≡◌, ◌∙◌, ◌+◌, ◌-◌, ◌++◌, ap, arith, length, subst, sym, take, slice_range}
+use Rattle.jiter_steps.proofs.Words.{HasTaken, stop_view, cut, over, event_at}
 use Rattle.jiter_steps.proofs.OpenStrings.{escape-ahead, escape-begins, escape-cut, escape-whole, one-byte, range-length}
 use Rattle.jiter_steps.proofs.OpenStrings.{rest-range}
-use Rattle.jiter_steps.specs.StringDecoder.{stop_view}
-use Rattle.jiter_steps.specs.StringReading.{cut, over, event_at}
 use Rattle.jiter_steps.proofs.partial_string.PartialString.take_long_escape.Goals as goal
 
 pub returns-in-End-clause-taken : goal.returns-in-End-clause-taken

@@ -1,4 +1,4 @@
-use Rattle.std.proofs.Common.{◌≡◌, ◌∙◌, true, length, take, sym, ap}
+use Rattle.jiter_steps.proofs.Words.{◌≡◌, ◌∙◌, true, length, take, sym, ap}
 use Rattle.jiter_steps.proofs.OpenTexts.{broken-stays}
 use Rattle.jiter_steps.proofs.partial_text.PartialText.add.Goals as goal
 

@@ -1,6 +1,4 @@
-use Rattle.std.proofs.Common.{◌≡◌, ◌∙◌, true, false, length, nat_eq, sym, ap, subst}
-use Rattle.std.proofs.lemmas.Str.{IsUtf8-string_bytes}
-use Rattle.std.specs.Str.{IsUtf8}
+use Rattle.jiter_steps.proofs.Words.{◌≡◌, ◌∙◌, true, false, length, nat_eq, sym, ap, subst, IsUtf8-string_bytes, IsUtf8}
 use Rattle.jiter_steps.proofs.OpenTexts.{is_text-kept, is_text-whole, is_text-broken}
 use Rattle.jiter_steps.proofs.partial_text.PartialText.is_text.Goals as goal
 

@@ -1,4 +1,4 @@
-use Rattle.jiter_value.specs.Value.{view}
+use Rattle.jiter_value.proofs.Words.{view}
 use Rattle.jiter_value.proofs.Codes.{eq-is}
 use Rattle.jiter_value.proofs.equality.JsonValuePartialEq.eq.Goals as goal
 

@@ -1,7 +1,4 @@
-use Rattle.std.proofs.Common.{refl, true}
-use Rattle.jiter_steps.specs.Blank.{past_blanks}
-use Rattle.jiter_value.specs.Machine.{IsReadingOn}
-use Rattle.jiter_value.specs.Stacks.{keys_of}
+use Rattle.jiter_value.proofs.Words.{refl, true, past_blanks, IsReadingOn, keys_of}
 use Rattle.jiter_value.proofs.Ended.{has-ended, own-keys}
 use Rattle.jiter_value.proofs.machine.Machine.finish.Goals.{else-not-begun-via-then-not-begun+else-not-begin}
 use Rattle.jiter_value.proofs.machine.Machine.finish.Goals.{else-not-begun-via-else-not-begun}

@@ -1,11 +1,5 @@
-use Rattle.std.proofs.Common.{◌≡◌, ◌≤◌, ◌+◌, ◌∙◌, inl, inr, refl, reverse, subst, sym, true}
-use Rattle.std.proofs.lemmas.Result.{IfOk-weaker}
-use Rattle.jiter_steps.specs.Blank.{past_blanks}
-use Rattle.jiter_value.specs.Machine.{IsReadingOn}
-use Rattle.jiter_value.specs.Size.{held_in, size}
-use Rattle.jiter_value.specs.Stacks.{keys_of}
-use Rattle.jiter_value.specs.Turns.{GoesOn}
-use Rattle.jiter_value.specs.Value.{view}
+use Rattle.jiter_value.proofs.Words.{◌≡◌, ◌≤◌, ◌+◌, ◌∙◌, inl, inr, refl, reverse, subst, sym, true, IfOk-weaker}
+use Rattle.jiter_value.proofs.Words.{past_blanks, IsReadingOn, held_in, size, keys_of, GoesOn, view}
 use Rattle.jiter_value.proofs.Ended.{has-ended, own-keys, turned-size}
 use Rattle.jiter_value.proofs.machine.Machine.turn.Goals.{else-not-begun-via-then-not-begun+else-not-begin}
 use Rattle.jiter_value.proofs.machine.Machine.turn.Goals.{else-not-begun-via-else-not-begun}

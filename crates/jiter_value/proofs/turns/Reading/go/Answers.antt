@@ -1,4 +1,4 @@
-use Rattle.std.proofs.Common.{◌∙◌, sym}
+use Rattle.jiter_value.proofs.Words.{◌∙◌, sym}
 use Rattle.jiter_value.specs.declared.stacks.State.TheVariants as state
 use Rattle.jiter_value.proofs.Turning.{come-on, goes-on, keys-left, not-once, on-if, value-on}
 use Rattle.jiter_value.proofs.turns.Reading.go.Goals.{in-Done, in-GivenUp, in-Key+then-has_stopped, then-this-ne0}

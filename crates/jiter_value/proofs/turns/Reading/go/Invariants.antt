@@ -1,6 +1,5 @@
-use Rattle.std.proofs.Common.{◌≡◌, ℕ, List, eqb, false, not, true}
-use Rattle.jiter_value.specs.Stacks.{HaveKeys}
-use Rattle.jiter_value.specs.Turns.{GoesOn, HasCome, HasGone, left}
+use Rattle.jiter_value.proofs.Words.{◌≡◌, ℕ, List, eqb, false, not, true, HaveKeys, GoesOn, HasCome, left}
+use Rattle.jiter_value.specs.Turns.{HasGone}
 use Rattle.jiter_value.proofs.Turning.{turns_left}
 use Rattle.jiter_value.proofs.turns.Reading.go.Given as goal
 

@@ -1,7 +1,4 @@
-use Rattle.std.proofs.Common.{◌∙◌, [], ap, refl, subst, sym}
-use Rattle.jiter_steps.specs.Read.{done}
-use Rattle.jiter_value.specs.Turns.{HasCome}
-use Rattle.jiter_value.specs.Value.{view}
+use Rattle.jiter_value.proofs.Words.{◌∙◌, [], ap, refl, subst, sym, done, HasCome, view}
 use Rattle.jiter_value.proofs.Ended.{come-first, failed-memory, failed-value, given-up, no-keys, whole-holds, whole-value}
 use Rattle.jiter_value.proofs.turns.Reading.run.Goals as goal
 

@@ -1,7 +1,5 @@
-use Rattle.std.proofs.Common.{Err, ◌∙◌, ap, false, refl, subst, sym, arith, reverse}
-use Rattle.jiter_steps.specs.Frames.{resolve_step}
-use Rattle.jiter_value.specs.Settings.{forgives}
-use Rattle.jiter_value.specs.Turns.{IsResolved}
+use Rattle.jiter_value.proofs.Words.{Err, ◌∙◌, ap, false, refl, subst, sym, arith, reverse, resolve_step, forgives}
+use Rattle.jiter_value.proofs.Words.{IsResolved}
 use Rattle.jiter_value.proofs.KeptKeys.{leaves-then}
 use Rattle.jiter_value.proofs.Shapes.{inside-stands, not-root, ready-keys, ready-memory, ready-proceeds}
 use Rattle.jiter_value.proofs.Sizes.{after-part-size}

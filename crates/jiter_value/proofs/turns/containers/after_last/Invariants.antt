@@ -1,7 +1,4 @@
-use Rattle.std.proofs.Common.{◌≡◌, ◌≤◌, length}
-use Rattle.jiter_value.specs.Size.{after_size}
-use Rattle.jiter_value.specs.Stacks.{after, Stands, LeavesKeys}
-use Rattle.jiter_value.specs.Turns.{left}
+use Rattle.jiter_value.proofs.Words.{◌≡◌, ◌≤◌, length, after_size, after, Stands, LeavesKeys, left}
 use Rattle.jiter_value.specs.declared.stacks.Slot.TheVariants as slot
 use Rattle.jiter_value.proofs.turns.containers.after_last.Given as goal
 

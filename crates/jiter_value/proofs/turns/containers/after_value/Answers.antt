@@ -1,7 +1,4 @@
-use Rattle.std.proofs.Common.{◌∙◌, ap, arith, refl, reverse, sym}
-use Rattle.jiter_scan.specs.Kind.{fault_kind}
-use Rattle.jiter_steps.specs.Frames.{resolve_step}
-use Rattle.jiter_value.specs.Settings.{forgives}
+use Rattle.jiter_value.proofs.Words.{◌∙◌, ap, arith, refl, reverse, sym, fault_kind, resolve_step, forgives}
 use Rattle.jiter_value.proofs.KeptKeys.{leaves-all}
 use Rattle.jiter_value.proofs.Shapes.{inside-stands, not-root, ready-keys, ready-memory, ready-proceeds}
 use Rattle.jiter_value.proofs.Sizes.{after-part-size}

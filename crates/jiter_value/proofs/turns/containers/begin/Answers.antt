@@ -1,7 +1,5 @@
-use Rattle.std.proofs.Common.{◌∙◌, ap, arith, false, refl, subst, sym}
-use Rattle.jiter_steps.specs.Frames.{resolve_step}
-use Rattle.jiter_value.specs.Settings.{forgives}
-use Rattle.jiter_value.specs.Turns.{IsResolved, outcome}
+use Rattle.jiter_value.proofs.Words.{◌∙◌, ap, arith, false, refl, subst, sym, resolve_step, forgives, IsResolved}
+use Rattle.jiter_value.proofs.Words.{outcome}
 use Rattle.jiter_value.proofs.TurnOutcomes.{leads-weaker, root-grows, refused-weaker, fault-grows}
 use Rattle.jiter_value.proofs.StackTurns.{begins-closed, begins-fails}
 use Rattle.jiter_value.proofs.turns.containers.begin.Goals as goal

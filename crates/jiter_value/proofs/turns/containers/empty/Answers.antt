@@ -1,4 +1,4 @@
-use Rattle.std.proofs.Common.{ap, arith, length}
+use Rattle.jiter_value.proofs.Words.{ap, arith, length}
 use Rattle.jiter_value.proofs.KeptKeys.{leaves-on}
 use Rattle.jiter_value.proofs.TurnOutcomes.{leads-weaker}
 use Rattle.jiter_value.proofs.turns.containers.empty.Goals as goal

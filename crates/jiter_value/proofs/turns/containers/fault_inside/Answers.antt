@@ -1,5 +1,4 @@
-use Rattle.std.proofs.Common.{arith, refl, reverse, sym}
-use Rattle.jiter_scan.specs.Kind.{fault_kind}
+use Rattle.jiter_value.proofs.Words.{arith, refl, reverse, sym, fault_kind}
 use Rattle.jiter_value.proofs.StackTurns.{fault-forgiven, fault-kept}
 use Rattle.jiter_value.proofs.TurnOutcomes.{leads-weaker}
 use Rattle.jiter_value.proofs.turns.containers.fault_inside.Goals as goal

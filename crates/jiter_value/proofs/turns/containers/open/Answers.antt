@@ -1,4 +1,4 @@
-use Rattle.std.proofs.Common.{refl, arith, inl}
+use Rattle.jiter_value.proofs.Words.{refl, arith, inl}
 use Rattle.jiter_value.proofs.KeptKeys.{leaves-all}
 use Rattle.jiter_value.proofs.Shapes.{begins-grows, shape-opens, array-too-deep, ready-keys, with_nest}
 use Rattle.jiter_value.proofs.TurnOutcomes.{fault-grows, refused-turned}

@@ -1,4 +1,4 @@
-use Rattle.std.proofs.Common.{inl, inr, refl}
+use Rattle.jiter_value.proofs.Words.{inl, inr, refl}
 use Rattle.jiter_value.proofs.turns.containers.to_crowded_part.Goals as goal
 
 pub returns-in-Ok : goal.returns-in-Ok

@@ -1,4 +1,4 @@
-use Rattle.std.proofs.Common.{inl, refl}
+use Rattle.jiter_value.proofs.Words.{inl, refl}
 use Rattle.jiter_value.proofs.Shapes.{holds-same}
 use Rattle.jiter_value.proofs.turns.containers.to_part.Goals as goal
 

@@ -1,11 +1,6 @@
-use Rattle.std.proofs.Common.{◌≡◌, ◌∙◌, ◌∷◌, ◌++◌, [], subst, sym, ap, arith, drop, length, length-append, get_or}
-use Rattle.std.proofs.Math.Seq.{get_or-append_seam}
-use Rattle.std.proofs.lemmas.List.{length-map}
-use Rattle.std.proofs.lemmas.Result.{on_ok_weaker, IfOk-weaker}
-use Rattle.jiter_steps.specs.StringDecoder.{text_view}
-use Rattle.jiter_value.specs.DuplicateKeys.{IsNowhere, IsPlaceOf}
-use Rattle.jiter_value.specs.Stacks.{keys_of}
-use Rattle.jiter_value.specs.UniqueKeys.{has_key}
+use Rattle.jiter_value.proofs.Words.{◌≡◌, ◌∙◌, ◌∷◌, ◌++◌, [], subst, sym, ap, arith, drop, length, length-append}
+use Rattle.jiter_value.proofs.Words.{get_or, get_or-append_seam, length-map, on_ok_weaker, IfOk-weaker, text_view}
+use Rattle.jiter_value.proofs.Words.{IsNowhere, IsPlaceOf, keys_of, has_key}
 use Rattle.jiter_value.proofs.DuplicateKeys.{up-more, up-added, no-member}
 use Rattle.jiter_value.proofs.turns.duplicate_keys.add_key.Goals as goal
 

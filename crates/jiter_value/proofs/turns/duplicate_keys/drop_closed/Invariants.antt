@@ -1,7 +1,4 @@
-use Rattle.std.proofs.Common.{take}
-use Rattle.std.specs.Prelude.{All}
-use Rattle.jiter_value.specs.DuplicateKeys.{HasKeys, IsUpToDate}
-use Rattle.jiter_value.specs.Stacks.{keys_of}
+use Rattle.jiter_value.proofs.Words.{take, All, HasKeys, IsUpToDate, keys_of}
 use Rattle.jiter_value.proofs.turns.duplicate_keys.drop_closed.Given as goal
 
 abbrev pub invariant-loop-i : goal.invariant-loop-i

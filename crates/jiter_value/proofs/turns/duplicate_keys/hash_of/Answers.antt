@@ -1,4 +1,4 @@
-use Rattle.std.proofs.Common.{◌∙◌, sym, arith}
+use Rattle.jiter_value.proofs.Words.{◌∙◌, sym, arith}
 use Rattle.jiter_value.proofs.DuplicateKeys.{mark-more, mark-all}
 use Rattle.jiter_value.proofs.turns.duplicate_keys.hash_of.Goals as goal
 

@@ -1,5 +1,5 @@
-use Rattle.std.proofs.Common.{◌≡◌, drop}
-use Rattle.jiter_value.specs.DuplicateKeys.{hash_of, mark_on}
+use Rattle.jiter_value.proofs.Words.{◌≡◌, drop, mark_on}
+use Rattle.jiter_value.specs.DuplicateKeys.{hash_of}
 use Rattle.jiter_value.proofs.turns.duplicate_keys.hash_of.Given as goal
 
 abbrev pub invariant-loop-i : goal.invariant-loop-i

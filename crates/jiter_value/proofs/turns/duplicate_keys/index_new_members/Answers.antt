@@ -1,7 +1,4 @@
-use Rattle.std.proofs.Common.{◌≡◌, ◌+◌, ◌∙◌, ◌<◌, ap, arith, length, get_or, []}
-use Rattle.std.proofs.lemmas.List.{length-map}
-use Rattle.jiter_steps.specs.StringDecoder.{text_view}
-use Rattle.jiter_value.specs.Stacks.{keys_of}
+use Rattle.jiter_value.proofs.Words.{◌≡◌, ◌+◌, ◌∙◌, ◌<◌, ap, arith, length, get_or, [], length-map, text_view, keys_of}
 use Rattle.jiter_value.proofs.DuplicateKeys.{key-of, up-added}
 use Rattle.jiter_value.proofs.turns.duplicate_keys.index_new_members.Goals as goal
 

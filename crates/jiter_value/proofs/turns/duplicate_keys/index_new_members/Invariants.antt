@@ -1,6 +1,4 @@
-use Rattle.std.proofs.Common.{◌≡◌}
-use Rattle.jiter_value.specs.DuplicateKeys.{IsUpToDate}
-use Rattle.jiter_value.specs.Stacks.{keys_of}
+use Rattle.jiter_value.proofs.Words.{◌≡◌, IsUpToDate, keys_of}
 use Rattle.jiter_value.proofs.turns.duplicate_keys.index_new_members.Given as goal
 
 abbrev pub invariant-loop-i : goal.invariant-loop-i

@@ -1,9 +1,6 @@
-use Rattle.std.proofs.Common.{◌≡◌, ◌∙◌, ◌+◌, ◌-◌, ◌<◌, sym, ap, arith, length, get_or}
-use Rattle.std.specs.Str.{bytes_eq}
+use Rattle.jiter_value.proofs.Words.{◌≡◌, ◌∙◌, ◌+◌, ◌-◌, ◌<◌, sym, ap, arith, length, get_or, bytes_eq, length-map}
+use Rattle.jiter_value.proofs.Words.{text_view, keys_of}
 use Rattle.std.proofs.lemmas.Bool.Decides.{nat_tests}
-use Rattle.std.proofs.lemmas.List.{length-map}
-use Rattle.jiter_steps.specs.StringDecoder.{text_view}
-use Rattle.jiter_value.specs.Stacks.{keys_of}
 use Rattle.jiter_value.proofs.DuplicateKeys.{key-of}
 use Rattle.jiter_value.proofs.turns.duplicate_keys.is_key_of.Goals as goal
 

@@ -1,6 +1,5 @@
-use Rattle.std.proofs.Common.{ℕ, ◌<◌, ◌≤◌, get_or}
+use Rattle.jiter_value.proofs.Words.{ℕ, ◌<◌, ◌≤◌, get_or, keys_of}
 use Rattle.jiter_value.specs.DuplicateKeys.{IsNoKeyOf}
-use Rattle.jiter_value.specs.Stacks.{keys_of}
 use Rattle.jiter_value.proofs.turns.duplicate_keys.is_named.Given as goal
 
 abbrev pub invariant-loop-i : goal.invariant-loop-i

@@ -1,10 +1,5 @@
-use Rattle.std.proofs.Common.{◌-◌, ◌∷◌, ◌++◌, [], sym, subst}
-use Rattle.std.specs.Prelude.{All}
+use Rattle.jiter_value.proofs.Words.{◌-◌, ◌∷◌, ◌++◌, [], sym, subst, All, on_ok_weaker, text_view, IsUpToDate, keys_of}
 use Rattle.std.proofs.lemmas.List.Elements.{All-set, All-push}
-use Rattle.std.proofs.lemmas.Result.{on_ok_weaker}
-use Rattle.jiter_steps.specs.StringDecoder.{text_view}
-use Rattle.jiter_value.specs.DuplicateKeys.{IsUpToDate}
-use Rattle.jiter_value.specs.Stacks.{keys_of}
 use Rattle.jiter_value.proofs.DuplicateKeys.{more-all}
 use Rattle.jiter_value.proofs.turns.duplicate_keys.is_new_key.Goals as goal
 

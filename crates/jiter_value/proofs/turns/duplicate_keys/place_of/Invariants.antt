@@ -1,4 +1,4 @@
-use Rattle.jiter_value.specs.DuplicateKeys.{AreTaken}
+use Rattle.jiter_value.proofs.Words.{AreTaken}
 use Rattle.jiter_value.proofs.turns.duplicate_keys.place_of.Given as goal
 
 abbrev pub invariant-loop-at : goal.invariant-loop-at

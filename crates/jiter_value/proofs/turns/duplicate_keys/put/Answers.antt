@@ -1,5 +1,4 @@
-use Rattle.std.proofs.Common.{◌∙◌, sym, ap, arith, refl}
-use Rattle.jiter_value.specs.DuplicateKeys.{has_text}
+use Rattle.jiter_value.proofs.Words.{◌∙◌, sym, ap, arith, refl, has_text}
 use Rattle.jiter_value.proofs.DuplicateKeys.{adds-slot, adds-rest}
 use Rattle.jiter_value.proofs.turns.duplicate_keys.put.Goals as goal
 

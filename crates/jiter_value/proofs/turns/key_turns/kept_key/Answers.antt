@@ -1,10 +1,5 @@
-use Rattle.std.proofs.Common.{◌≡◌, ◌++◌, ◌∷◌, ◌∙◌, [], ap, arith, length, refl, reverse}
-use Rattle.std.proofs.lemmas.List.{length-reverse}
-use Rattle.jiter_scan.specs.Kind.{fault_kind}
-use Rattle.jiter_scan.specs.Scanned.{failed, taken}
-use Rattle.jiter_steps.specs.Read.{scalar_at}
-use Rattle.jiter_steps.specs.StringDecoder.{text_view}
-use Rattle.jiter_value.specs.Stacks.{keys_of}
+use Rattle.jiter_value.proofs.Words.{◌≡◌, ◌++◌, ◌∷◌, ◌∙◌, [], ap, arith, length, refl, reverse, length-reverse}
+use Rattle.jiter_value.proofs.Words.{fault_kind, failed, taken, scalar_at, text_view, keys_of}
 use Rattle.jiter_value.specs.declared.stacks.State.TheVariants as state
 use Rattle.jiter_value.proofs.KeptKeys.{pushed-keys}
 use Rattle.jiter_value.proofs.Placed.{key-at}

@@ -1,8 +1,5 @@
-use Rattle.std.proofs.Common.{◌+◌, ◌∙◌, arith, false, refl, ap, sym}
-use Rattle.std.proofs.lemmas.Option.{slice_get_within}
-use Rattle.jiter_scan.specs.Scanned.{taken}
-use Rattle.jiter_steps.proofs.Calls.FastAnswers.{plain-utf8}
-use Rattle.jiter_steps.proofs.Calls.Looks.{look-plain}
+use Rattle.jiter_value.proofs.Words.{◌+◌, ◌∙◌, arith, false, refl, ap, sym, slice_get_within, taken, plain-utf8}
+use Rattle.jiter_value.proofs.Words.{look-plain}
 use Rattle.jiter_value.proofs.LentTexts.{range-lies}
 use Rattle.jiter_value.proofs.turns.key_turns.key_turn.Goals as goal
 

@@ -1,7 +1,4 @@
-use Rattle.std.proofs.Common.{ap, arith, false, length, refl, reverse}
-use Rattle.jiter_scan.specs.Kind.{fault_kind}
-use Rattle.jiter_steps.specs.Read.{scalar_at}
-use Rattle.jiter_steps.specs.StringDecoder.{text_view}
+use Rattle.jiter_value.proofs.Words.{ap, arith, false, length, refl, reverse, fault_kind, scalar_at, text_view}
 use Rattle.jiter_value.proofs.LentTexts.{string-lent}
 use Rattle.jiter_value.proofs.Repeats.{no-key}
 use Rattle.jiter_value.proofs.StackTurns.{key-fails}

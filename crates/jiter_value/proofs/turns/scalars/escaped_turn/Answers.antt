@@ -1,12 +1,5 @@
-use Rattle.std.proofs.Common.{◌≡◌, ◌∙◌, ap, arith, refl, subst, sym, take, true}
-use Rattle.std.specs.Prelude.{slice_get, Some}
-use Rattle.jiter_scan.specs.Kind.{fault_kind}
-use Rattle.jiter_scan.proofs.Scanning.{ScalarWithin}
-use Rattle.jiter_steps.proofs.Grammar.StringLaws.{string_at-within}
-use Rattle.jiter_steps.specs.Read.{done}
-use Rattle.jiter_steps.specs.Answer.{value_form}
-use Rattle.jiter_steps.specs.Tree.{string}
-use Rattle.jiter_value.specs.Size.{size}
+use Rattle.jiter_value.proofs.Words.{◌≡◌, ◌∙◌, ap, arith, refl, subst, sym, take, true, slice_get, Some, fault_kind}
+use Rattle.jiter_value.proofs.Words.{ScalarWithin, string_at-within, done, value_form, string, size}
 use Rattle.jiter_value.proofs.Placed.{text-failed, text-taken}
 use Rattle.jiter_value.proofs.TurnOutcomes.{grows-decoded, refused-turned}
 use Rattle.jiter_value.proofs.Views.{view_str}

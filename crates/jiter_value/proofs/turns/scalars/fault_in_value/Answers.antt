@@ -1,11 +1,6 @@
-use Rattle.std.proofs.Common.{◌≡◌, ◌-◌, ◌∙◌, ap, arith, length, refl, take, reverse, sym}
-use Rattle.jiter_scan.specs.Kind.{fault_kind}
+use Rattle.jiter_value.proofs.Words.{◌≡◌, ◌-◌, ◌∙◌, ap, arith, length, refl, take, reverse, sym, fault_kind, resume}
+use Rattle.jiter_value.proofs.Words.{fault, rules_as, frames_size, inside_size_in, frames, container_fault_in}
 use Rattle.jiter_steps.specs.declared.parse.ContainerKind.TheVariants as shape
-use Rattle.jiter_steps.specs.Frames.{resume}
-use Rattle.jiter_steps.specs.Read.{fault}
-use Rattle.jiter_value.specs.Settings.{rules_as}
-use Rattle.jiter_value.specs.Size.{frames_size, inside_size_in}
-use Rattle.jiter_value.specs.Stacks.{frames, container_fault_in}
 use Rattle.jiter_value.specs.declared.stacks.Slot.TheVariants as slot
 use Rattle.jiter_value.proofs.KeptKeys.{leaves-taken, leaves-on}
 use Rattle.jiter_value.proofs.Shapes.{not-root}

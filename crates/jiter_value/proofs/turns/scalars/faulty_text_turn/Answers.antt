@@ -1,8 +1,4 @@
-use Rattle.std.proofs.Common.{◌≡◌, ◌∙◌, ap, refl, sym}
-use Rattle.jiter_scan.specs.Kind.{fault_kind}
-use Rattle.jiter_scan.specs.Scanned.{failed}
-use Rattle.jiter_steps.specs.Answer.{value_form}
-use Rattle.jiter_steps.specs.StringReading.{string_at, text_form}
+use Rattle.jiter_value.proofs.Words.{◌≡◌, ◌∙◌, ap, refl, sym, fault_kind, failed, value_form, string_at, text_form}
 use Rattle.jiter_steps.proofs.Calls.Looks.{look-fault}
 use Rattle.jiter_value.proofs.Placed.{text-failed}
 use Rattle.jiter_value.proofs.turns.scalars.faulty_text_turn.Goals as goal

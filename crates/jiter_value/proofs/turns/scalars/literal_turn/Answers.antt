@@ -1,5 +1,4 @@
-use Rattle.std.proofs.Common.{◌∙◌, ap, refl, sym}
-use Rattle.jiter_steps.specs.Read.{done}
+use Rattle.jiter_value.proofs.Words.{◌∙◌, ap, refl, sym, done}
 use Rattle.jiter_value.proofs.Placed.{literal-read}
 use Rattle.jiter_value.proofs.turns.scalars.literal_turn.Goals as goal
 

@@ -1,4 +1,4 @@
-use Rattle.std.proofs.Common.{refl}
+use Rattle.jiter_value.proofs.Words.{refl}
 use Rattle.jiter_steps.specs.declared.parse.Start.TheVariants as start
 use Rattle.jiter_value.proofs.TurnOutcomes.{grows-kept, put-turned, refused-turned}
 use Rattle.jiter_value.proofs.turns.scalars.number_turn.Goals as goal

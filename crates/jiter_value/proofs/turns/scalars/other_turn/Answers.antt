@@ -1,4 +1,4 @@
-use Rattle.std.proofs.Common.{refl, sym, ◌∙◌}
+use Rattle.jiter_value.proofs.Words.{refl, sym, ◌∙◌}
 use Rattle.jiter_value.proofs.Placed.{nothing-read}
 use Rattle.jiter_value.proofs.turns.scalars.other_turn.Goals as goal
 

@@ -1,6 +1,4 @@
-use Rattle.std.proofs.Common.{◌∙◌, arith}
-use Rattle.jiter_steps.specs.Read.{done}
-use Rattle.jiter_value.specs.Value.{view}
+use Rattle.jiter_value.proofs.Words.{◌∙◌, arith, done, view}
 use Rattle.jiter_value.proofs.StackTurns.{value-read}
 use Rattle.jiter_value.proofs.TurnOutcomes.{put-turned}
 use Rattle.jiter_value.proofs.turns.scalars.put_and_go_on.Goals as goal

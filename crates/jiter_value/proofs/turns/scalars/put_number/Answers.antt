@@ -1,9 +1,9 @@
-use Rattle.std.proofs.Common.{◌≡◌, ◌∙◌, false, of_z, refl, ap, arith, slice_range, to_z, to_z-of_z, w64}
-use Rattle.std.specs.Prelude.{nat_lt, pos, if◌then◌else◌}
-use Rattle.jiter_scan.specs.Number.{integer, minus_of}
+use Rattle.jiter_value.proofs.Words.{◌≡◌, ◌∙◌, false, refl, ap, arith, slice_range, nat_lt, pos, if◌then◌else◌, integer}
+use Rattle.jiter_value.proofs.Words.{int, float}
+use Rattle.std.proofs.Common.{of_z, to_z, to_z-of_z, w64}
+use Rattle.jiter_scan.specs.Number.{minus_of}
 use Rattle.jiter_scan.specs.Number as number
 use Rattle.jiter_scan.proofs.NumberBytes.{IsAscii-decimal, IsMinusTo-le}
-use Rattle.jiter_steps.specs.Tree.{int, float}
 use Rattle.jiter_value.proofs.LentTexts.{range-lies}
 use Rattle.jiter_scan.proofs.FastNumberValues.{short-signed, short-signed_float}
 use Rattle.jiter_value.proofs.Placed.{put-at, number-read}

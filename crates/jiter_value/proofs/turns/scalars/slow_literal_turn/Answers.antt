@@ -1,6 +1,4 @@
-use Rattle.std.proofs.Common.{◌∙◌, ap, refl, sym}
-use Rattle.jiter_scan.specs.Kind.{fault_kind}
-use Rattle.jiter_steps.specs.Read.{done}
+use Rattle.jiter_value.proofs.Words.{◌∙◌, ap, refl, sym, fault_kind, done}
 use Rattle.jiter_value.proofs.Placed.{literal-failed, literal-read}
 use Rattle.jiter_value.proofs.turns.scalars.slow_literal_turn.Goals as goal
 

@@ -1,7 +1,5 @@
-use Rattle.std.proofs.Common.{◌∙◌, ap, arith, refl, sym}
-use Rattle.jiter_scan.specs.Kind.{fault_kind}
+use Rattle.jiter_value.proofs.Words.{◌∙◌, ap, arith, refl, sym, fault_kind, done}
 use Rattle.jiter_scan.specs.NumberDecoder.{number_view}
-use Rattle.jiter_steps.specs.Read.{done}
 use Rattle.jiter_steps.specs.declared.parse.Start.TheVariants as start
 use Rattle.jiter_value.proofs.LentTexts.{number-lent}
 use Rattle.jiter_value.proofs.Placed.{number-failed, number-read}

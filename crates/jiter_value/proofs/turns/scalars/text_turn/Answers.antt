@@ -1,12 +1,7 @@
-use Rattle.std.proofs.Common.{◌+◌, ◌∙◌, ap, arith, false, refl, sym}
-use Rattle.std.proofs.lemmas.Option.{slice_get_within}
-use Rattle.jiter_steps.proofs.Calls.FastAnswers.{plain-utf8}
-use Rattle.jiter_steps.proofs.Calls.Looks.{look-plain}
-use Rattle.jiter_steps.specs.Read.{done}
+use Rattle.jiter_value.proofs.Words.{◌+◌, ◌∙◌, ap, arith, false, refl, sym, slice_get_within, plain-utf8, look-plain}
+use Rattle.jiter_value.proofs.Words.{done, string, size}
 use Rattle.jiter_steps.specs.StringReading.{between}
-use Rattle.jiter_steps.specs.Tree.{string}
 use Rattle.jiter_steps.specs.declared.parse.Start.TheVariants as start
-use Rattle.jiter_value.specs.Size.{size}
 use Rattle.jiter_value.proofs.LentTexts.{range-lies}
 use Rattle.jiter_value.proofs.Placed.{text-read}
 use Rattle.jiter_value.proofs.TurnOutcomes.{grows-kept, refused-turned}

@@ -1,10 +1,6 @@
-use Rattle.std.proofs.Common.{◌+◌, ◌∙◌, ap, arith, refl, sym}
-use Rattle.jiter_scan.specs.Kind.{invalid_code_point}
+use Rattle.jiter_value.proofs.Words.{◌+◌, ◌∙◌, ap, arith, refl, sym, invalid_code_point, done, string, size}
 use Rattle.jiter_steps.proofs.Calls.Looks.{look-checked}
-use Rattle.jiter_steps.specs.Read.{done}
-use Rattle.jiter_steps.specs.Tree.{string}
 use Rattle.jiter_steps.specs.declared.parse.Start.TheVariants as start
-use Rattle.jiter_value.specs.Size.{size}
 use Rattle.jiter_value.proofs.LentTexts.{string-lent}
 use Rattle.jiter_value.proofs.Placed.{text-failed, text-taken}
 use Rattle.jiter_value.proofs.TurnOutcomes.{grows-kept, refused-turned}

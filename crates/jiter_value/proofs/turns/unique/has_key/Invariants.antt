@@ -1,5 +1,4 @@
-use Rattle.std.proofs.Common.{◌≡◌, drop}
-use Rattle.jiter_value.specs.UniqueKeys.{has_key}
+use Rattle.jiter_value.proofs.Words.{◌≡◌, drop, has_key}
 use Rattle.jiter_value.proofs.turns.unique.has_key.Given as goal
 
 abbrev pub invariant-loop-i : goal.invariant-loop-i

@@ -1,10 +1,5 @@
-use Rattle.std.proofs.Common.{◌∙◌, [], ap, arith, refl, subst, sym}
+use Rattle.jiter_value.proofs.Words.{◌∙◌, [], ap, arith, refl, subst, sym, done, HasKeys, lent_unique, HasCome, view}
 use Rattle.std.proofs.lemmas.List.Elements.{All-nil}
-use Rattle.jiter_steps.specs.Read.{done}
-use Rattle.jiter_value.specs.DuplicateKeys.{HasKeys}
-use Rattle.jiter_value.specs.Settings.{lent_unique}
-use Rattle.jiter_value.specs.Turns.{HasCome}
-use Rattle.jiter_value.specs.Value.{view}
 use Rattle.jiter_value.specs.declared.stacks.State.TheVariants as state
 use Rattle.jiter_value.proofs.Ended.{come-first, failed-memory, failed-value, key-grows, no-keys, whole-value}
 use Rattle.jiter_value.proofs.Repeats.{stops-gives, stops-grows}

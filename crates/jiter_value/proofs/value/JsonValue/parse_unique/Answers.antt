@@ -1,7 +1,5 @@
-use Rattle.std.proofs.Common.{◌∙◌, ap, subst, arith, length, Ok, Err}
-use Rattle.jiter_steps.specs.Unique.{unique_answer_in}
-use Rattle.jiter_value.specs.Parses.{AnswersBy}
-use Rattle.jiter_value.specs.ParsesUnique.{refusing_repeats}
+use Rattle.jiter_value.proofs.Words.{◌∙◌, ap, subst, arith, length, Ok, Err, unique_answer_in, AnswersBy}
+use Rattle.jiter_value.proofs.Words.{refusing_repeats}
 use Rattle.jiter_value.proofs.ParsedDocuments.{as_read-is}
 use Rattle.jiter_value.proofs.ParsedUnique.{value-parses, error-parses}
 use Rattle.jiter_value.proofs.value.JsonValue.parse_unique.Goals as goal

@@ -1,7 +1,4 @@
-use Rattle.std.proofs.Common.{subst}
-use Rattle.jiter_steps.specs.Answer.{answer, answer_in}
-use Rattle.jiter_steps.proofs.Grammar.Documents.{one_node}
-use Rattle.jiter_value.specs.Value.{Answers}
+use Rattle.jiter_value.proofs.Words.{subst, answer, answer_in, one_node, Answers}
 use Rattle.jiter_value.proofs.ParsedDocuments.{as_read-is, as_read-cut}
 use Rattle.jiter_value.proofs.value.JsonValue.parse_with_config.Goals as goal
 

@@ -1,6 +1,5 @@
-use Rattle.std.proofs.Common.{◌≡◌, None, sym, arith}
+use Rattle.jiter_value.proofs.Words.{◌≡◌, None, sym, arith, view}
 use Rattle.std.proofs.lemmas.Str.Pattern.{strip_prefix_char}
-use Rattle.jiter_value.specs.Value.{view}
 use Rattle.jiter_value.proofs.Pointing.{no_slash_first}
 use Rattle.jiter_value.proofs.value.JsonValue.pointer.Goals as goal
 

@@ -1,6 +1,4 @@
-use Rattle.std.proofs.Common.{◌∙◌, ap, arith, refl, sym}
-use Rattle.std.specs.Option.{option_map}
-use Rattle.jiter_steps.specs.StringDecoder.{text_view}
+use Rattle.jiter_value.proofs.Words.{◌∙◌, ap, arith, refl, sym, option_map, text_view}
 use Rattle.jiter_value.specs.UniqueKeys.{fault_of}
 use Rattle.jiter_value.proofs.Repeats.{refused-key}
 use Rattle.jiter_value.proofs.turns.unique.NewKeys.admits_slowly.Goals as goal

@@ -1,7 +1,5 @@
-use Rattle.std.proofs.Common.{◌≡◌, ◌∙◌, ap₂, drop, false, subst, sym}
-use Rattle.jiter_steps.specs.StringDecoder.{text_view}
-use Rattle.jiter_value.specs.Turns.{IsKeyRead}
-use Rattle.jiter_value.specs.UniqueKeys.{has_key, object_has_key}
+use Rattle.jiter_value.proofs.Words.{◌≡◌, ◌∙◌, ap₂, drop, false, subst, sym, text_view, IsKeyRead, has_key}
+use Rattle.jiter_value.proofs.Words.{object_has_key}
 use Rattle.jiter_value.proofs.Repeats.{free-key}
 use Rattle.jiter_value.proofs.turns.unique.NewKeysKeys.admits.Goals as goal
 
