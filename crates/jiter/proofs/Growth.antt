@@ -1,6 +1,6 @@
 -- A longer prefix of a document goes on where a shorter one stopped.
 use Rattle.jiter.proofs.Words.{◌≡◌, ℕ, ◌≤◌, Bool, List, length, take, ap, ◌∙◌, subst, arith, take-take, length-take, Ok}
-use Rattle.jiter.proofs.Words.{Some, answer_in, Reading, done, fault, Text, Tree, owned_text, owned_tree, reading_as}
+use Rattle.jiter.proofs.Words.{Some, answer_in, Reading, done, fault, Tree, owned_text, owned_tree, reading_as}
 use Rattle.jiter.proofs.Words.{view, Answers}
 use Rattle.jiter_scan.specs.declared.partial_mode.PartialMode.{PartialMode}
 use Rattle.jiter_steps.specs.Cut.{cut, IsBegunContainer}

@@ -1,6 +1,6 @@
 -- What reads of scalars reply, and where the reader stands then, by computation.
 use Rattle.jiter.proofs.Words.{pos, true, false, [], ◌∷◌, ◌++◌, refl, codes, eof_string, eof_value, expected_ident}
-use Rattle.jiter.proofs.Words.{expected_value, invalid_escape, invalid_number, invalid_code_point, Number, json_error}
+use Rattle.jiter.proofs.Words.{expected_value, invalid_escape, invalid_number, invalid_code_point, json_error}
 use Rattle.jiter.proofs.Words.{wrong_type, null, bool, int, string, array, object, gave, refused, next, null_read}
 use Rattle.jiter.proofs.Words.{bool_read, number_read, int_read, number_bytes_read, str_read, bytes_read}
 use Rattle.std.proofs.Common.{negsuc}

@@ -1,16 +1,16 @@
 -- What a look at a string says of its reading.
-use Rattle.jiter_steps.proofs.Words.{◌≡◌, ◌≢◌, ℕ, ◌+◌, ◌<◌, ◌≤◌, Bool, true, false, List, length, refl, sym, ap, ◌∙◌}
+use Rattle.jiter_steps.proofs.Words.{◌≡◌, ◌≢◌, ℕ, ◌+◌, ◌<◌, Bool, true, false, List, length, refl, sym, ap, ◌∙◌}
 use Rattle.jiter_steps.proofs.Words.{arith, subst, ◌==◌, slice_get, slice_range, Option, Some, None, IsUtf8}
 use Rattle.jiter_steps.proofs.Words.{utf8_valid_len, same_Some, slice_get_past, control_character, eof_string}
 use Rattle.jiter_steps.proofs.Words.{fault_kind, IsLook, scan_stop, taken, failed, FaultKind, Look, failed-taken}
-use Rattle.jiter_steps.proofs.Words.{if_gives, same_taken, get-none, between, checked, content_at, Form, kept, raw}
+use Rattle.jiter_steps.proofs.Words.{if_gives, same_taken, get-none, between, checked, Form, kept, raw}
 use Rattle.jiter_steps.proofs.Words.{raw_form, raw_kept, string_at, text_form, text_in_form, unclosed, whole, Text}
 use Rattle.jiter_scan.specs.Scan.{IsFaultOf}
 use Rattle.jiter_scan.specs.declared.errors.FaultKind.TheVariants as fault
 use Rattle.jiter_scan.specs.declared.short_scan.Look.TheVariants as look
 use Rattle.jiter_steps.proofs.Calls.FastAnswers.{plain-quoted, plain-utf8}
 use Rattle.jiter_steps.proofs.Calls.PlainRuns.{plain_run-within}
-use Rattle.jiter_steps.proofs.Calls.RawStrings.{raw-closed, raw-over_run, raw-unclosed}
+use Rattle.jiter_steps.proofs.Calls.RawStrings.{raw-closed, raw-over_run}
 use Rattle.jiter_steps.proofs.Reading.StringForms.{content-kept}
 use Rattle.jiter_steps.specs.StringDecoder.{WantsMemory}
 use Rattle.jiter_steps.proofs.Calls.StringAnswers.{string-control, string-none, string-quote}

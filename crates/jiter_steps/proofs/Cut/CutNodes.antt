@@ -3,7 +3,7 @@ use Rattle.jiter_steps.proofs.Words.{◌≡◌, ℕ, ◌<◌, ◌≤◌, Bool, m
 use Rattle.jiter_steps.proofs.Words.{arith, nat_le, map, sym, if◌then◌else◌, slice_range, cons_option, option_map}
 use Rattle.jiter_steps.proofs.Words.{le-leb, lt-leb, allows_trailing_strings, PartialMode, if_case, if-true, if-false}
 use Rattle.jiter_steps.proofs.Words.{cut_number, cut_string, literal_tree, Key, Node, Nodes, no_nodes, node}
-use Rattle.jiter_steps.proofs.Words.{NodeMembers, no_members, member, begin, end, Spells, text_at, value_of, values_of}
+use Rattle.jiter_steps.proofs.Words.{NodeMembers, no_members, member, begin, end, text_at, value_of, values_of}
 use Rattle.jiter_steps.proofs.Words.{Piece, Text, Tree, items_of, members_of, Literal}
 use Rattle.std.specs.List.{filter_map}
 use Rattle.jiter_steps.specs.Cut.{cut, cut_items, cut_members, with_item, with_member}

@@ -3,7 +3,7 @@ use Rattle.jiter_steps.proofs.Words.{◌≡◌, ℕ, zero, suc, ◌+◌, ◌<◌
 use Rattle.jiter_steps.proofs.Words.{arith, None, slice_get, slice_index, Some, chars, slice_get-get_or}
 use Rattle.jiter_steps.proofs.Words.{slice_get_within, nat_tests, number_at, Scanned, taken, failed, Extent}
 use Rattle.jiter_steps.proofs.Words.{ScalarWithin, seen_as, start_of, literal_at, Key, Node, Nodes, no_nodes, node}
-use Rattle.jiter_steps.proofs.Words.{NodeMembers, no_members, member, begin, end, StandsAfter, SpellsNumber, SpellsKey}
+use Rattle.jiter_steps.proofs.Words.{NodeMembers, no_members, member, begin, end, StandsAfter, SpellsKey}
 use Rattle.jiter_steps.proofs.Words.{Spells, SpellsItems, SpellsMoreItems, SpellsMembers, SpellsMoreMembers, nesting}
 use Rattle.jiter_steps.proofs.Words.{nesting_round, nesting_round_members, SpellsString, Reading, done, fault}
 use Rattle.jiter_steps.proofs.Words.{Container, scalar_at, with_key, after_colon, after_key, container_at, array_of}

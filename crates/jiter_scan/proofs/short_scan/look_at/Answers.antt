@@ -1,4 +1,4 @@
-use Rattle.jiter_scan.proofs.Words.{◌≡◌, ℕ, ◌+◌, ◌<◌, ◌≤◌, ◌∙◌, ap, false, refl, sym, arith, get_or, length, List, true}
+use Rattle.jiter_scan.proofs.Words.{◌≡◌, ℕ, ◌+◌, ◌<◌, ◌≤◌, ◌∙◌, ap, false, refl, sym, arith, get_or, length, List}
 use Rattle.jiter_scan.proofs.Words.{IsTrue, Some, slice_get, slice_get-get_or, count_trailing_zeros, chunk, is_plain}
 use Rattle.jiter_scan.proofs.Words.{is_plain_ascii, run_end, scan_stop, IsAsciiTo, failing}
 use Rattle.jiter_scan.specs.Scan.{IsLook}

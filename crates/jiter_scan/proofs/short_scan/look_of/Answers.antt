@@ -1,4 +1,4 @@
-use Rattle.jiter_scan.proofs.Words.{◌≡◌, ◌≢◌, ℕ, ◌<◌, false, refl, sym, ◌∙◌, arith, subst, slice_get, Some, nat_tests}
+use Rattle.jiter_scan.proofs.Words.{◌≡◌, ◌≢◌, ℕ, ◌<◌, false, refl, sym, arith, subst, slice_get, Some, nat_tests}
 use Rattle.jiter_scan.proofs.Words.{is_plain}
 use Rattle.jiter_scan.specs.Scan.{IsFaultOf}
 use Rattle.jiter_scan.specs.declared.errors.FaultKind.TheVariants as fault

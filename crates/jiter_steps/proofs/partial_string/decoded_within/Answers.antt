@@ -1,4 +1,4 @@
-use Rattle.jiter_steps.proofs.Words.{◌∙◌, ap, false, subst, sym, take, true, IsTextWithin}
+use Rattle.jiter_steps.proofs.Words.{◌∙◌, ap, subst, sym, take, true, IsTextWithin}
 use Rattle.jiter_steps.proofs.StringsWithin.{decoded-within}
 use Rattle.jiter_steps.proofs.partial_string.decoded_within.Goals as goal
 

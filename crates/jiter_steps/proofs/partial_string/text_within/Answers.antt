@@ -1,4 +1,4 @@
-use Rattle.jiter_steps.proofs.Words.{◌+◌, ◌∙◌, Some, ap, subst, IsLook, Look}
+use Rattle.jiter_steps.proofs.Words.{◌+◌, ◌∙◌, Some, ap, subst, IsLook}
 use Rattle.jiter_steps.proofs.Calls.FastAnswers.{plain-utf8}
 use Rattle.jiter_steps.proofs.Calls.Looks.{look-whole}
 use Rattle.jiter_steps.proofs.Grammar.Places.{got}

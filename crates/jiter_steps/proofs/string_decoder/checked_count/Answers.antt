@@ -1,5 +1,5 @@
 use Rattle.jiter_steps.proofs.Words.{◌≡◌, ◌≢◌, ℕ, ◌+◌, ◌∙◌, ◌++◌, [], Bool, List, ap, arith, drop, false, length}
-use Rattle.jiter_steps.proofs.Words.{nat_eq, sym, take, true, ◌≤◌, IsUtf8, eq-eqb, ne_eqb, length-drop, length-take}
+use Rattle.jiter_steps.proofs.Words.{sym, take, true, ◌≤◌, IsUtf8, eq-eqb, ne_eqb, length-drop, length-take}
 use Rattle.jiter_steps.proofs.Words.{take-append-drop, take_all, invalid_code_point, Scanned, failed, taken, IsBroken}
 use Rattle.jiter_steps.proofs.Words.{IsUnfinished, checked, Text}
 use Rattle.jiter_steps.proofs.Calls.StringAnswers.{string-checked}

@@ -1,6 +1,5 @@
-use Rattle.jiter_steps.proofs.Words.{◌≡◌, ◌≢◌, ◌+◌, ◌∙◌, ℕ, arith, inl, inr, length, subst, sym, true, false≢true}
-use Rattle.jiter_steps.proofs.Words.{slice_get_within, IsLook, Look, text_form}
-use Rattle.jiter_scan.specs.declared.short_scan.Look.TheVariants as look
+use Rattle.jiter_steps.proofs.Words.{◌≡◌, ◌≢◌, ◌+◌, ◌∙◌, arith, inl, inr, length, subst, sym, true, false≢true}
+use Rattle.jiter_steps.proofs.Words.{slice_get_within, IsLook, text_form}
 use Rattle.jiter_steps.proofs.Calls.FastAnswers.{plain-utf8}
 use Rattle.jiter_steps.proofs.Calls.Looks.{look-checked, look-ended, look-plain, look-unkept}
 use Rattle.jiter_steps.proofs.Calls.StringAnswers.{string-advances}
