@@ -46,7 +46,7 @@ BORROWED = {
     '""': "''",
 }
 # Documents that are truncated or have an error. Only the second ones may have a string in some mode.
-BROKEN = ("", "x", "nul", "[", "[x", "{", "{1", "[ ] x")
+BROKEN = ("", "x", "nul", "[", "{", "{1", "[ ] x")
 BROKEN_BORROWED = ("1.", '"ab')
 
 # A document of each kind of value, and that value: as it is read, and with all its strings owned.
@@ -90,6 +90,8 @@ def calls_that_do_not_allocate():
         yield from without_allocation(claim, readers, ["off"], document, answer)
         yield from without_allocation(claim, "owned scratch-owned", MODES, document, answer)
     plain_walk = r'{"a": "text", "bc": 1.5, "d": [null, [1, {"k\n": ["\u0061"]}], [], {}]} '
+    for call in ("parse", "unique", "owned"):
+        yield Row("an item has capacity before its first byte is read", call, "off", "[x", None, [Section(1, None, 0)])
     yield Row("a plain walk does not allocate", "plain-walk", "off", plain_walk, "7", [NOTHING])
     yield Row("a skip does not allocate", "skip", "off", MANY, "null", [NOTHING])
     pointed = '{"k":' * 190 + "7" + "}" * 190
