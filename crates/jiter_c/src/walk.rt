@@ -19,7 +19,6 @@ use crate::texts::write_prefix;
 use crate::values::{JiterValue, describe, memory_fault};
 use core::mem::{replace, replace_with};
 use jiter::{JsonArray, JsonObject, JsonValue};
-use jiter_scan::memory::{AllocFailed, extend, push, with_capacity};
 use std::alloc::{AllocError, Global};
 
 /// A value of a document, and where its parts, its text and its key are. The parts follow it in the table.
@@ -56,7 +55,7 @@ fn lay_value(
     left: usize,
     nodes: &mut Vec<JiterNode>,
     texts: &mut Vec<u8>,
-) -> Result<(), AllocFailed>
+) -> Result<(), AllocError>
     ensures nodes { OnOk result (nodes.new.items ≡ nodes.old.items
         ++ nodes_of (length nodes.old.items) (length texts.old.items) key_length left (view value.now)) }
     ensures texts { OnOk result (texts.new.items ≡ texts.old.items ++ texts_of (view value.now)) }
@@ -70,7 +69,7 @@ fn lay_value(
         text: texts.len(),
         key_length,
     };
-    push(nodes, node)?;
+    nodes.push(node)?;
     lay_parts(value, nodes, texts)?;
     node.nodes = nodes.len() - index;
     nodes[index] = node;
@@ -82,15 +81,15 @@ fn lay_parts(
     value: &JsonValue<'static>,
     nodes: &mut Vec<JiterNode>,
     texts: &mut Vec<u8>,
-) -> Result<(), AllocFailed>
+) -> Result<(), AllocError>
     ensures nodes { OnOk result (nodes.new.items ≡ nodes.old.items
         ++ parts_of (length nodes.old.items) (length texts.old.items) (view value.now)) }
     ensures texts { OnOk result (texts.new.items ≡ texts.old.items ++ texts_of (view value.now)) }
 {
     match value {
-        JsonValue::BigInt(text) => extend(texts, text.as_str().as_bytes()),
-        JsonValue::Float(text) => extend(texts, text.as_str().as_bytes()),
-        JsonValue::Str(text) => extend(texts, text.as_str().as_bytes()),
+        JsonValue::BigInt(text) => texts.extend_from_slice(text.as_str().as_bytes()),
+        JsonValue::Float(text) => texts.extend_from_slice(text.as_str().as_bytes()),
+        JsonValue::Str(text) => texts.extend_from_slice(text.as_str().as_bytes()),
         JsonValue::Array(items) => lay_items(items, nodes, texts),
         JsonValue::Object(members) => lay_members(members, nodes, texts),
         _ => Ok(()),
@@ -102,7 +101,7 @@ fn lay_items(
     items: &JsonArray<'static>,
     nodes: &mut Vec<JiterNode>,
     texts: &mut Vec<u8>,
-) -> Result<(), AllocFailed>
+) -> Result<(), AllocError>
     ensures nodes { OnOk result (nodes.new.items ≡ nodes.old.items
         ++ item_nodes (length nodes.old.items) (length texts.old.items) (views items.now.items)) }
     ensures texts { OnOk result (texts.new.items ≡ texts.old.items ++ item_texts (views items.now.items)) }
@@ -118,7 +117,7 @@ fn lay_members(
     members: &JsonObject<'static>,
     nodes: &mut Vec<JiterNode>,
     texts: &mut Vec<u8>,
-) -> Result<(), AllocFailed>
+) -> Result<(), AllocError>
     ensures nodes { OnOk result (nodes.new.items ≡ nodes.old.items
         ++ member_nodes (length nodes.old.items) (length texts.old.items) (member_views members.now.items)) }
     ensures texts { OnOk result (texts.new.items ≡ texts.old.items
@@ -127,7 +126,7 @@ fn lay_members(
     for i in 0..members.len() {
         let member = &members[i];
         let key = member.0.as_str().as_bytes();
-        extend(texts, key)?;
+        texts.extend_from_slice(key)?;
         lay_value(&member.1, key.len(), members.len() - 1 - i, nodes, texts)?;
     }
     Ok(())
@@ -153,10 +152,10 @@ fn count_nodes(value: &JsonValue<'static>) -> usize {
     count
 }
 
-fn lay(alloc: Global, value: &JsonValue<'static>) -> Result<Walk, AllocFailed>
+fn lay(alloc: Global, value: &JsonValue<'static>) -> Result<Walk, AllocError>
     ensures { IfOk result (IsWalkOf (view value.now)) }
 {
-    let mut nodes = with_capacity(alloc, count_nodes(value))?;
+    let mut nodes = Vec::with_capacity(alloc, count_nodes(value))?;
     let mut texts = Vec::new(alloc);
     lay_value(value, 0, 0, &mut nodes, &mut texts)?;
     Ok(Walk { nodes, texts })
@@ -171,7 +170,7 @@ fn laid(alloc: Global, handle: JiterHandle) -> (JiterHandle, Result<Walk, JiterF
     let walk = match &*contents {
         Contents::Document(value) => match lay(alloc, value) {
             Ok(walk) => Ok(walk),
-            Err(failed) => Err(memory_fault(AllocError::from(failed), 0)),
+            Err(error) => Err(memory_fault(error, 0)),
         },
         _ => Err(misuse()),
     };

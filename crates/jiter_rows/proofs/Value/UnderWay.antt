@@ -1,5 +1,6 @@
 -- A machine under way, row by row: before its first turn, at the first byte and after a bracket.
-use Rattle.std.proofs.Common.{◌≡◌, inl, inr, true, false, List, [], ◌∷◌, Vec, refl, ◌∙◌, arith, codes, pos}
+use Rattle.std.proofs.Common.{◌≡◌, ◌<◌, inl, inr, true, false, List, [], ◌∷◌, Vec, refl, ◌∙◌, arith, codes, pos}
+use Rattle.std.specs.Prelude.{vec_capacity, vec_len}
 use Rattle.std.specs.declared.alloc.Global.{Global}
 use Rattle.jiter_steps.specs.Read.{done}
 use Rattle.jiter_steps.specs.Tree.{Tree, int, array, items_of}
@@ -27,7 +28,7 @@ module _ (p : Settings) (error : ReadError) (es : Vec JsonValue Global) (ms : Ve
   at_the_first_byte =
       unfold computed_readings in (
         record {
-          reaches = (refl, rw (no_items, no_members) ((refl, refl), omega arith, omega arith));
+          reaches = (refl, (rw (no_items, no_members) (refl, refl), omega arith, omega arith, λ item. cc));
           begins = omega arith;
           within = (omega arith, omega arith);
           grows = inl (refl, refl);
@@ -36,13 +37,14 @@ module _ (p : Settings) (error : ReadError) (es : Vec JsonValue Global) (ms : Ve
         refl,
       )
 
-  after_the_bracket : IsUnderWay true (codes "[1]") p 1 state.Item (stacks error es ms (outermost ∷ []) Null)
-  after_the_bracket =
+  after_the_bracket : vec_len es < vec_capacity es
+      → IsUnderWay true (codes "[1]") p 1 state.Item (stacks error es ms (outermost ∷ []) Null)
+  after_the_bracket room =
       unfold computed_readings in (
         record {
           reaches = (
             rw no_items refl,
-            rw (no_items, no_members) ((omega arith, (refl, refl)), omega arith, omega arith),
+            (rw (no_items, no_members) (omega arith, (refl, refl)), omega arith, omega arith, λ item. room),
           );
           begins = omega arith;
           within = (omega arith, omega arith);

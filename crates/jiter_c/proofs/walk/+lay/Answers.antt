@@ -8,7 +8,7 @@ lay_value-returns-clause-nodes t c =
     let v = view c.args.value.now in
     value_laid c.args.nodes.now.items _ _ _ _ _ _ _ _ _ _ v (omega (arith, c.len-index.ensures, c.args.nodes.now.ok.0))
     (omega (arith, c.len.ensures, c.args.texts.now.ok.0)) c.describe.ensures
-    (omega (arith, c.len-2.ensures, c.lay_parts.new.nodes.ok.0)) c.in_ok-push.ensures.ok c.in_ok-lay_parts.ensures.nodes
+    (omega (arith, c.len-2.ensures, c.lay_parts.new.nodes.ok.0)) c.in_ok-push.ensures.items c.in_ok-lay_parts.ensures.nodes
 
 pub lay_items-loop-i-preserved : goal.lay_items-loop-i-preserved
 lay_items-loop-i-preserved t c =
@@ -27,7 +27,7 @@ pub lay_members-loop-i-preserved : goal.lay_members-loop-i-preserved
 lay_members-loop-i-preserved t c =
     let members = c.args.members.now in
     let lt : c.loop-i.i < length members.items = omega (arith, members.ok.0, c.len-i-end.ensures, c.loop-i-test.true) in
-    let key = c.in_ok-extend.ensures.ok ∙ ap (λ k. c.loop-i.texts.items ++ k) (c.as_bytes-key.ensures.value ∙ c.as_str.ensures.value) in
+    let key = c.in_ok-extend_from_slice.ensures.items ∙ ap (λ k. c.loop-i.texts.items ++ k) (c.as_bytes-key.ensures.value ∙ c.as_str.ensures.value) in
     record {
       nodes =
           member_laid members.items c.loop-i.i _ _ c.index-member.result.now _ _ _ _ _ _ lt c.index-member.ensures
