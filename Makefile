@@ -50,7 +50,7 @@ install-c:
 # The programs without a proof, as `rt try` builds them: their names and their folder say so. Nothing installs them.
 quick:
 	$(call needs,rt python3)
-	checks/quick quick $(PROGRAMS)
+	checks/tests --keep quick $(PROGRAMS)
 
 # One archive of the programs and the library for C. It proves what isn't proved yet.
 dist: all

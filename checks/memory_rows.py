@@ -2,20 +2,19 @@
 
 from collections import namedtuple
 
+from common import Section
+
 MODES = ("off", "on", "trailing-strings")
 # The bytes of a value, and of a key and its value.
 VALUE, MEMBER = 40, 72
 # The bytes of a string of its own, and of a list.
 STRING, LIST = 24, 24
 
-# Requests, the bytes that they ask for, and how many more blocks are held at the end than at the beginning. None is any
-# number.
-Section = namedtuple("Section", "requests asked kept")
 # A run, what is wanted of it, and why. If the answer or the sections are None, they are not looked at.
-Row = namedtuple("Row", "claim call mode document answer sections")
+Row = namedtuple("Row", "claim call mode document answer sections", defaults=(None, None))
 
-NOTHING = Section(0, 0, 0)
-ANY = Section(None, None, None)
+# None is any number.
+NOTHING, ANY = Section(0, 0, 0), Section(None, None, None)
 
 
 class Most(int):
@@ -27,24 +26,12 @@ def blocks(*sizes):
     return Section(len(sizes), sum(sizes), len(sizes))
 
 
-def items(count):
-    return count * VALUE
-
-
-def members(count):
-    return count * MEMBER
-
+items, members = lambda count: count * VALUE, lambda count: count * MEMBER
 
 # Documents and their values. Only the second ones have a string or a number that is kept as its text.
 PLAIN = {" null": "null", "true": "true", "false": "false", "12": "12", "-12": "-12", "[ ]": "[]", "{ }": "{}"}
-BORROWED = {
-    "2.5": "float '2.5'",
-    "2.50": "float '2.50'",
-    "NaN": "float 'NaN'",
-    "9223372036854775808": "big '9223372036854775808'",
-    '"abc"': "'abc'",
-    '""': "''",
-}
+BORROWED = {it: f"float '{it}'" for it in ("2.5", "2.50", "NaN")}
+BORROWED |= {"9223372036854775808": "big '9223372036854775808'", '"abc"': "'abc'", '""': "''"}
 # Documents that are truncated or have an error. Only the second ones may have a string in some mode.
 BROKEN = ("", "x", "nul", "[", "{", "{1", "[ ] x")
 BROKEN_BORROWED = ("1.", '"ab')
@@ -60,9 +47,7 @@ b',owned '',[],{},[owned '',[null]],{owned 'k':1,owned 'l
 ':[true]},big owned '9223372036854775808',float owned '-1.2345678901234567e-308',\
 big owned '1000000000000000000000000']"""
 # The sizes of its containers, of its strings with an escape, and of the others, without what is empty.
-MANY_CONTAINERS = (items(12), items(2), items(1), members(2), items(1))
-MANY_DECODED = (3, 2)
-MANY_BORROWED = (4, 3, 1, 19, 24, 25)
+MANY_CONTAINERS, MANY_DECODED, MANY_BORROWED = (items(12), items(2), items(1), members(2), items(1)), (3, 2), (4, 3, 1, 19, 24, 25)
 
 # A string of 20,001 bytes.
 LONG = r'"\n' + "a" * 20_000 + '"'
@@ -86,8 +71,7 @@ def calls_that_do_not_allocate():
     claim = "does not allocate to own nothing"
     for document in (*PLAIN, *BROKEN):
         answer = PLAIN.get(document)
-        readers = "next-value-owned known-value-owned value-by-steps"
-        yield from without_allocation(claim, readers, ["off"], document, answer)
+        yield from without_allocation(claim, "next-value-owned known-value-owned value-by-steps", ["off"], document, answer)
         yield from without_allocation(claim, "owned scratch-owned", MODES, document, answer)
     plain_walk = r'{"a": "text", "bc": 1.5, "d": [null, [1, {"k\n": ["\u0061"]}], [], {}]} '
     for call in ("parse", "unique", "owned"):
@@ -107,17 +91,11 @@ def calls_that_do_not_allocate():
 
 def copies():
     claim = "a copy of nothing that has to be copied does not allocate"
-    for document, answer in (PLAIN | BORROWED).items():
-        yield Row(claim, "clone", "off", document, answer, [NOTHING])
-    for document, answer in (PLAIN | {'""': "owned ''"}).items():
-        yield Row(claim, "to-static", "off", document, answer, [NOTHING])
-    for document, answer in (PLAIN | {r'"a\nb"': "owned 'a\nb'"}).items():
-        yield Row(claim, "into-static", "off", document, answer, [NOTHING])
+    for call, more in (("clone", BORROWED), ("to-static", {'""': "owned ''"}), ("into-static", {r'"a\nb"': "owned 'a\nb'"})):
+        yield from (Row(claim, call, "off", document, answer, [NOTHING]) for document, answer in (PLAIN | more).items())
     claim = "a copy allocates one block for each container and each string that has to be copied"
-    cloned = blocks(*MANY_CONTAINERS, *MANY_DECODED)
-    yield Row(claim, "clone", "off", MANY, MANY_READ, [cloned])
-    owned = blocks(*MANY_CONTAINERS, *MANY_DECODED, *MANY_BORROWED)
-    yield Row(claim, "to-static", "off", MANY, MANY_OWNED, [owned])
+    yield Row(claim, "clone", "off", MANY, MANY_READ, [blocks(*MANY_CONTAINERS, *MANY_DECODED)])
+    yield Row(claim, "to-static", "off", MANY, MANY_OWNED, [blocks(*MANY_CONTAINERS, *MANY_DECODED, *MANY_BORROWED)])
     # It frees the containers that it takes apart.
     moved = blocks(*MANY_CONTAINERS, *MANY_BORROWED)._replace(kept=len(MANY_BORROWED))
     yield Row(claim, "into-static", "off", MANY, MANY_OWNED, [moved])
@@ -128,20 +106,19 @@ def scratches():
     claim = "a scratch that has grown allocates its value alone"
     small = r'[1,["a\nb",[]],{},{"k":3,"l\n":"m"},"n"]'
     small_sizes = (3, items(2), 2, members(2), items(5))
-    for call, document, sizes in (
-        ("scratch", small, small_sizes),
-        ("scratch-owned", small, (*small_sizes, 1, 1, 1)),
-        *borrowed_and_owned(LONG, (20_001,)),
-        *borrowed_and_owned(f"[{LONG}]", (20_001, items(1))),
-        *borrowed_and_owned(f"[{'7,' * 999}7]", (items(1000),)),
-        *borrowed_and_owned("{" + '"":7,' * 600 + '"":7}', (members(601),)),
-        *borrowed_and_owned("[" * 150 + "7" + "]" * 150, (items(1),) * 150),
+    for document, sizes, owned in (
+        (small, small_sizes, (1, 1, 1)),
+        (LONG, (20_001,), ()),
+        (f"[{LONG}]", (20_001, items(1)), ()),
+        (f"[{'7,' * 999}7]", (items(1000),), ()),
+        ("{" + '"":7,' * 600 + '"":7}', (members(601),), ()),
+        ("[" * 150 + "7" + "]" * 150, (items(1),) * 150, ()),
     ):
-        yield Row(claim, call, "off", document, None, [NOTHING, ANY, *[blocks(*sizes)] * 2])
+        yield Row(claim, "scratch", "off", document, None, [NOTHING, ANY, *[blocks(*sizes)] * 2])
+        yield Row(claim, "scratch-owned", "off", document, None, [NOTHING, ANY, *[blocks(*sizes, *owned)] * 2])
     # There are three buffers: one for items, one for members, one for strings with an escape.
     claim = "a scratch keeps its buffers and nothing else after a document"
-    cut = r'{"a": "escaped\nvalue", "b": [1, 2, {"c": [3, '
-    complete = r'["ok\n", {"d": 4}]'
+    cut, complete = r'{"a": "escaped\nvalue", "b": [1, 2, {"c": [3, ', r'["ok\n", {"d": 4}]'
     for call, document, buffers, sizes, kept in (
         ("scratch", cut, 3, (13,), 0),
         ("scratch-owned", cut, 3, (1, 13, 1, 1), 0),
@@ -152,10 +129,6 @@ def scratches():
     ):
         again = blocks(*sizes)._replace(kept=kept)
         yield Row(claim, call, "off", document, None, [NOTHING, Section(None, None, buffers + kept), again, again])
-
-
-def borrowed_and_owned(document, sizes):
-    return ("scratch", document, sizes), ("scratch-owned", document, sizes)
 
 
 def tapes():
@@ -283,34 +256,15 @@ def values_that_are_dropped():
     parses += " pieces one-piece chunks parse-chunks lines lines-owned"
     calls = [("config", "trailing-strings"), *((call, "off") for call in parses.split())]
     copying = [(call, "off") for call in ("clone", "to-static", "into-static")]
-    for part, count in (
-        ("7", 1000),
-        (r'"\n"', 400),
-        ("2.5", 400),
-        ("9223372036854775808", 400),
-        ("1.000000000000000000000000001", 400),
-        ("-100000000000000000000000000000", 400),
-        ("[7]", 400),
-        (r'{"\n":[]}', 300),
-        (f"[{'7,' * 999}7]", 1),
-        ("{" + r'"\u006b":7,' * 999 + '"k":7}', 1),
-        (LONG, 2),
-    ):
+    texts = [(it, 400) for it in (r'"\n"', "2.5", "9223372036854775808", "1.000000000000000000000000001", "-100000000000000000000000000000", "[7]")]
+    large = [(f"[{'7,' * 999}7]", 1), ("{" + r'"\u006b":7,' * 999 + '"k":7}', 1), (LONG, 2)]
+    for part, count in (("7", 1000), *texts, (r'{"\n":[]}', 300), *large):
         for end in ("]", ""):
             document = "[" + ",".join([part] * count) + end
             for call, mode in (*calls, *copying):
                 yield Row("a dropped value is freed", call, mode, document, None, None)
-    for prefix, end in (
-        ("[{", ":"),
-        ("[{", ":nul"),
-        ("[{", ":x"),
-        ("[{", " 7}]"),
-        ("[{", ":[7 8"),
-        (r'[{"\n":7,', "}]"),
-        ("[", ",x]"),
-        ("{", ':7,"k":x}'),
-        ("[", "] x"),
-    ):
+    ends = [("[{", it) for it in (":", ":nul", ":x", " 7}]", ":[7 8")]
+    for prefix, end in (*ends, (r'[{"\n":7,', "}]"), ("[", ",x]"), ("{", ':7,"k":x}'), ("[", "] x")):
         for call, mode in calls:
             yield Row("what is read before an error is freed", call, mode, prefix + LONG + end, None, None)
 

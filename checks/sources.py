@@ -18,11 +18,6 @@ CYCLE = re.compile(r"#\[cycle\((\w+)\)\]")
 TYPE = re.compile(r"\b(?:struct|enum|union)\s+(\w+)")
 
 
-def read(path):
-    with open(path, encoding="utf-8") as file:
-        return file.read()
-
-
 def tokens(text):
     """Returns the words and strings of a text, without comments and layout."""
     found, at = [], 0

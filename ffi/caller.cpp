@@ -10,18 +10,17 @@ namespace {
 // A document and the walk through it, freed with it.
 class Walk {
 public:
-  explicit Walk(const std::string &json) : handle(), fault() {
+  explicit Walk(const std::string &json) : walk(), fault() {
     JiterDocument document = JiterDocument();
     ok = jiter_document_parse(&document, json.data(), json.size(), false, JITER_OFF, true, &fault) &&
-         jiter_walk_new(&handle, &document, &fault);
+         jiter_walk_new(&walk, &document, &fault);
     jiter_document_free(&document);
   }
-  ~Walk() { jiter_walk_free(&handle); }
+  ~Walk() { jiter_walk_free(&walk); }
 
   void show(std::ostream &to) {
-    JiterNode node = JiterNode();
-    if (ok && jiter_walk_node(&handle, 0, &node))
-      show(to, node);
+    if (ok)
+      show(to, *walk.nodes);
     else
       to << "fault " << fault.kind << " at " << fault.index;
     to << '\n';
@@ -31,51 +30,42 @@ private:
   Walk(const Walk &);
   Walk &operator=(const Walk &);
 
-  // The key or the text of a node.
-  std::string bytes(size_t begin, size_t count) {
-    std::string text(count + 1, '\0');
-    size_t whole = 0;
-    jiter_walk_text(&handle, begin, count, &text[0], count, &whole);
-    text.resize(whole);
-    return text;
-  }
+  static std::string bytes(JiterText text) { return std::string(text.bytes, text.length); }
 
   void show(std::ostream &to, const JiterNode &node) {
     if (node.key_length)
-      to << bytes(node.text - node.key_length, node.key_length) << ':';
-    switch (node.value.kind) {
+      to << bytes(jiter_value_key(&walk, &node)) << ':';
+    switch (node.kind) {
     case JITER_NULL:
       to << "null";
       break;
     case JITER_BOOL:
-      to << (node.value.truth ? "true" : "false");
+      to << (node.truth ? "true" : "false");
       break;
     case JITER_INT:
-      to << node.value.integer;
+      to << node.integer;
       break;
     case JITER_ARRAY:
     case JITER_OBJECT:
       parts(to, node);
       break;
     default:
-      to << bytes(node.text, node.value.length);
+      to << bytes(jiter_value_text(&walk, &node));
     }
   }
 
   void parts(std::ostream &to, const JiterNode &node) {
-    JiterNode child = JiterNode();
     const char *comma = "";
-    to << (node.value.kind == JITER_ARRAY ? '[' : '{');
-    for (bool more = jiter_value_first_child(&handle, &node, &child); more;
-         more = jiter_value_next_sibling(&handle, &child, &child)) {
+    to << (node.kind == JITER_ARRAY ? '[' : '{');
+    for (const JiterNode *child = jiter_value_first_child(&node); child; child = jiter_value_next_sibling(child)) {
       to << comma;
       comma = ",";
-      show(to, child);
+      show(to, *child);
     }
-    to << (node.value.kind == JITER_ARRAY ? ']' : '}');
+    to << (node.kind == JITER_ARRAY ? ']' : '}');
   }
 
-  JiterWalk handle;
+  JiterWalk walk;
   JiterFault fault;
   bool ok;
 };

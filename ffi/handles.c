@@ -9,7 +9,7 @@
  *   double POINTER        the number that the pointer leads to, as a double
  *   texts                 the members of an object of strings: where each key and each string lies
  *   number                the number, whichever it is, as a double, as an unsigned integer, and its cause and column
- *   other CONTENTS        each call over a handle that holds something else: nothing, a parser, a document, a walk or lines
+ *   other CONTENTS        each call over a handle that holds something else: nothing, a parser, a document or lines
  *   refill                handles that are filled again, and what they then hold
  *   cut                   each text with a capacity of one byte
  *   constants             the version; each constant of the header by its name, with its number and its words
@@ -113,44 +113,45 @@ static bool chunks(size_t size, uint32_t mode) {
 }
 
 /* A node of a walk and all below it: keys, texts, numbers with their doubles. */
-static void show_node(JiterWalk *walk, const JiterNode *node) {
-  JiterNode child = {{9, true, 9, 9}, 9, 9, 9, 9, 9};
-  size_t whole = 0, count = 0;
+static void show_node(const JiterWalk *walk, const JiterNode *node) {
+  JiterText key = jiter_value_key(walk, node), text = jiter_value_text(walk, node);
+  size_t count = 0;
   double value = 0;
-  bool finite = false, container = node->value.kind == JITER_ARRAY || node->value.kind == JITER_OBJECT;
-  if (jiter_value_key(walk, node, out, sizeof out, &whole) && whole)
-    printf("%.*s:", (int)whole, out);
-  if (jiter_value_text(walk, node, out, sizeof out, &whole))
-    printf(node->value.kind == JITER_STRING ? "'%.*s'" : "%.*s", (int)whole, out);
-  else if (!container)
-    printf(node->value.kind == JITER_INT ? "" : node->value.kind == JITER_NULL ? "null" : node->value.truth ? "true" : "false");
+  bool finite = false, array = node->kind == JITER_ARRAY, container = array || node->kind == JITER_OBJECT;
+  if (key.length)
+    printf("%.*s:", (int)key.length, key.bytes);
+  if (node->kind == JITER_NULL || node->kind == JITER_BOOL)
+    printf(node->kind == JITER_NULL ? "null" : node->truth ? "true" : "false");
+  else
+    printf(node->kind == JITER_STRING ? "'%.*s'" : "%.*s", (int)text.length, text.bytes);
   if (jiter_value_double(walk, node, &value, &finite))
     printf(finite ? "=%.17g" : "=%.17g!", value);
   if (container)
-    printf(node->value.kind == JITER_ARRAY ? "[" : "{");
-  for (bool more = jiter_value_first_child(walk, node, &child); more; more = jiter_value_next_sibling(walk, &child, &child)) {
+    printf(array ? "[" : "{");
+  for (const JiterNode *child = jiter_value_first_child(node); child; child = jiter_value_next_sibling(child)) {
     printf(count++ ? "," : "");
-    show_node(walk, &child);
+    show_node(walk, child);
   }
   if (container)
-    printf(node->value.kind == JITER_ARRAY ? "]" : "}");
-  if (container && count != node->value.length)
-    printf("(%zu of %zu)", count, node->value.length);
+    printf(array ? "]" : "}");
+  if (container && count != node->length)
+    printf("(%zu of %zu)", count, node->length);
 }
 
 static bool walk_document(uint32_t mode, bool again) {
   JiterDocument held = {0};
   JiterWalk walk = {0};
-  JiterNode node = {{9, true, 9, 9}, 9, 9, 9, 9, 9};
   bool given = jiter_document_parse(&held, bytes, length, false, mode, false, &fault) &&
                jiter_walk_new(&walk, &held, &fault) && (!again || jiter_walk_new(&walk, &held, &fault));
   bool ok = given || failed();
+  /* memory that is too small for the nodes or for the texts stays as it is */
+  if (given && (jiter_document_nodes(&held, walk.nodes, walk.count - 1, out, walk.length) ||
+                (walk.length && jiter_document_nodes(&held, walk.nodes, walk.count, out, walk.length - 1))))
+    printf("(too small)");
   jiter_document_free(&held);
-  if (given && jiter_walk_node(&walk, 0, &node)) {
-    show_node(&walk, &node);
-    if (jiter_walk_node(&walk, node.nodes, &node) || node.index)
-      printf("(a node after the last)");
-    printf("\n");
+  if (given) {
+    show_node(&walk, walk.nodes);
+    printf(walk.nodes->nodes == walk.count ? "\n" : "(a node after the last)\n");
   }
   jiter_walk_free(&walk);
   return ok;
@@ -243,19 +244,24 @@ static void misused(const char *name, bool result, size_t whole) {
 static void use_as_parser(JiterParser parser) {
   size_t whole = 77;
   printf("parser: position %zu", jiter_parser_position(&parser));
-  misused("push", jiter_parser_push(&parser, bytes, length), whole);
-  bool given = jiter_parser_value(&parser, out, sizeof out, &whole, &fault);
+  bool given = jiter_parser_push(&parser, bytes, length);
+  misused("push", given, whole);
+  given = jiter_parser_value(&parser, out, sizeof out, &whole, &fault);
   misused("value", given, whole);
-  misused("error", jiter_parser_error(&parser, &fault), whole);
-  misused("finish", jiter_parser_finish(&parser, &fault), whole);
+  given = jiter_parser_error(&parser, &fault);
+  misused("error", given, whole);
+  given = jiter_parser_finish(&parser, &fault);
+  misused("finish", given, whole);
 }
 
-static bool use_as_document(JiterDocument document) {
-  size_t whole = 77, step = 0;
+static void use_as_document(JiterDocument document) {
+  size_t whole = 77, step = 0, count = 77;
   JiterValue value = {9, true, 9, 9};
+  JiterNode node = {9, 9, 9, 9, 9, 9, 9, 9};
   printf("document:");
-  misused("at", jiter_document_at(&document, "", 0, &step, 1, &value), value.length == 9 && value.kind == 9 ? whole : 0);
-  bool given = jiter_document_text(&document, "", 0, &step, 1, out, sizeof out, &whole, &fault);
+  bool given = jiter_document_at(&document, "", 0, &step, 1, &value);
+  misused("at", given, value.length == 9 && value.kind == 9 ? whole : 0);
+  given = jiter_document_text(&document, "", 0, &step, 1, out, sizeof out, &whole, &fault);
   misused("text", given, whole);
   given = jiter_document_key(&document, "", 0, NULL, 0, 0, out, sizeof out, &whole, &fault);
   misused("key", given, whole);
@@ -265,73 +271,49 @@ static bool use_as_document(JiterDocument document) {
   bool finite = true;
   given = jiter_document_double(&document, "", 0, &step, 1, &number, &finite, &fault);
   misused("double", given, finite ? (size_t)number : 0);
-  JiterWalk begun = {0};
-  bool ok = jiter_handle_new(&begun.pointer);
-  if (ok)
-    misused("walk", jiter_walk_begin(&begun, &document, &fault), whole);
-  jiter_walk_free(&begun);
-  return ok;
-}
-
-static void use_as_walk(JiterWalk walk) {
-  JiterNode node = {{77, true, 0, 0}, 0, 0, 0, 0, 0};
-  size_t whole = 77;
-  double number = 77;
-  bool finite = true;
-  printf("walk:");
-  bool given = jiter_walk_node(&walk, 0, &node);
-  misused("node", given, node.value.kind);
-  given = jiter_walk_text(&walk, 0, 1, out, sizeof out, &whole);
-  misused("text", given, whole);
-  given = jiter_walk_double(&walk, 0, 1, &number, &finite);
-  misused("double", given, finite ? (size_t)number : 0);
+  given = jiter_document_count(&document, &count, &whole);
+  misused("count", given, count == 77 ? whole : 0);
+  given = jiter_document_nodes(&document, &node, 1, out, sizeof out);
+  misused("nodes", given, node.kind == 9 && node.key_length == 9 ? whole : 0);
+  JiterWalk walk = {0};
+  given = jiter_walk_new(&walk, &document, &fault);
+  misused("walk", given, walk.nodes ? 0 : whole);
 }
 
 static void use_as_lines(JiterLines lines) {
   JiterPosition place = {77, 77};
   printf("lines:");
-  misused("push", jiter_lines_push(&lines, bytes, length), 77);
-  bool given = jiter_lines_position(&lines, 0, &place);
+  bool given = jiter_lines_push(&lines, bytes, length);
+  misused("push", given, 77);
+  given = jiter_lines_position(&lines, 0, &place);
   misused("position", given, place.line == 77 ? place.column : 0);
 }
 
 static bool other(const char *contents) {
   JiterParser parser = {0};
   JiterDocument document = {0};
-  JiterWalk walk = {0};
   JiterLines held = {0};
   JiterPosition place = {0, 0};
-  JiterNode node;
   void *pointer = NULL;
-  bool parsed = (*contents != 'd' && *contents != 'w') ||
-                jiter_document_parse(&document, bytes, length, false, JITER_OFF, true, &fault);
   bool ok = *contents == 'n'   ? jiter_handle_new(&pointer)
             : *contents == 'p' ? jiter_parser_new(&parser, false, JITER_ON) && push(&parser, bytes, length)
-            : *contents == 'd' ? parsed
-            : *contents == 'w' ? parsed && jiter_walk_new(&walk, &document, &fault)
+            : *contents == 'd' ? jiter_document_parse(&document, bytes, length, false, JITER_OFF, true, &fault)
                                : jiter_lines_new(&held) && jiter_lines_push(&held, bytes, length);
-  if (*contents == 'w')
-    jiter_document_free(&document);
   pointer = *contents == 'p'   ? parser.pointer
             : *contents == 'd' ? document.pointer
-            : *contents == 'w' ? walk.pointer
             : *contents == 'l' ? held.pointer
                                : pointer;
   out[0] = '?';
   if (ok && *contents != 'p')
     use_as_parser((JiterParser){pointer}), printf("\n");
   if (ok && *contents != 'd')
-    ok = use_as_document((JiterDocument){pointer}) && printf("\n") > 0;
-  if (ok && *contents != 'w')
-    use_as_walk((JiterWalk){pointer}), printf("\n");
+    use_as_document((JiterDocument){pointer}), printf("\n");
   if (ok && *contents != 'l')
     use_as_lines((JiterLines){pointer}), printf("\n");
   if (ok && *contents == 'p')
     printf("still %zu\n", jiter_parser_position(&parser));
   if (ok && *contents == 'd')
     ok = show(&document, "", NULL, 0);
-  if (ok && *contents == 'w' && jiter_walk_node(&walk, 0, &node))
-    show_node(&walk, &node), printf("\n");
   if (ok && *contents == 'l' && jiter_lines_position(&held, 99, &place))
     printf("still %zu %zu\n", place.line, place.column);
   if (pointer)
@@ -409,12 +391,6 @@ static bool cut(void) {
        printf("absent %" PRIu32 " %" PRIu32 " %zu\n", fault.expected, fault.actual, fault.index) > 0;
   ok = ok && jiter_parser_new(&parser, false, JITER_ON) && push(&parser, bytes, length) &&
        first_byte(jiter_parser_value(&parser, out, 1, &whole, &fault), &whole);
-  JiterWalk walk = {0};
-  JiterNode node;
-  ok = ok && jiter_walk_new(&walk, &held, &fault) && jiter_walk_node(&walk, 1, &node) &&
-       first_byte(jiter_value_key(&walk, &node, out, 1, &whole), &whole) &&
-       first_byte(jiter_value_text(&walk, &node, out, 1, &whole), &whole);
-  jiter_walk_free(&walk);
   jiter_document_free(&held);
   jiter_parser_free(&parser);
   return ok;

@@ -6,7 +6,7 @@
  * Pointers. A slice is a pointer and a length; NULL with length 0 is an empty slice. Each pointer to an outcome points
  * to an initialized value (`= 0`, `= false`, `= {0}`, JITER_NO_TEXT). No two pointers of a call overlap, and none
  * overlaps the bytes. A JiterReader, a JiterText and a JiterNumber point into the bytes that you passed: use them as
- * long as those bytes stay where they are, unchanged.
+ * long as those bytes stay where they are, unchanged. A JiterText of a walk points into the walk.
  *
  * Errors. A call that returns a bool returns false if it fails. It has then written the fault and, where it says so, the
  * reader's index or what the handle holds, and nothing else. If it returns true, the fault stays as it was
@@ -24,8 +24,8 @@
  * non-empty containers and at most 4300 digits in an integer part. A reader keeps no record of open containers: call its
  * steps in the order that their results give, check strings by the calls that check UTF-8, and end with jiter_finish.
  *
- * Memory. Only a handle (JiterParser, JiterDocument, JiterWalk, JiterLines) owns memory. Initialize it as `{0}`, fill it
- * as often as you like, and free it once. All memory is from malloc.
+ * Memory. Only a handle (JiterParser, JiterDocument, JiterLines) and a JiterWalk own memory. Initialize each as `{0}`,
+ * fill it as often as you like, and free it once. All memory is from malloc.
  *
  * Threads. Nothing is shared between calls. A handle or a reader is used by one call at a time; different ones by any
  * number of threads. Don't call from a signal handler, nor in the forked child of a process with threads. */
@@ -35,6 +35,7 @@
 #include <stdbool.h>
 #include <stddef.h>
 #include <stdint.h>
+#include <stdlib.h>
 
 /* The version: 10,000 times the major number, 100 times the minor one, and the patch. jiter_version returns that of the
  * library that is linked. */
@@ -102,7 +103,7 @@ typedef struct {
   size_t index;
 } JiterFault;
 
-/* Bytes borrowed from yours. */
+/* Bytes borrowed from yours, or from a walk. */
 typedef struct {
   const char *bytes;
   size_t length;
@@ -143,9 +144,6 @@ typedef struct {
 } JiterDocument;
 typedef struct {
   void *pointer;
-} JiterWalk;
-typedef struct {
-  void *pointer;
 } JiterLines;
 
 /* What a document has at a place. */
@@ -158,13 +156,23 @@ typedef struct {
 
 /* A value of a walk. Its parts follow it: the first one is the next node, and each has its own parts after it. */
 typedef struct {
-  JiterValue value;
-  size_t index;      /* from 0: the document's value */
+  uint32_t kind;     /* a JiterType, never JITER_NUMBER */
+  uint32_t truth;    /* 1 if it is `true`, otherwise 0 */
+  int64_t integer;   /* of a JITER_INT */
+  size_t length;     /* items, members, or bytes of the string or number text */
   size_t nodes;      /* the value and all its parts, and theirs */
   size_t left;       /* the items or members after it; the next one is `nodes` nodes on */
-  size_t text;       /* where its text begins, for jiter_walk_text */
+  size_t text;       /* where its text begins in the walk's texts */
   size_t key_length; /* bytes of its key, which is before the text; 0 if it is no member */
 } JiterNode;
+
+/* All values of a document, each before its parts, and their strings, number texts and keys. Initialize it as `{0}`. */
+typedef struct {
+  JiterNode *nodes; /* the first one is the document's value */
+  size_t count;
+  const char *texts;
+  size_t length;
+} JiterWalk;
 
 #if defined __STDC_VERSION__ && __STDC_VERSION__ >= 201112L
 _Static_assert(sizeof(size_t) == 8 && sizeof(bool) == 1, "x86-64 is needed");
@@ -174,7 +182,7 @@ _Static_assert(sizeof(JiterReader) == 32 && offsetof(JiterReader, allow_inf_nan)
 _Static_assert(sizeof(JiterNumber) == 32 && offsetof(JiterNumber, text) == 16, "JiterNumber");
 _Static_assert(sizeof(JiterPosition) == 16 && sizeof(JiterParser) == 8, "JiterPosition, JiterParser");
 _Static_assert(sizeof(JiterValue) == 24 && offsetof(JiterValue, integer) == 8, "JiterValue");
-_Static_assert(sizeof(JiterNode) == 64 && offsetof(JiterNode, index) == 24, "JiterNode");
+_Static_assert(sizeof(JiterNode) == 56 && offsetof(JiterNode, nodes) == 24, "JiterNode");
 #endif
 
 uint32_t jiter_version(void);
@@ -407,63 +415,80 @@ bool jiter_document_print(JiterDocument *document, const char *pointer, size_t p
 bool jiter_document_double(JiterDocument *document, const char *pointer, size_t pointer_length, const size_t *steps,
                            size_t depth, double *value, bool *finite, JiterFault *fault);
 
-/* ---- A walk through a document, value by value, each step in constant time. A walk is a table of the document's values
- * and a copy of their texts. It borrows nothing: you may free the document first.
+/* ---- A walk through a document, value by value. jiter_walk_new makes two calls of the library and one of malloc. From
+ * then on each step is read from the walk's memory, without a call. It borrows nothing of the document: you may free that
+ * first. What the steps return lasts as long as the walk.
  *
- *     static void show(JiterWalk *walk, const JiterNode *node) {
- *       JiterNode child;
- *       for (bool more = jiter_value_first_child(walk, node, &child); more;
- *            more = jiter_value_next_sibling(walk, &child, &child))
- *         show(walk, &child);
+ *     static void show(const JiterWalk *walk, const JiterNode *node) {
+ *       for (const JiterNode *child = jiter_value_first_child(node); child;
+ *            child = jiter_value_next_sibling(child))
+ *         show(walk, child);
  *     } */
 
-/* The export that jiter_walk_new calls, for a handle that you have. */
-bool jiter_walk_begin(JiterWalk *walk, JiterDocument *document, JiterFault *fault);
-/* Gives `walk` the values of a document. If this fails, memory ran out or there is no document, and the handle holds what
- * it held. */
+/* The exports that jiter_walk_new calls, for memory of your own. jiter_document_count says how many nodes and how many
+ * bytes of texts a document has; a number that would exceed SIZE_MAX is that. jiter_document_nodes writes them. It returns
+ * false and writes nothing if they don't fit. Both return false if the handle holds no document. The memory needs no
+ * values before. */
+bool jiter_document_count(JiterDocument *document, size_t *nodes, size_t *bytes);
+bool jiter_document_nodes(JiterDocument *document, JiterNode *nodes, size_t count, char *texts, size_t length);
+
+static inline void jiter_walk_free(JiterWalk *walk) {
+  free(walk->nodes);
+  walk->nodes = NULL;
+  walk->count = walk->length = 0;
+  walk->texts = NULL;
+}
+/* Gives `walk` the values of a document. What it had is freed. If this fails, memory ran out or there is no document, and
+ * the walk is as it was. */
 static inline bool jiter_walk_new(JiterWalk *walk, JiterDocument *document, JiterFault *fault) {
-  if (walk->pointer || jiter_handle_new(&walk->pointer))
-    return jiter_walk_begin(walk, document, fault);
-  fault->kind = JITER_OUT_OF_MEMORY;
+  size_t count = 0, length = 0;
+  bool held = jiter_document_count(document, &count, &length);
+  bool fits = held && count <= (SIZE_MAX - length) / sizeof(JiterNode);
+  JiterNode *nodes = fits ? (JiterNode *)malloc(count * sizeof(JiterNode) + length) : NULL;
+  if (nodes) {
+    char *texts = (char *)(nodes + count);
+    jiter_document_nodes(document, nodes, count, texts, length);
+    jiter_walk_free(walk);
+    walk->nodes = nodes;
+    walk->count = count;
+    walk->texts = texts;
+    walk->length = length;
+    return true;
+  }
+  fault->kind = held ? JITER_OUT_OF_MEMORY : JITER_MISUSE;
   fault->expected = fault->actual = 0;
   fault->index = 0;
   return false;
 }
-static inline void jiter_walk_free(JiterWalk *walk) {
-  if (walk->pointer)
-    jiter_handle_free(walk->pointer);
-  walk->pointer = NULL;
+/* The first item or member of a value, and the next one of its array or object; NULL if there is none. */
+static inline const JiterNode *jiter_value_first_child(const JiterNode *node) {
+  return node->nodes > 1 ? node + 1 : NULL;
 }
-/* The node with this index, if there is one. Index 0 is the document's value. */
-bool jiter_walk_node(JiterWalk *walk, size_t index, JiterNode *node);
-/* These bytes of the texts of the walk. It fails only if the handle holds no walk. */
-bool jiter_walk_text(JiterWalk *walk, size_t begin, size_t count, char *out, size_t room, size_t *whole);
-
-/* The first item or member of a value, and the next one of its array or object. `child` and `sibling` may be `node`. */
-static inline bool jiter_value_first_child(JiterWalk *walk, const JiterNode *node, JiterNode *child) {
-  return node->nodes > 1 && jiter_walk_node(walk, node->index + 1, child);
+static inline const JiterNode *jiter_value_next_sibling(const JiterNode *node) {
+  return node->left > 0 ? node + node->nodes : NULL;
 }
-static inline bool jiter_value_next_sibling(JiterWalk *walk, const JiterNode *node, JiterNode *sibling) {
-  return node->left > 0 && jiter_walk_node(walk, node->index + node->nodes, sibling);
-}
-/* The string of a value, decoded, or the source text of a JITER_BIG_INT or a JITER_FLOAT. Other values have none. */
-static inline bool jiter_value_text(JiterWalk *walk, const JiterNode *node, char *out, size_t room, size_t *whole) {
-  uint32_t kind = node->value.kind;
-  return (kind == JITER_STRING || kind == JITER_FLOAT || kind == JITER_BIG_INT) &&
-         jiter_walk_text(walk, node->text, node->value.length, out, room, whole);
+/* The string of a value, decoded, or the source text of a JITER_BIG_INT or a JITER_FLOAT. It is empty for other values. */
+static inline JiterText jiter_value_text(const JiterWalk *walk, const JiterNode *node) {
+  JiterText text;
+  bool has = node->kind == JITER_STRING || node->kind == JITER_FLOAT || node->kind == JITER_BIG_INT;
+  text.bytes = walk->texts + node->text;
+  text.length = has ? node->length : 0;
+  return text;
 }
 /* The key of a member, decoded. It is empty if the value is no member. */
-static inline bool jiter_value_key(JiterWalk *walk, const JiterNode *node, char *out, size_t room, size_t *whole) {
-  return jiter_walk_text(walk, node->text - node->key_length, node->key_length, out, room, whole);
+static inline JiterText jiter_value_key(const JiterWalk *walk, const JiterNode *node) {
+  JiterText key;
+  key.bytes = walk->texts + (node->text - node->key_length);
+  key.length = node->key_length;
+  return key;
 }
-/* The double nearest to a number, whichever it is. */
-bool jiter_walk_double(JiterWalk *walk, size_t begin, size_t count, double *value, bool *finite);
-static inline bool jiter_value_double(JiterWalk *walk, const JiterNode *node, double *value, bool *finite) {
-  if (node->value.kind == JITER_FLOAT || node->value.kind == JITER_BIG_INT)
-    return jiter_walk_double(walk, node->text, node->value.length, value, finite);
-  if (node->value.kind != JITER_INT)
+/* The double nearest to a number, whichever it is. It fails for other values. */
+static inline bool jiter_value_double(const JiterWalk *walk, const JiterNode *node, double *value, bool *finite) {
+  if (node->kind == JITER_FLOAT || node->kind == JITER_BIG_INT)
+    return jiter_double(walk->texts + node->text, node->length, value, finite);
+  if (node->kind != JITER_INT)
     return false;
-  *value = (double)node->value.integer;
+  *value = (double)node->integer;
   *finite = true;
   return true;
 }

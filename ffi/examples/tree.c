@@ -7,30 +7,29 @@
 
 static char room[1 << 16];
 
-/* As much of a text as there is room for. */
-static void put(const char *before, bool given, const size_t *whole, const char *after) {
-  if (given)
-    printf("%s%.*s%s", before, (int)(*whole < sizeof room ? *whole : sizeof room), room, after);
+static void put(const char *before, JiterText text, const char *after) {
+  fputs(before, stdout);
+  fwrite(text.bytes, 1, text.length, stdout);
+  fputs(after, stdout);
 }
 
-static void show(JiterWalk *walk, const JiterNode *node, int depth) {
-  JiterNode child;
-  size_t whole = 0;
-  uint32_t kind = node->value.kind;
+static void show(const JiterWalk *walk, const JiterNode *node, int depth) {
+  uint32_t kind = node->kind;
   printf("%*s", 2 * depth, "");
-  put("", node->key_length && jiter_value_key(walk, node, room, sizeof room, &whole), &whole, ": ");
+  if (node->key_length)
+    put("", jiter_value_key(walk, node), ": ");
   if (kind == JITER_ARRAY || kind == JITER_OBJECT)
-    printf(kind == JITER_ARRAY ? "array of %zu\n" : "object of %zu\n", node->value.length);
+    printf(kind == JITER_ARRAY ? "array of %zu\n" : "object of %zu\n", node->length);
   else if (kind == JITER_STRING)
-    put("\"", jiter_value_text(walk, node, room, sizeof room, &whole), &whole, "\"\n");
+    put("\"", jiter_value_text(walk, node), "\"\n");
   else if (kind == JITER_INT)
-    printf("%" PRId64 "\n", node->value.integer);
+    printf("%" PRId64 "\n", node->integer);
   else if (kind == JITER_NULL || kind == JITER_BOOL)
-    puts(kind == JITER_NULL ? "null" : node->value.truth ? "true" : "false");
+    puts(kind == JITER_NULL ? "null" : node->truth ? "true" : "false");
   else
-    put("", jiter_value_text(walk, node, room, sizeof room, &whole), &whole, "\n");
-  for (bool more = jiter_value_first_child(walk, node, &child); more; more = jiter_value_next_sibling(walk, &child, &child))
-    show(walk, &child, depth + 1);
+    put("", jiter_value_text(walk, node), "\n");
+  for (const JiterNode *child = jiter_value_first_child(node); child; child = jiter_value_next_sibling(child))
+    show(walk, child, depth + 1);
 }
 
 static int fail(JiterLines *lines, const JiterFault *fault) {
@@ -48,7 +47,6 @@ int main(void) {
   JiterLines lines = {0};
   JiterDocument document = {0};
   JiterWalk walk = {0};
-  JiterNode node;
   JiterFault fault = {JITER_OUT_OF_MEMORY, 0, 0, 0};
   size_t got;
   bool held = jiter_parser_new(&parser, false, JITER_OFF) && jiter_lines_new(&lines);
@@ -56,8 +54,8 @@ int main(void) {
     held = jiter_parser_push(&parser, room, got) && jiter_lines_push(&lines, room, got);
   bool ok = held && jiter_parser_to_document(&parser, &document, &fault) && jiter_walk_new(&walk, &document, &fault);
   int status = ok ? 0 : fail(&lines, &fault);
-  if (ok && jiter_walk_node(&walk, 0, &node))
-    show(&walk, &node, 0);
+  if (ok)
+    show(&walk, walk.nodes, 0);
   jiter_walk_free(&walk);
   jiter_document_free(&document);
   jiter_parser_free(&parser);

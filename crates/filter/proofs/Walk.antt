@@ -14,7 +14,7 @@ use Rattle.jiter.specs.Caller.{gave, indexed_key_bytes, key_bytes, key_step, nev
 use Rattle.jiter.specs.Caller.{reply_seen}
 use Rattle.jiter.specs.Caller.{value_place, whole, with_position}
 use Rattle.jiter.specs.declared.errors.JiterError.{JiterError}
-use Rattle.jiter.proofs.MemberLoops.{key-kept}
+use Rattle.jiter.proofs.Walking.{key-kept}
 use Rattle.jiter.proofs.Walking.{gave-is, gave-refused, key-ahead, moves-on}
 use Rattle.filter.specs.Members.{Fails, Finds, Passed, key_is}
 use Rattle.filter.specs.Members.{part_read, with_value}

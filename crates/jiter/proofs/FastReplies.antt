@@ -7,7 +7,7 @@ use Rattle.jiter.proofs.Words.{step, WantsMemory, between, Form, string_at, text
 use Rattle.jiter.proofs.Words.{string_at-within, false, ◌-◌, IsErrorAt, MovesOn, key_bytes, reply_seen, text_bytes}
 use Rattle.jiter.proofs.Words.{ReaderState, Refusal, Reply, gave, refused, scalar_reply, colon_reply, key_reply}
 use Rattle.jiter.proofs.Words.{with_position, value_place, next, if_byte, member_reply, number_bytes_read, str_read}
-use Rattle.jiter.proofs.Words.{Reads, never, string_memory, JiterError}
+use Rattle.jiter.proofs.Words.{Reads, never, string_memory, JiterError, option_map}
 use Rattle.std.proofs.Common.{Bor}
 use Rattle.std.specs.Prelude.{IfOk}
 use Rattle.jiter_scan.proofs.NumberBytes.{number-begins}
@@ -19,8 +19,6 @@ use Rattle.jiter_scan.specs.Scanned.{Scans}
 use Rattle.jiter_steps.specs.declared.parse.Start.TheVariants as start
 use Rattle.jiter_steps.specs.declared.read_error.ReadError.TheVariants as error
 use Rattle.jiter_steps.specs.ReadError.{UnlessRefused}
-use Rattle.jiter_steps.proofs.OpenStrings.{range-length}
-use Rattle.std.proofs.Common.{ap₂}
 use Rattle.jiter.specs.Jiter.{BeginsAt}
 use Rattle.jiter.proofs.Refusals.{refusal-failed, scalar-within}
 
@@ -88,12 +86,35 @@ key-read {Y = Y} {view = view} {s1 = s1} {s2 = s2} u s0 x f i key y from is ahea
           (subst (λ j. Reads never (λ (k : Y). Some key) (colon_reply key (step s1.text colon j)) x s1 s2) place h)
 
 -- a plain key, and its colon
-pub plain-key : (u s0 : ReaderState) (i e end : ℕ) (key : Text) → u ≡ s0 → string_at whole u.text i ≡ taken key e
-    → step u.text colon e ≡ taken tt end
-    → reply_seen key_bytes (member_reply whole s0.text (more i)) ≡ gave (Some key.bytes) end
-plain-key u s0 i e end key is read past =
-    ap (λ (s : ReaderState). reply_seen key_bytes (member_reply whole s.text (more i))) (sym is)
-    ∙ ap (λ x. reply_seen key_bytes (key_reply u.text i x)) read ∙ ap (λ x. reply_seen key_bytes (colon_reply key x)) past
+pub plain-key : (x : Result (Option (Bor (List ℕ))) JiterError) {s : ReaderState} (u s0 : ReaderState) (i e : ℕ)
+    (key : Bor (List ℕ)) → u ≡ s0 → string_at whole u.text i ≡ taken (record { owned = false; bytes = key.now }) e
+    → IfOk x (λ k. k ≡ Some key)
+    → ((text : Text) → Reads never (λ (k : Option (Bor (List ℕ))). Some text) (colon_reply text (step s0.text colon e)) x s0 s)
+    → Reads never (option_map (λ (b : Bor (List ℕ)). b.now)) (reply_seen key_bytes (member_reply whole s0.text (more i))) x s0 s
+plain-key x {s = s} u s0 i e key is read ok h = by x ok (h text) where
+  text : Text
+  text = record { owned = false; bytes = key.now }
+
+  reply : member_reply whole s0.text (more i) ≡ colon_reply text (step s0.text colon e)
+  reply = ap (key_reply s0.text i) (subst (λ (v : ReaderState). string_at whole v.text i ≡ taken text e) is read)
+
+  by : (x : Result (Option (Bor (List ℕ))) JiterError) → IfOk x (λ k. k ≡ Some key)
+      → Reads never (λ (k : Option (Bor (List ℕ))). Some text) (colon_reply text (step s0.text colon e)) x s0 s
+      → Reads never (option_map (λ (b : Bor (List ℕ)). b.now)) (reply_seen key_bytes (member_reply whole s0.text (more i))) x
+      s0 s
+  by (Ok k) is h = record {
+    moves = h.moves;
+    value = ap (reply_seen key_bytes) (reply ∙ h.value)
+        ∙ ap (λ (o : Option (Bor (List ℕ))). gave (option_map (λ (b : Bor (List ℕ)). b.now) o) s.position) (sym is);
+    index = tt;
+    memory = tt;
+  }
+  by (Err e) is h = record {
+    moves = h.moves;
+    value = ap (reply_seen key_bytes) (reply ∙ h.value);
+    index = h.index;
+    memory = h.memory;
+  }
 
 slice-first : (t : List ℕ) (b e : ℕ) → b < e → e ≤ length t
     → slice_range t b e ≡ slice_index t b ∷ slice_range t (b + 1) e
@@ -250,16 +271,9 @@ number-given view a reply v s i j e is here start some within value = subst P is
     memory = tt;
   }
 
--- A string whose closing quote is at e, as it is in the document, ends where its bytes and both quotes do.
-pub plain-closed : (t : List ℕ) (i e : ℕ) (text : List ℕ) → i < e → e < length t → text ≡ slice_range t (i + 1) e
-    → ((keep : Bool) → string_at (text_form keep) t i ≡ taken (between t (i + 1) e) (e + 1))
-    → ((keep : Bool) → string_at (text_form keep) t i
-    ≡ taken (record { owned = false; bytes = text }) (i + length text + 2))
-    × (i + length text + 2 ≤ length t)
-plain-closed t i e text ahead inside is read =
-    let long : length text ≡ e - (i + 1) = ap length is ∙ range-length t (i + 1) e (omega arith) (omega arith) in
-    let end : i + length text + 2 ≡ e + 1 = omega (arith, long, ahead) in (
-      λ keep. read keep
-          ∙ ap₂ (λ (w : List ℕ) (k : ℕ). taken (record { owned = false; bytes = w }) k) (sym is) (sym end),
-      omega (arith, end, inside),
-    )
+-- The text of a string whose closing quote is at e, as it is in the document.
+pub plain-closed : (t : List ℕ) (i e : ℕ) (text : List ℕ) → text ≡ slice_range t (i + 1) e
+    → ((keep : Bool) → string_at (text_form keep) t i ≡ taken (between t (i + 1) e) (e + 1)) → (keep : Bool)
+    → string_at (text_form keep) t i ≡ taken (record { owned = false; bytes = text }) (e + 1)
+plain-closed t i e text is read keep =
+    read keep ∙ ap (λ (w : List ℕ). taken (record { owned = false; bytes = w }) (e + 1)) (sym is)

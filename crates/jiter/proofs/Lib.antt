@@ -3,7 +3,6 @@ pub mod Containers
 pub mod Copies
 pub mod Growth
 pub mod Integers
-pub mod MemberLoops
 pub mod Members
 pub mod OwnedTrees
 pub mod Peeking

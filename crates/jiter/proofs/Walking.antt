@@ -9,6 +9,7 @@ use Rattle.jiter.proofs.Words.{past_blanks-after, EndsNumber, begins-value, star
 use Rattle.jiter.proofs.Words.{Ahead, Within, skip_at-within, Cause, MovesOn, ReaderState, Reply, gave, refused}
 use Rattle.jiter.proofs.Words.{with_position, value_place, if_byte, next, value_reply, skip_read, array_read, item_step}
 use Rattle.jiter.proofs.Words.{object_read, key_step, part_reply, member_reply, key_reply, colon_reply, finish}
+use Rattle.jiter.proofs.Words.{key_bytes, option_map, reply_seen}
 use Rattle.std.proofs.lemmas.Option.{slice_get_past}
 use Rattle.jiter_steps.specs.Node.{Nodes, NodeMembers, array, object}
 use Rattle.jiter_steps.specs.Node.{IsDocument, text_at}
@@ -358,3 +359,28 @@ skip-ahead s e is = by (slice_get s.text (value_place s)) refl is where
   by (Some c) there same =
       passed (skip_at s.names s.text (value_place s))
       (skip_at-within s.text s.names (value_place s) (slice_get_within s.text (value_place s) c there)) same
+
+-- what a call for a key replied, seen so, refused
+pub seen-refused : {A B : Type 0} (g : A → B) (r : Reply A) (c : Cause) (x stop : ℕ)
+    → reply_seen g r ≡ refused c x stop → r ≡ refused c x stop
+seen-refused g (gave a i) c x stop h = absurd (gave-refused h)
+seen-refused g (refused d y i) c x stop h = cc
+
+-- A key that was lent, and what the caller keeps of it.
+pub key-kept : {B K : Type 0} (bytes : B → List ℕ) (read : List ℕ → K) (key : Option B) (o : Option K)
+    (r : Reply (Option Text)) (i : ℕ) → reply_seen key_bytes r ≡ gave (option_map bytes key) i
+    → o ≡ option_map (λ x. read (bytes x)) key → reply_seen (option_map (λ x. read x.bytes)) r ≡ gave o i
+key-kept {B = B} {K = K} bytes read key o r i h is =
+    by-reply r ∙ ap (reply_seen (option_map read)) h ∙ ap (λ x. gave x i) (by-key key ∙ sym is) where
+      by-read : (k : Option Text) → option_map (λ x. read x.bytes) k ≡ option_map read (key_bytes k)
+      by-read None = refl
+      by-read (Some x) = refl
+
+      by-reply : (r : Reply (Option Text))
+          → reply_seen (option_map (λ x. read x.bytes)) r ≡ reply_seen (option_map read) (reply_seen key_bytes r)
+      by-reply (gave k j) = ap (λ x. gave x j) (by-read k)
+      by-reply (refused c x stop) = refl
+
+      by-key : (key : Option B) → option_map read (option_map bytes key) ≡ option_map (λ x. read (bytes x)) key
+      by-key None = refl
+      by-key (Some x) = refl

@@ -10,7 +10,6 @@ use Rattle.jiter_scan.specs.Scan.{IsLook, scan_stop}
 use Rattle.jiter_scan.specs.declared.short_scan.Look.TheVariants as look
 use Rattle.jiter_steps.specs.Literal.{start_of}
 use Rattle.jiter_steps.specs.Step.{Step, more}
-use Rattle.jiter_steps.specs.StringDecoder.{text_view}
 use Rattle.jiter_steps.specs.Tree.{Text}
 use Rattle.jiter_steps.specs.declared.parse.Start.{Start}
 use Rattle.jiter_steps.specs.declared.read_error.ReadError.{ReadError}
@@ -108,10 +107,7 @@ TellsHere result s = IfOk result (λ told. IfSome told (λ p. StandsAt s (byte_o
 abbrev pub EndsWithColon : {K : Type 0} → Result (Option K) JiterError → List ℕ → ℕ → Type 0
 EndsWithColon result t i = IfOk result (λ key. IfSome key (λ _. StandsBefore t i ascii.colon))
 
--- A key that was given with an index: its text, and its bytes.
-abbrev pub indexed_key_view : CowStr Global × ℕ → Text
-indexed_key_view k = text_view k.0
-
+-- the bytes of a key that was given with an index
 abbrev pub indexed_key_bytes : CowStr Global × ℕ → List ℕ
 indexed_key_bytes k = cow_str_bytes k.0
 

@@ -11,3 +11,4 @@ pub mod Reader
 pub mod Reads
 pub mod Skipping
 pub mod Telling
+pub mod Words

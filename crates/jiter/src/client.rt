@@ -1,22 +1,14 @@
 //! A client of the pull reader, which builds a value by peeks, steps and scalar reads alone. A submodule parses two
 //! prefixes of one document.
 ghost use Rattle.std.specs.Prelude.{◌≡◌, ◌≤◌, ◌+◌, IfOk, OnErr, IsSome, false, option_map};
+ghost use Rattle.jiter.specs.Words.{out_of_memory, number_view, start_of, number_tree, text_view, whole};
+ghost use Rattle.jiter.specs.Words.{step, array_first, object_first, owned_text, owned_tree};
+ghost use Rattle.jiter.specs.Words.{HoldsBorrowedTextOrPart, view, LeadsOn, json_error, built, built_inside};
+ghost use Rattle.jiter.specs.Words.{own_text, IsTruthOrNothing, OwnedMayGrowAt, RefusesBytes, WhereMemory};
+ghost use Rattle.jiter.specs.Words.{reply_seen, StandsAt, byte_of, refusal_view, Reads, anywhere};
+ghost use Rattle.jiter.specs.Words.{owned_value_memory, value_place, next, known, value_read, object_read};
+ghost use Rattle.jiter.specs.Words.{key_step};
 ghost use Rattle.jiter_scan.specs.Ascii as ascii;
-ghost use Rattle.jiter_scan.specs.Kind.{out_of_memory};
-ghost use Rattle.jiter_scan.specs.NumberDecoder.{number_view};
-ghost use Rattle.jiter_steps.specs.Literal.{start_of};
-ghost use Rattle.jiter_steps.specs.Node.{number_tree};
-ghost use Rattle.jiter_steps.specs.StringDecoder.{text_view};
-ghost use Rattle.jiter_steps.specs.StringReading.{whole};
-ghost use Rattle.jiter_steps.specs.Step.{step, array_first, object_first};
-ghost use Rattle.jiter_value.specs.Owned.{owned_text, owned_tree, HoldsBorrowedTextOrPart};
-ghost use Rattle.jiter_value.specs.Value.{view, LeadsOn};
-ghost use Rattle.jiter.specs.Cause.{json_error};
-ghost use Rattle.jiter.specs.Client.{built, built_inside, own_text, IsTruthOrNothing, OwnedMayGrowAt};
-ghost use Rattle.jiter.specs.Jiter.{RefusesBytes, WhereMemory};
-ghost use Rattle.jiter.specs.Jiter.{reply_seen, StandsAt, byte_of, refusal_view};
-ghost use Rattle.jiter.specs.Reads.{Reads, anywhere, owned_value_memory};
-ghost use Rattle.jiter.specs.Reader.{value_place, next, known, value_read, object_read, key_step};
 
 use crate::errors::{JiterError, JiterErrorType, JiterResult};
 use crate::jiter::Jiter;

@@ -1,9 +1,7 @@
 //! The errors of the pull reader, and their texts.
 ghost use Rattle.std.specs.Prelude.{◌≡◌, Some, IfOk, string_bytes};
-ghost use Rattle.jiter_scan.specs.Kind.{kind_of};
-ghost use Rattle.jiter_scan.specs.Position.{position_of};
-ghost use Rattle.jiter.specs.Cause.{json_error, is_memory_cause, type_text, cause_text, error_text, error_description};
-ghost use Rattle.jiter.specs.Errors.{type_of, cause_of};
+ghost use Rattle.jiter.specs.Words.{kind_of, position_of, json_error, is_memory_cause, type_text, cause_text};
+ghost use Rattle.jiter.specs.Words.{error_text, error_description, type_of, cause_of};
 
 use crate::jiter::Jiter;
 use jiter_scan::errors::{kind_text, push_position};
@@ -171,13 +169,6 @@ impl JiterError {
     /// }
     /// ```
     pub fn description(&self, alloc: Global, jiter: &Jiter<'_>) -> Result<String, AllocError>
-        ensures { IfOk result (λ text. string_bytes text
-            ≡ error_description (cause_of self.now.error_type) self.now.index jiter.now.text) }
-    {
-        Ok(self.describe(alloc, jiter)?)
-    }
-
-    fn describe(&self, alloc: Global, jiter: &Jiter<'_>) -> Result<String, AllocFailed>
         ensures { IfOk result (λ text. string_bytes text
             ≡ error_description (cause_of self.now.error_type) self.now.index jiter.now.text) }
     {

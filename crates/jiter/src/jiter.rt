@@ -1,15 +1,10 @@
 //! The pull reader: how it is made, its peek and its end, and what all its calls share.
-ghost use Rattle.std.specs.Prelude.{◌≡◌, ◌≢◌, ◌<◌, ◌≤◌, MatchResult, Some, None, true, false, length, slice_get};
-ghost use Rattle.std.specs.Prelude.{slice_index, ⊤};
-ghost use Rattle.jiter_scan.specs.Kind.{fault_kind, out_of_memory};
-ghost use Rattle.jiter_scan.specs.NumberReading.{number_at};
-ghost use Rattle.jiter.specs.Cause.{json_error, wrong_type};
-ghost use Rattle.jiter.specs.Errors.{cause_of, type_of};
-ghost use Rattle.jiter.specs.Reader.{value_place, peek, next, gave, finish, number_refusal, type_refusal};
-ghost use Rattle.jiter.specs.Reader.{refused, refused_as, with_position};
-ghost use Rattle.jiter.specs.Jiter.{at_start, MovesOn, IsMemory, IsRefusalOf, refusal_view, IsErrorAt};
-ghost use Rattle.jiter.specs.Jiter.{StandsAt, BeginsAs, byte_of};
-ghost use Rattle.jiter.specs.Reads.{Reads, Stops, never};
+ghost use Rattle.std.specs.Prelude.{◌≡◌, ◌≢◌, ◌<◌, ◌≤◌, Err, MatchResult, Some, None, true, false, length};
+ghost use Rattle.std.specs.Prelude.{slice_get, slice_index, ⊤};
+ghost use Rattle.jiter.specs.Words.{fault_kind, out_of_memory, json_error, wrong_type, cause_of, type_of};
+ghost use Rattle.jiter.specs.Words.{value_place, peek, next, gave, finish, type_refusal, refused, refused_as};
+ghost use Rattle.jiter.specs.Words.{with_position, at_start, MovesOn, IsMemory, IsRefusalOf, refusal_view};
+ghost use Rattle.jiter.specs.Words.{IsErrorAt, StandsAt, BeginsAs, byte_of, Reads, Stops, never};
 
 use crate::errors::{JiterError, JiterErrorType, JiterResult, JsonType};
 use crate::peek::Peek;
@@ -101,24 +96,16 @@ impl<'j> Clone for Jiter<'j> {
     ghost is_infallible = { λ _. ⊤ };
 
     fn clone(&self) -> Result<Jiter<'j>, AllocError> {
-        let parser = Parser {
-            bytes: self.parser.bytes,
-            index: self.parser.index,
-        };
-        Ok(Jiter {
-            parser,
-            allow_inf_nan: self.allow_inf_nan,
-            allow_partial_strings: self.allow_partial_strings,
-            tape: None,
-            text: CowStr::Borrowed(""),
-        })
+        let mut jiter = Jiter::new_at(self.parser.bytes, self.parser.index);
+        jiter.allow_inf_nan = self.allow_inf_nan;
+        jiter.allow_partial_strings = self.allow_partial_strings;
+        Ok(jiter)
     }
 }
 
 #[cold]
 fn refusal(fault: Fault) -> JiterError
-    ensures value { refusal_view result
-        ≡ record { cause = json_error (fault_kind fault.kind); index = fault.index } }
+    ensures value { refusal_view result ≡ record { cause = json_error (fault_kind fault.kind); index = fault.index } }
     ensures bytes { cause_of result.error_type ≢ json_error out_of_memory }
 {
     JiterError::from(JsonError::from(fault))
@@ -133,8 +120,7 @@ fn refusal_at(error: ReadError, index: usize) -> JiterError
 }
 
 fn wrong_type(wanted: JsonType, actual: JsonType, index: usize) -> JiterError
-    ensures { refusal_view result
-        ≡ record { cause = wrong_type (type_of wanted) (type_of actual); index = index } }
+    ensures { refusal_view result ≡ record { cause = wrong_type (type_of wanted) (type_of actual); index = index } }
 {
     JiterError {
         error_type: JiterErrorType::WrongType {
@@ -260,8 +246,7 @@ impl<'j> Jiter<'j> {
     fn next_start(&mut self) -> JiterResult<Start>
         ensures reads { Reads never (λ b. b) (next self.old (λ i b. gave b i)) result self.old self.new }
         ensures place { self.new.position ≡ value_place self.old }
-        ensures here { MatchResult result (BeginsAs self.new)
-            (λ _. slice_get self.new.text self.new.position ≡ None) }
+        ensures here { MatchResult result (BeginsAs self.new) (λ _. slice_get self.new.text self.new.position ≡ None) }
     {
         let peek = self.peek()?;
         Ok(start_of(peek.into_inner()))
@@ -313,8 +298,7 @@ impl<'j> Jiter<'j> {
     #[cold]
     fn refused_as(&self, wanted: JsonType, start: Start) -> JiterError
         requires within { self.now.position < length self.now.text }
-        ensures value { refusal_view result
-            ≡ type_refusal self.now self.now.position (type_of wanted) start }
+        ensures value { refusal_view result ≡ type_refusal self.now self.now.position (type_of wanted) start }
         ensures refusal { IsRefusalOf self.now.text result }
     {
         let index = self.parser.index;
@@ -322,25 +306,15 @@ impl<'j> Jiter<'j> {
             Start::Array => wrong_type(wanted, JsonType::Array, index),
             Start::Object => wrong_type(wanted, JsonType::Object, index),
             Start::String => wrong_type(wanted, JsonType::String, index),
-            Start::Number => self.refused_as_number(wanted),
+            Start::Number => match number_at(self.parser.bytes, index, self.allow_inf_nan) {
+                Ok((NumberAny::Int(_), _)) => wrong_type(wanted, JsonType::Int, index),
+                Ok((NumberAny::Float(_), _)) => wrong_type(wanted, JsonType::Float, index),
+                Err(fault) => refusal(fault),
+            },
             Start::Literal(Literal::Null) => wrong_type(wanted, JsonType::Null, index),
             Start::Literal(Literal::True) => wrong_type(wanted, JsonType::Bool, index),
             Start::Literal(Literal::False) => wrong_type(wanted, JsonType::Bool, index),
             Start::Nothing => refusal(fault_at(FaultKind::ExpectedSomeValue, index)),
-        }
-    }
-
-    fn refused_as_number(&self, wanted: JsonType) -> JiterError
-        requires within { self.now.position < length self.now.text }
-        ensures value { refusal_view result ≡ number_refusal self.now.position (type_of wanted)
-            (number_at self.now.names self.now.text self.now.position) }
-        ensures refusal { IsRefusalOf self.now.text result }
-    {
-        let index = self.parser.index;
-        match number_at(self.parser.bytes, index, self.allow_inf_nan) {
-            Ok((NumberAny::Int(_), _)) => wrong_type(wanted, JsonType::Int, index),
-            Ok((NumberAny::Float(_), _)) => wrong_type(wanted, JsonType::Float, index),
-            Err(fault) => refusal(fault),
         }
     }
 
@@ -368,25 +342,25 @@ impl<'j> Jiter<'j> {
     // that passed it on would hold it in a register on the fast path.
     #[cold]
     #[inline(never)]
-    fn cold_stop_at<T: Drop>(&mut self, wanted: JsonType, at: usize) -> JiterResult<T>
+    fn cold_stop_at(&mut self, wanted: JsonType, at: usize) -> JiterError
         requires place { at ≡ value_place self.old }
         requires within { (self.old.position ≤ at) × (at ≤ length self.old.text) }
-        ensures { Stops (next self.old (λ i b. refused_as self.old i (type_of wanted) b)) result
+        ensures { Stops {X = Unit {0}} (next self.old (λ i b. refused_as self.old i (type_of wanted) b)) (Err result)
             self.old self.new }
     {
         self.parser.index = at;
         match byte_at(self.parser.bytes, at) {
-            Some(byte) => Err(self.refused_as(wanted, start_of(byte))),
-            None => Err(refusal(fault_at(FaultKind::EofWhileParsingValue, at))),
+            Some(byte) => self.refused_as(wanted, start_of(byte)),
+            None => refusal(fault_at(FaultKind::EofWhileParsingValue, at)),
         }
     }
 
     // The same reason as for `stop`.
     #[inline(always)]
-    fn stop_at<T: Drop>(&mut self, wanted: JsonType, at: usize) -> JiterResult<T>
+    fn stop_at(&mut self, wanted: JsonType, at: usize) -> JiterError
         requires place { at ≡ value_place self.old }
         requires within { (self.old.position ≤ at) × (at ≤ length self.old.text) }
-        ensures { Stops (next self.old (λ i b. refused_as self.old i (type_of wanted) b)) result
+        ensures { Stops {X = Unit {0}} (next self.old (λ i b. refused_as self.old i (type_of wanted) b)) (Err result)
             self.old self.new }
     {
         self.cold_stop_at(wanted, at)

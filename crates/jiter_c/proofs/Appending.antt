@@ -46,8 +46,10 @@ full count text old none begun out counted was =
     was ∙ past begun text out (subst (λ n. length (written begun out) ≤ n) (sym counted) (subst (λ l. length l ≤ count) was none))
 
 -- a part of the memory up to its end, written anew
-pub to_the_end : (a : ℕ) (text old part : List ℕ) → a ≤ length old → part ≡ written text (mid_of a (length old - a) old)
-    → put_mid a (length old - a) old part ≡ take a old ++ written text (drop a old)
-to_the_end a text old part within is =
+pub to_the_end : {A : Type 0} (write : List A → List A) (a : ℕ) (old part : List A) → a ≤ length old
+    → part ≡ write (mid_of a (length old - a) old)
+    → put_mid a (length old - a) old part ≡ take a old ++ write (drop a old)
+to_the_end write a old part within is =
     ap (λ l. take a old ++ (part ++ l)) (drop_all (length old - a) (drop a old) (omega (arith, length-drop a old)))
-    ∙ ap (λ l. take a old ++ l) (append-nil part ∙ is ∙ ap (written text) (take_all (length old - a) (drop a old) (omega (arith, length-drop a old))))
+    ∙ ap (λ l. take a old ++ l) (append-nil part ∙ is
+    ∙ ap write (take_all (length old - a) (drop a old) (omega (arith, length-drop a old))))

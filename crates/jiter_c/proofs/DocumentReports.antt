@@ -267,8 +267,6 @@ reports_copy (Contents.Parser q) bytes text given out later whole count before f
 reports_copy (Contents.Document v) bytes text given out later whole count before f h w = (text, h, w)
 reports_copy (Contents.Lines l) bytes text given out later whole count before f h w =
     subst (λ x. WritesText x given out later whole count before f) h w
-reports_copy (Contents.Walk k) bytes text given out later whole count before f h w =
-    subst (λ x. WritesText x given out later whole count before f) h w
 
 json-of : (o : Option Tree) → option_and_then (wanted_text wanted.Json) o ≡ option_map print_of o
 json-of None = refl
@@ -287,8 +285,6 @@ reports_json (Contents.Parser q) place text given out later whole count before f
 reports_json (Contents.Document v) place text given out later whole count before f h w =
     (text, subst (λ o. Copies o text) (json-of (place (view v))) h, w)
 reports_json (Contents.Lines l) place text given out later whole count before f h w =
-    subst (λ x. WritesText x given out later whole count before f) h w
-reports_json (Contents.Walk k) place text given out later whole count before f h w =
     subst (λ x. WritesText x given out later whole count before f) h w
 
 value-found : (o : Option Tree) (old new : JiterValue) → Some new ≡ option_map value_report o
@@ -312,7 +308,6 @@ value_found Contents.Nothing place old new h = absurd (some-none new h)
 value_found (Contents.Parser q) place old new h = absurd (some-none new h)
 value_found (Contents.Document v) place old new h = value-found (place (view v)) old new h
 value_found (Contents.Lines l) place old new h = absurd (some-none new h)
-value_found (Contents.Walk k) place old new h = absurd (some-none new h)
 
 abbrev no-value : Option JiterValue
 no-value = None
@@ -325,4 +320,3 @@ value_missing Contents.Nothing place old h = (refl, refl)
 value_missing (Contents.Parser q) place old h = (refl, refl)
 value_missing (Contents.Document v) place old h = value-missing (place (view v)) old h
 value_missing (Contents.Lines l) place old h = (refl, refl)
-value_missing (Contents.Walk k) place old h = (refl, refl)

@@ -5,6 +5,7 @@ pub mod DocumentReports
 pub mod Into
 pub mod Laying
 pub mod Members
+pub mod Nodes
 pub mod Numbers
 pub mod ParserReports
 pub mod Passing

@@ -136,8 +136,6 @@ reports_print (Contents.Document v) text given out after whole count before late
     subst (λ x. WritesText x given out after whole count before later) h w
 reports_print (Contents.Lines l) text given out after whole count before later h w =
     subst (λ x. WritesText x given out after whole count before later) h w
-reports_print (Contents.Walk k) text given out after whole count before later h w =
-    subst (λ x. WritesText x given out after whole count before later) h w
 
 some-is : (f g : JiterFault) → Some f ≡ Some g → f ≡ g
 some-is f g is = cc
@@ -154,7 +152,6 @@ reports_error Contents.Nothing f before h = (refl, some-is f misuse h)
 reports_error (Contents.Parser p) f before h = λ t r. (h t r, λ no. absurd (false≢true (sym no)))
 reports_error (Contents.Document v) f before h = (refl, some-is f misuse h)
 reports_error (Contents.Lines l) f before h = (refl, some-is f misuse h)
-reports_error (Contents.Walk k) f before h = (refl, some-is f misuse h)
 
 pub reports_no_error : (contents : Contents) (before : JiterFault)
     → MatchParser contents (None ≡ Some misuse)
@@ -165,7 +162,6 @@ reports_no_error Contents.Nothing before h = absurd (none-some misuse h)
 reports_no_error (Contents.Parser p) before h = λ t r. (h t r, λ no. refl)
 reports_no_error (Contents.Document v) before h = absurd (none-some misuse h)
 reports_no_error (Contents.Lines l) before h = absurd (none-some misuse h)
-reports_no_error (Contents.Walk k) before h = absurd (none-some misuse h)
 
 pub reports_failed : (contents new : Contents) (f before : JiterFault)
     → MatchParser contents ((Some f ≡ Some misuse) × (new ≡ contents))
@@ -176,7 +172,6 @@ reports_failed Contents.Nothing new f before h = (refl, some-is f misuse h.0, h.
 reports_failed (Contents.Parser p) new f before h = λ t r. (h t r, λ no. absurd (false≢true no))
 reports_failed (Contents.Document v) new f before h = (refl, some-is f misuse h.0, h.1)
 reports_failed (Contents.Lines l) new f before h = (refl, some-is f misuse h.0, h.1)
-reports_failed (Contents.Walk k) new f before h = (refl, some-is f misuse h.0, h.1)
 
 pub reports_finished : (contents new : Contents) (before : JiterFault)
     → MatchParser contents ((None ≡ Some misuse) × (new ≡ contents))
@@ -187,4 +182,3 @@ reports_finished Contents.Nothing new before h = absurd (none-some misuse h.0)
 reports_finished (Contents.Parser p) new before h = λ t r. (h t r, λ no. refl)
 reports_finished (Contents.Document v) new before h = absurd (none-some misuse h.0)
 reports_finished (Contents.Lines l) new before h = absurd (none-some misuse h.0)
-reports_finished (Contents.Walk k) new before h = absurd (none-some misuse h.0)

@@ -1,16 +1,10 @@
--- The table of a document's values, each before its parts, and the texts that its nodes show.
-use Rattle.std.specs.Prelude.{◌≡◌, ℕ, suc, ◌+◌, Bool, true, false, List, [], ◌∷◌, ◌++◌, length}
-use Rattle.jiter.specs.Cause.{json_error}
-use Rattle.jiter_scan.specs.Kind.{out_of_memory}
+-- The table of a document's values, each before its parts, and the texts that its nodes show, in C's memory.
+use Rattle.std.specs.Prelude.{◌≡◌, ◌⊎◌, ◌≤◌, ◌<◌, ◌-◌, ◌^◌, ℕ, suc, ◌+◌, Bool, true, false, List, [], ◌∷◌, ◌++◌}
+use Rattle.std.specs.Prelude.{drop, if◌then◌else◌, length, min}
 use Rattle.jiter_steps.specs.Tree.{Tree, null, boolean, int, big, float, string, array, object}
 use Rattle.jiter_steps.specs.Tree.{Items, no_items, item, Members, no_members, member}
-use Rattle.jiter_c.specs.Faults.{fault_of}
-use Rattle.jiter_c.specs.Holding.{HoldsWalk}
 use Rattle.jiter_c.specs.Values.{count_items, count_members, value_report}
-use Rattle.jiter_c.specs.declared.faults.JiterFault.{JiterFault}
-use Rattle.jiter_c.specs.declared.handles.Contents.{Contents}
 use Rattle.jiter_c.specs.declared.walk.JiterNode.{JiterNode}
-use Rattle.jiter_c.specs.declared.walk.Walk.{Walk}
 
 -- the texts of a value: of its strings, its numbers that are kept by their text, and its keys, one after another
 abbrev mutual
@@ -33,57 +27,66 @@ abbrev mutual
   member_texts no_members = []
   member_texts (member k v ms) = k.bytes ++ (texts_of v ++ member_texts ms)
 
--- The node of a value with this index, followed by those of its parts. Its texts begin at `at`, its key before it has
--- `key` bytes, and `left` items or members follow it.
-abbrev pub headed : ℕ → ℕ → ℕ → ℕ → Tree → List JiterNode → List JiterNode
-headed i at key left v parts = record {
-  value = value_report v;
-  index = i;
-  nodes = suc (length parts);
+-- The node of a value that has `nodes` nodes with its parts. Its texts begin at `at`, its key before it has `key` bytes,
+-- and `left` items or members follow it.
+abbrev pub node_report : Tree → ℕ → ℕ → ℕ → ℕ → JiterNode
+node_report v nodes left at key = record {
+  kind = (value_report v).kind;
+  truth = if (value_report v).truth then 1 else 0;
+  integer = (value_report v).integer;
+  length = (value_report v).length;
+  nodes = nodes;
   left = left;
   text = at;
   key_length = key;
-} ∷ parts
+}
 
--- the nodes of a value's parts, of which the first has this index; their texts begin at `at`
+-- the same, followed by the nodes of its parts
+abbrev pub headed : ℕ → ℕ → ℕ → Tree → List JiterNode → List JiterNode
+headed at key left v parts = node_report v (suc (length parts)) left at key ∷ parts
+
+-- the nodes of a value's parts; their texts begin at `at`
 abbrev mutual
-  pub parts_of : ℕ → ℕ → Tree → List JiterNode
-  parts_of i at null = []
-  parts_of i at (boolean b) = []
-  parts_of i at (int z) = []
-  parts_of i at (big s) = []
-  parts_of i at (float s) = []
-  parts_of i at (string s) = []
-  parts_of i at (array is) = item_nodes i at is
-  parts_of i at (object ms) = member_nodes i at ms
+  pub parts_of : ℕ → Tree → List JiterNode
+  parts_of at null = []
+  parts_of at (boolean b) = []
+  parts_of at (int z) = []
+  parts_of at (big s) = []
+  parts_of at (float s) = []
+  parts_of at (string s) = []
+  parts_of at (array is) = item_nodes at is
+  parts_of at (object ms) = member_nodes at ms
 
-  pub item_nodes : ℕ → ℕ → Items → List JiterNode
-  item_nodes i at no_items = []
-  item_nodes i at (item v is) =
-      headed i at 0 (count_items is) v (parts_of (i + 1) at v)
-      ++ item_nodes (i + suc (length (parts_of (i + 1) at v))) (at + length (texts_of v)) is
+  pub item_nodes : ℕ → Items → List JiterNode
+  item_nodes at no_items = []
+  item_nodes at (item v is) =
+      headed at 0 (count_items is) v (parts_of at v) ++ item_nodes (at + length (texts_of v)) is
 
-  pub member_nodes : ℕ → ℕ → Members → List JiterNode
-  member_nodes i at no_members = []
-  member_nodes i at (member k v ms) =
-      headed i (at + length k.bytes) (length k.bytes) (count_members ms) v (parts_of (i + 1) (at + length k.bytes) v)
-      ++ member_nodes (i + suc (length (parts_of (i + 1) (at + length k.bytes) v)))
-      (at + length k.bytes + length (texts_of v)) ms
+  pub member_nodes : ℕ → Members → List JiterNode
+  member_nodes at no_members = []
+  member_nodes at (member k v ms) =
+      headed (at + length k.bytes) (length k.bytes) (count_members ms) v (parts_of (at + length k.bytes) v)
+      ++ member_nodes (at + length k.bytes + length (texts_of v)) ms
 
 -- the nodes of a value and of its parts
-abbrev pub nodes_of : ℕ → ℕ → ℕ → ℕ → Tree → List JiterNode
-nodes_of i at key left v = headed i at key left v (parts_of (i + 1) at v)
+abbrev pub nodes_of : ℕ → ℕ → ℕ → Tree → List JiterNode
+nodes_of at key left v = headed at key left v (parts_of at v)
 
 -- the table of a document
 abbrev pub table_of : Tree → List JiterNode
-table_of v = nodes_of 0 0 0 0 v
+table_of v = nodes_of 0 0 0 v
 
--- It is the table of this document, with its texts.
-pub record IsWalkOf (v : Tree) (w : Walk) : Type 0 where
-  pub nodes : w.nodes.items ≡ table_of v
-  pub texts : w.texts.items ≡ texts_of v
+-- a number as a `size_t`, which is the largest one if it has no other
+abbrev pub capped : ℕ → ℕ
+capped n = min n (2 ^ 64 - 1)
 
--- A call gave the handle the table of this document, or memory ran out and the handle is as it was.
-abbrev pub ReportsWalk : Tree → Bool → Contents → Contents → JiterFault → JiterFault → Type 0
-ReportsWalk v true old new before later = HoldsWalk new (IsWalkOf v) × (later ≡ before)
-ReportsWalk v false old new before later = (new ≡ old) × (later ≡ fault_of (json_error out_of_memory) 0)
+-- memory that begins with this list; the rest is as it was
+abbrev pub laid : {A : Type 0} → List A → List A → List A
+laid xs old = xs ++ drop (length xs) old
+
+-- The memory holds the table of this document and its texts. If not, it is too small for one of them, and is as it was.
+abbrev pub Lays : Tree → Bool → (old new : List JiterNode) → (before after : List ℕ) → Type 0
+Lays v true old new before after = (new ≡ laid (table_of v) old) × (after ≡ laid (texts_of v) before)
+    × (length (table_of v) ≤ length old) × (length (texts_of v) ≤ length before)
+Lays v false old new before after = (new ≡ old) × (after ≡ before)
+    × ((length old < length (table_of v)) ⊎ (length before < length (texts_of v)))

@@ -5,7 +5,7 @@ ghost use Rattle.jiter_c.specs.Handles.{contents_coded, contents_owns};
 
 mod parts;
 
-use crate::walk::Walk;
+use core::mem::replace_with;
 use jiter::JsonValue;
 use jiter_incremental::{IncrementalParser, LineIndex};
 use parts::Parts;
@@ -23,8 +23,6 @@ pub enum Contents {
     Document(JsonValue<'static>),
     /// The line feeds of chunks.
     Lines(LineIndex),
-    /// The table of a document's values.
-    Walk(Walk),
 }
 
 /// A handle: one pointer, which the caller keeps and never reads. The allocator has no bytes.
@@ -73,13 +71,19 @@ pub fn close(contents: Box<Contents>) -> JiterHandle
     of_parts(Parts::of(contents))
 }
 
-/// Gives the handle this value. What it held before is freed.
-pub fn filled(handle: JiterHandle, value: Contents) -> JiterHandle
+fn filled(handle: JiterHandle, value: Contents) -> JiterHandle
     ensures { result.value ≡ value }
 {
     let mut contents = open(handle);
     *contents = value;
     close(contents)
+}
+
+/// Gives the handle this value. What it held before is freed.
+pub fn fill(handle: &mut JiterHandle, value: Contents)
+    ensures { handle.new.value ≡ value }
+{
+    replace_with(handle, value, |handle, value| (filled(handle, value), ()));
 }
 
 /// Writes a new handle, which holds nothing, to `pointer`.

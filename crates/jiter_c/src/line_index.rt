@@ -7,7 +7,7 @@ ghost use Rattle.jiter_c.specs.Holding.{HoldsLines, MatchLines};
 ghost use Rattle.jiter_c.specs.Lines.{Passes};
 
 use crate::faults::JiterPosition;
-use crate::handles::{Contents, JiterHandle, close, filled, open};
+use crate::handles::{Contents, JiterHandle, close, fill, open};
 use core::mem::replace_with;
 use jiter::LinePosition;
 use jiter_incremental::LineIndex;
@@ -18,8 +18,7 @@ use std::alloc::Global;
 pub extern "C" fn jiter_lines_begin(alloc: Global, handle: &mut JiterHandle)
     ensures { HoldsLines handle.new.value (λ l. HasPassed l []) }
 {
-    let lines = Contents::Lines(LineIndex::new(alloc));
-    replace_with(handle, lines, |handle, lines| (filled(handle, lines), ()))
+    fill(handle, Contents::Lines(LineIndex::new(alloc)));
 }
 
 fn push_handle(handle: JiterHandle, chunk: &[u8]) -> (JiterHandle, bool)

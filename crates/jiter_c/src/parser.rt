@@ -12,7 +12,7 @@ ghost use Rattle.jiter_c.specs.declared.handles.Contents.{Contents};
 
 use crate::documents::{document_fault, mode_numbered, print_text, report_text};
 use crate::faults::{JiterFault, misuse};
-use crate::handles::{Contents, JiterHandle, close, filled, open};
+use crate::handles::{Contents, JiterHandle, close, fill, open};
 use core::mem::{replace, replace_with};
 use jiter_incremental::IncrementalParser;
 use std::alloc::Global;
@@ -37,11 +37,7 @@ pub extern "C" fn jiter_parser_begin(
         return false;
     };
     let parser = Contents::Parser(IncrementalParser::new(alloc, allow_inf_nan, mode));
-    replace_with(
-        handle,
-        parser,
-        |handle, parser| (filled(handle, parser), ()),
-    );
+    fill(handle, parser);
     true
 }
 

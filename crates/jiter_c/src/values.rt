@@ -18,7 +18,7 @@ ghost use Rattle.jiter_c.specs.declared.handles.Contents.{Contents};
 
 use crate::documents::{document_fault, mode_numbered};
 use crate::faults::{JiterFault, kind_number, misuse};
-use crate::handles::{Contents, JiterHandle, close, filled, open};
+use crate::handles::{Contents, JiterHandle, close, fill, open};
 use core::mem::replace_with;
 use jiter::{JsonErrorType, JsonObject, JsonValue, PartialMode, UniqueError, UniqueErrorType};
 use std::alloc::{AllocError, Global};
@@ -165,11 +165,7 @@ pub extern "C" fn jiter_document_read(
     } else {
         read_any(alloc, bytes, allow_inf_nan, mode)
     };
-    replace_with(
-        handle,
-        contents,
-        |handle, contents| (filled(handle, contents), ()),
-    );
+    fill(handle, contents);
     match error {
         Some(error) => {
             *fault = error;

@@ -11,7 +11,7 @@ use Rattle.jiter_incremental.proofs.Words.{Document, HasReadIn, HasTakenIn, Know
 use Rattle.jiter_incremental.proofs.Words.{anything, between_tokens, in_key, with_byte, AwaitsKey, AwaitsValue}
 use Rattle.jiter_incremental.proofs.Words.{HasReadTo, IsAt, IsHere, IsStill, Moves, Steps, ahead, ahead_as, document}
 use Rattle.jiter_incremental.proofs.Words.{next_of, noted, refused, after_level, OpenFrame, filled, Awaits, Reader}
-use Rattle.jiter_incremental.proofs.Words.{Token}
+use Rattle.jiter_incremental.proofs.Words.{Token, append_assoc, past_blanks, past_blanks-blank, slice_range-split}
 use Rattle.jiter_scan.specs.Ascii as ascii
 use Rattle.jiter_scan.specs.declared.errors.FaultKind.TheVariants as fault_of
 use Rattle.jiter_steps.specs.declared.parse.ContainerKind.TheVariants as shape
@@ -20,10 +20,11 @@ use Rattle.jiter_incremental.specs.Reader.{KeyHere, ValueHere}
 use Rattle.jiter_incremental.specs.declared.reader.Awaits.TheVariants as awaits
 use Rattle.jiter_incremental.specs.declared.reader.Token.TheVariants as token
 use Rattle.jiter_incremental.proofs.Documents.{byte-first, known-any, known-here, closes-noted, closes-refused, follows-byte, refuses, taken-between, takes-byte, wrong-refused}
-use Rattle.jiter_incremental.proofs.Between.{RowIs, at-value, between-of, between-parts, item-begins, key-begins, not-both, object-array, row-item, row-key, colon-missing, goes-colon, goes-comma, goes-end}
+use Rattle.jiter_incremental.proofs.Between.{RowIs, at-value, between-of, between-parts, item-begins, key-begins, not-both, object-array, row-item, row-key, colon-missing, goes-blank, goes-colon, goes-comma, goes-end}
 use Rattle.jiter_incremental.proofs.Between.{goes-missing, goes-wrong, missing-forgiven, put-left, row-comma, row-missing}
+use Rattle.jiter_incremental.proofs.Documents.Blanks.{first-blank, run-taken}
 use Rattle.jiter_incremental.proofs.Slots.{filled-same}
-use Rattle.jiter_incremental.proofs.Settling.{ahead-level, apart-read, moves-one, none-slice, reads-apart, shown-nothing, steps-one, not-shown}
+use Rattle.jiter_incremental.proofs.Settling.{ahead-level, apart-read, moves-here, moves-one, none-slice, one-slice, read-any, reads-apart, shown-nothing, steps-one, not-shown}
 
 zero-more : (n : ℕ) → n + 0 ≡ n
 zero-more n = omega arith
@@ -470,3 +471,35 @@ module _ (level : ℕ) (chunk : List ℕ) (i : Reader) (v : Tree) (h : IsHere le
         let stands : StandsAt c (document i x) t b.state =
         record { known = b.known; token = none; unset = h.unset; position = r.position } in
         taken c t x b.state stands b.left (nothing-left b.state outer b.left after (omega (arith, h.here, root))) other)
+
+-- Whitespace is taken.
+pub blanks-step : (level : ℕ) (chunk : List ℕ) (i : Reader) (v : Tree) (h : IsHere level chunk i v)
+    → i.token ≡ token.Nothing → (n : ℕ) → 0 < n → i.at + n ≡ past_blanks chunk i.at → i.at + n ≤ length chunk
+    → Steps level chunk i v i v n
+blanks-step level chunk i v h none n some end within =
+    let c = slice_index chunk i.at in
+    let blank : is_blank c ≡ true = first-blank chunk i.at (omega (arith, end, some)) in
+    let next : past_blanks chunk i.at ≡ past_blanks chunk (i.at + 1) = past_blanks-blank chunk i.at h.inside blank in
+    record {
+      goes = λ t outer at r.
+          let x = filled outer v in
+          let d = document i x in
+          let b = here-at chunk i x t h.inside h.unset none r in
+          let one : HasTakenIn anything d (t ++ c ∷ []) =
+          takes-byte d d.value c t b.state b.known none (goes-blank d.value b.state c blank b.left) in
+          let rest : (i.at + 1) + (n - 1) ≡ past_blanks chunk (i.at + 1) = omega (arith, end, next, some) in
+          let more = run-taken d (t ++ c ∷ []) one h.unset none chunk (i.at + 1) (n - 1) rest (omega (arith, h.inside)) in
+          let place : (i.at + 1) + (n - 1) ≡ i.at + n = omega (arith, some) in
+          let bytes : (t ++ c ∷ []) ++ slice_range chunk (i.at + 1) ((i.at + 1) + (n - 1)) ≡ t ++ slice_range chunk i.at (i.at + n) =
+          append_assoc t (c ∷ []) (slice_range chunk (i.at + 1) ((i.at + 1) + (n - 1)))
+          ∙ ap (λ u. t ++ u)
+          (ap (λ m. c ∷ [] ++ slice_range chunk (i.at + 1) m) place
+          ∙ ap (λ u. u ++ slice_range chunk (i.at + 1) (i.at + n)) (sym (one-slice chunk i.at h.inside))
+          ∙ sym (slice_range-split chunk i.at (i.at + 1) (omega arith) (i.at + n) (omega (arith, some)))) in
+          let u = t ++ slice_range chunk i.at (i.at + n) in
+          read-any (ahead i chunk (i.at + n)) d u
+          (reads-apart anything d u (subst (HasTakenIn anything d) bytes more) (hidden-here level chunk i v h none));
+      complete = λ unset _. shown-nothing (document i v) none;
+      moves =
+          moves-here level chunk i h.here h.low i n some within (refl, refl, refl) refl;
+    }

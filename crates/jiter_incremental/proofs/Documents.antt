@@ -5,7 +5,7 @@ pub mod Ends
 pub mod Names
 pub mod Strings
 pub mod Tokens
-pub mod WholeTexts
+pub mod WholeTokens
 use Rattle.jiter_incremental.proofs.Words.{◌≡◌, ℕ, ◌+◌, ◌-◌, ◌<◌, ◌≤◌, true, false, List, [], ◌∷◌, ◌++◌, length, get_or}
 use Rattle.jiter_incremental.proofs.Words.{refl, sym, subst, ap, ◌∙◌, arith, append_assoc, inl, inr, length-append}
 use Rattle.jiter_incremental.proofs.Words.{slice_get, Option, Some, None, get_or-append_seam, append-nil, none-some}

@@ -11,7 +11,6 @@ pub mod LinePlaces
 pub mod NumberBegins
 pub mod NumberSteps
 pub mod Over
-pub mod Passing
 pub mod Placing
 pub mod Pushing
 pub mod Received
@@ -20,5 +19,4 @@ pub mod Showing
 pub mod Slots
 pub mod StringSteps
 pub mod TextBegins
-pub mod WholeLiterals
 pub mod Words

@@ -220,8 +220,47 @@ object-swapped old new n m z at got set f x h =
       ap (λ (e : Member). view e.1) read ∙ l.part,
     )
 
+-- There is one.
+pub array-place : (s : JsonValue) (v w : Vec JsonValue Global) (f : OpenFrame) (x : Tree) (size : ℕ) → s ≡ Array v → w ≡ v
+    → size ≡ vec_len w → view s ≡ around f x → (size - 1 < vec_len w) × (size - 1 + 1 ≡ length v.items)
+array-place s v w f x size is same n h =
+    let l = last-item v.items f x (sym (view_array v) ∙ ap view (sym is) ∙ h) in
+    let long = length-append l.before (l.old ∷ []) in
+    (omega (arith, n, ap vec_len same, v.ok.0, ap length l.items, long), omega (arith, n, ap vec_len same, v.ok.0, ap length l.items, long))
+
+pub object-place : (s : JsonValue) (v w : Vec Member Global) (f : OpenFrame) (x : Tree) (size : ℕ) → s ≡ Object v → w ≡ v
+    → size ≡ vec_len w → view s ≡ around f x → (size - 1 < vec_len w) × (size - 1 + 1 ≡ length v.items)
+object-place s v w f x size is same n h =
+    let l = last-member v.items f x (sym (view_object v) ∙ ap view (sym is) ∙ h) in
+    let long = length-append l.before ((l.key, l.old) ∷ []) in
+    (omega (arith, n, ap vec_len same, v.ok.0, ap length l.members, long), omega (arith, n, ap vec_len same, v.ok.0, ap length l.members, long))
+
+-- The last part of a slot is y: where it becomes another, the slot is what `put` makes of that.
+pub record Swaps (s y : JsonValue) (put : JsonValue → JsonValue) (f : OpenFrame) (x : Tree) : Type 0 where
+  pub is : view y ≡ x
+  pub was : view s ≡ around f (view y)
+  pub now : (z : JsonValue) → view (put z) ≡ around f (view z)
+
+pub array-swaps : (s : JsonValue) (v w : Vec JsonValue Global) (size : ℕ) (y : JsonValue) → s ≡ Array v → w ≡ v
+    → size ≡ vec_len w → y ≡ get_or w.items (size - 1) y → (f : OpenFrame) (x : Tree) → view s ≡ around f x
+    → Swaps s y (λ z. Array (with_item v (size - 1) z)) f x
+array-swaps s v w size y is same n got f x h =
+    let swapped = λ (z : JsonValue). array-swapped v (with_item v (size - 1) z) (size - 1) y z
+    (array-place s v w f x size is same n h).1 (got ∙ ap (λ (u : Vec JsonValue Global). get_or u.items (size - 1) y) same) refl f x
+    (sym (ap view is) ∙ h) in
+    record { is = (swapped y).1; was = h ∙ ap (around f) (sym (swapped y).1); now = λ z. (swapped z).0 }
+
+pub object-swaps : (s : JsonValue) (v w : Vec Member Global) (size : ℕ) (m : Member) → s ≡ Object v → w ≡ v
+    → size ≡ vec_len w → m ≡ get_or w.items (size - 1) m → (f : OpenFrame) (x : Tree) → view s ≡ around f x
+    → Swaps s m.1 (λ z. Object (with_item v (size - 1) (m.0, z))) f x
+object-swaps s v w size m is same n got f x h =
+    let swapped = λ (z : JsonValue). object-swapped v (with_item v (size - 1) (m.0, z)) (size - 1) m z
+    (object-place s v w f x size is same n h).1 (got ∙ ap (λ (u : Vec Member Global). get_or u.items (size - 1) m) same) refl f x
+    (sym (ap view is) ∙ h) in
+    record { is = (swapped m.1).1; was = h ∙ ap (around f) (sym (swapped m.1).1); now = λ z. (swapped z).0 }
+
 module _ {T E : Type 0} where
-  -- where a text goes on, so does the root,
+  -- Where a text goes on, so does the root,
   pub root-grown : (r : Result T E) (level : ℕ) (v w : Tree) (bytes : List ℕ) → level ≡ 0
       → ((u : List ℕ) → v ≡ string (text_of u) → OnOk r (w ≡ string (text_of (u ++ bytes))))
       → OnOk r (IsGrown level v bytes w)
@@ -230,60 +269,21 @@ module _ {T E : Type 0} where
       record { root = λ t deep is. grow t is; part = λ t f some is. absurd (omega (arith, some, none)) }
 
   -- or the container,
-  pub array-grown : (r : Result T E) (level : ℕ) (v : Vec JsonValue Global) (n : ℕ) (y z : JsonValue) (bytes : List ℕ)
-      → 0 < level → n + 1 ≡ length v.items → y ≡ get_or v.items n y
+  pub part-grown : (r : Result T E) (s y z : JsonValue) (put : JsonValue → JsonValue) (level : ℕ) (bytes : List ℕ)
+      → 0 < level → ((f : OpenFrame) (x : Tree) → view s ≡ around f x → Swaps s y put f x)
       → ((w : List ℕ) → view y ≡ string (text_of w) → OnOk r (view z ≡ string (text_of (w ++ bytes))))
-      → OnOk r (IsGrown level (view (Array v)) bytes (view (Array (with_item v n z))))
-  array-grown (Err e) level v n y z bytes some at got grow = tt
-  array-grown (Ok o) level v n y z bytes some at got grow = record {
+      → OnOk r (IsGrown level (view s) bytes (view (put z)))
+  part-grown (Err e) s y z put level bytes some swaps grow = tt
+  part-grown (Ok o) s y z put level bytes some swaps grow = record {
     root = λ t none is. absurd (omega (arith, some, none));
-    part = λ t f deep is.
-        let seen = array-swapped v (with_item v n z) n y z at got refl f (string (text_of t)) is in
-        seen.0 ∙ ap (around f) (grow t seen.1);
+    part = λ t f deep is. let q = swaps f (string (text_of t)) is in q.now z ∙ ap (around f) (grow t q.is);
   }
 
-  pub object-grown : (r : Result T E) (level : ℕ) (v : Vec Member Global) (n : ℕ) (m : Member) (z : JsonValue)
-      (bytes : List ℕ) → 0 < level → n + 1 ≡ length v.items → m ≡ get_or v.items n m
-      → ((w : List ℕ) → view m.1 ≡ string (text_of w) → OnOk r (view z ≡ string (text_of (w ++ bytes))))
-      → OnOk r (IsGrown level (view (Object v)) bytes (view (Object (with_item v n (m.0, z)))))
-  object-grown (Err e) level v n m z bytes some at got grow = tt
-  object-grown (Ok o) level v n m z bytes some at got grow = record {
-    root = λ t none is. absurd (omega (arith, some, none));
-    part = λ t f deep is.
-        let seen = object-swapped v (with_item v n (m.0, z)) n m z at got refl f (string (text_of t)) is in
-        seen.0 ∙ ap (around f) (grow t seen.1);
-  }
-
-  -- or it stays,
-  pub array-kept : (r : Result T E) (v : Vec JsonValue Global) (n : ℕ) (y z : JsonValue) (f : OpenFrame) (x : Tree)
-      → n + 1 ≡ length v.items → y ≡ get_or v.items n y → view (Array v) ≡ around f x
-      → OnErr r (view z ≡ view y) → OnErr r (view (Array (with_item v n z)) ≡ view (Array v))
-  array-kept (Err e) v n y z f x at got is h =
-      let seen = array-swapped v (with_item v n z) n y z at got refl f x is in
-      seen.0 ∙ ap (around f) (h ∙ seen.1) ∙ sym is
-  array-kept (Ok o) v n y z f x at got is h = tt
-
-  pub object-kept : (r : Result T E) (v : Vec Member Global) (n : ℕ) (m : Member) (z : JsonValue) (f : OpenFrame)
-      (x : Tree)
-      → n + 1 ≡ length v.items → m ≡ get_or v.items n m → view (Object v) ≡ around f x
-      → OnErr r (view z ≡ view m.1) → OnErr r (view (Object (with_item v n (m.0, z))) ≡ view (Object v))
-  object-kept (Err e) v n m z f x at got is h =
-      let seen = object-swapped v (with_item v n (m.0, z)) n m z at got refl f x is in
-      seen.0 ∙ ap (around f) (h ∙ seen.1) ∙ sym is
-  object-kept (Ok o) v n m z f x at got is h = tt
-
--- and there is one.
-pub array-place : (s : JsonValue) (v : Vec JsonValue Global) (f : OpenFrame) (x : Tree) (size : ℕ) → s ≡ Array v
-    → view s ≡ around f x → size ≡ vec_len v → size - 1 + 1 ≡ length v.items
-array-place s v f x size is h n =
-    let l = last-item v.items f x (sym (view_array v) ∙ ap view (sym is) ∙ h) in
-    omega (arith, n, v.ok.0, ap length l.items, length-append l.before (l.old ∷ []))
-
-pub object-place : (s : JsonValue) (v : Vec Member Global) (f : OpenFrame) (x : Tree) (size : ℕ) → s ≡ Object v
-    → view s ≡ around f x → size ≡ vec_len v → size - 1 + 1 ≡ length v.items
-object-place s v f x size is h n =
-    let l = last-member v.items f x (sym (view_object v) ∙ ap view (sym is) ∙ h) in
-    omega (arith, n, v.ok.0, ap length l.members, length-append l.before ((l.key, l.old) ∷ []))
+  -- or it stays.
+  pub part-kept : (r : Result T E) (s y z : JsonValue) (put : JsonValue → JsonValue) (f : OpenFrame) (x : Tree)
+      → Swaps s y put f x → OnErr r (view z ≡ view y) → OnErr r (view (put z) ≡ view s)
+  part-kept (Err e) s y z put f x q h = q.now z ∙ ap (around f) h ∙ sym q.was
+  part-kept (Ok o) s y z put f x q h = tt
 
 -- The container with its parts so far and one more is one.
 pub part-more : (f : OpenFrame) (x : Tree) → (g : OpenFrame) × (around f x ≡ begun g)

@@ -15,7 +15,7 @@ use Rattle.jiter_incremental.proofs.Documents.{follows-byte, known-in}
 use Rattle.jiter_incremental.proofs.Documents.Bytes.{takes-here}
 use Rattle.jiter_incremental.proofs.Documents.Strings.{key-taken}
 use Rattle.jiter_incremental.proofs.Documents.Tokens.{range-after, string-begins}
-use Rattle.jiter_incremental.proofs.Documents.WholeTexts.{text-follows, text-key, text-some}
+use Rattle.jiter_incremental.proofs.Documents.WholeTokens.{text-follows, text-key, text-some}
 use Rattle.jiter_incremental.proofs.Showing.{shown-steps}
 use Rattle.jiter_incremental.proofs.Placing.{begins-there}
 use Rattle.jiter_incremental.proofs.Settling.{moves-here, moves-one, one-slice, read-any, reads-apart, shown-key, shown-nothing, steps-one}

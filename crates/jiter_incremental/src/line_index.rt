@@ -1,8 +1,7 @@
 //! Line and column numbers for a document that comes in chunks.
-ghost use Rattle.std.specs.Prelude.{◌≡◌, ◌+◌, ◌^◌, ◌<◌, ◌≤◌, ◌++◌, ◌⊎◌, [], Contains, List, OnErr, OnOk, length, take};
-ghost use Rattle.std.specs.Prelude.{vec_len, ℕ};
-ghost use Rattle.jiter_scan.specs.Position.{position_of};
-ghost use Rattle.jiter_incremental.specs.LineIndex.{HasPassed, feeds_from, line_index};
+ghost use Rattle.std.specs.Prelude.{◌≡◌, ◌+◌, ◌^◌, ◌<◌, ◌≤◌, ◌++◌, ◌⊎◌, [], Contains, List, OnErr, OnOk};
+ghost use Rattle.std.specs.Prelude.{length, take, vec_len, ℕ};
+ghost use Rattle.jiter_incremental.specs.Words.{position_of, HasPassed, feeds_from, line_index};
 
 use jiter_scan::LinePosition;
 use jiter_scan::memory::{AllocFailed, push};

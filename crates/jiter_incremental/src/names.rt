@@ -1,9 +1,6 @@
 //! The words that are values: the literals (RFC 8259, 3) and the non-finite numbers.
 ghost use Rattle.std.specs.Prelude.{◌≡◌, IfOk};
-ghost use Rattle.jiter_steps.specs.Tree.{float};
-ghost use Rattle.jiter_incremental.specs.Between.{text_of};
-ghost use Rattle.jiter_incremental.specs.Names.{name_tree, name_word};
-ghost use Rattle.jiter_value.specs.Value.{view};
+ghost use Rattle.jiter_incremental.specs.Words.{float, text_of, name_tree, name_word, view};
 
 use jiter_scan::memory::{AllocFailed, copy_text};
 use jiter_scan::partial_word::PartialWord;

@@ -1,17 +1,12 @@
 //! Takes what stands between the tokens: whitespace, commas, colons and closing brackets (RFC 8259, 2, 4 and 5).
-ghost use Rattle.std.specs.Prelude.{◌≡◌, ◌+◌, ◌^◌, ◌<◌, ◌++◌, ◌∷◌, [], IfOk, List, None, OnErr, false, slice_index, true, ℕ};
-ghost use Rattle.jiter_incremental.specs.Arrived.{Arrived, IsLeft};
-ghost use Rattle.jiter_incremental.specs.Between.{IsAfter, IsBeforePart};
-ghost use Rattle.jiter_incremental.specs.Document.{HasTakenIn, StandsAt, anything};
-ghost use Rattle.jiter_incremental.specs.Reader.{IsHere, IsStill, Stays, Steps, document};
+ghost use Rattle.std.specs.Prelude.{◌≡◌, ◌+◌, ◌^◌, ◌<◌, ◌++◌, ◌∷◌, [], IfOk, List, None, OnErr, false};
+ghost use Rattle.std.specs.Prelude.{slice_index, true, ℕ};
+ghost use Rattle.jiter_incremental.specs.Words.{Arrived, IsLeft, IsAfter, IsBeforePart, HasTakenIn, StandsAt};
+ghost use Rattle.jiter_incremental.specs.Words.{anything, IsHere, IsStill, Stays, Steps, document, comma};
+ghost use Rattle.jiter_incremental.specs.Words.{is_blank, begins_part, closer_of, Tree, PartTree, built};
+ghost use Rattle.jiter_incremental.specs.Words.{view};
 ghost use Rattle.jiter_incremental.specs.declared.reader.Awaits.TheVariants as awaited;
 ghost use Rattle.jiter_incremental.specs.declared.reader.Token.TheVariants as kind;
-ghost use Rattle.jiter_scan.specs.Ascii.{comma};
-ghost use Rattle.jiter_steps.specs.Blank.{is_blank};
-ghost use Rattle.jiter_steps.specs.Step.{begins_part, closer_of};
-ghost use Rattle.jiter_steps.specs.Tree.{Tree};
-ghost use Rattle.jiter_value.specs.Stacks.{PartTree, built};
-ghost use Rattle.jiter_value.specs.Value.{view};
 
 use crate::reader::{Awaits, Reader};
 use crate::slot::kind_of;

@@ -1,18 +1,13 @@
 //! Reads a document that comes in chunks (RFC 8259). A push goes down the open path of the value so far by recursion,
 //! and goes on there: the value is never taken apart.
-ghost use Rattle.std.specs.Prelude.{◌≡◌, ◌⊎◌, ◌+◌, ◌-◌, ◌^◌, ◌<◌, ◌≤◌, ◌++◌, [], IfOk, List, None, Ok, OnErr, OnOk, Some, length};
-ghost use Rattle.std.specs.Prelude.{false, take, true, ℕ};
-ghost use Rattle.jiter_incremental.specs.Document.{HasArrived, IsOver, MayRefuseAt, noted_in};
-ghost use Rattle.jiter_incremental.specs.Reader.{Leads, Ready, Refuses, Stays, Steps, Went, after_level};
-ghost use Rattle.jiter_incremental.specs.Reader.{document, noted, refused};
-ghost use Rattle.jiter_incremental.specs.Slot.{HasPart, HasRoomAt, IsPut};
+ghost use Rattle.std.specs.Prelude.{◌≡◌, ◌⊎◌, ◌+◌, ◌-◌, ◌^◌, ◌<◌, ◌≤◌, ◌++◌, [], IfOk, List, None, Ok, OnErr};
+ghost use Rattle.std.specs.Prelude.{OnOk, Some, length, false, take, true, ℕ};
+ghost use Rattle.jiter_incremental.specs.Words.{HasArrived, IsOver, MayRefuseAt, noted_in, Leads, Ready};
+ghost use Rattle.jiter_incremental.specs.Words.{Refuses, Stays, Steps, Went, after_level, document, noted};
+ghost use Rattle.jiter_incremental.specs.Words.{refused, HasPart, HasRoomAt, IsPut, nesting_limit, text_view};
+ghost use Rattle.jiter_incremental.specs.Words.{Tree, null, view};
 ghost use Rattle.jiter_incremental.specs.declared.reader.Awaits.TheVariants as awaited;
 ghost use Rattle.jiter_incremental.specs.declared.reader.Token.TheVariants as kind;
-ghost use Rattle.jiter_incremental.specs.declared.reader.Turn.TheVariants as turned;
-ghost use Rattle.jiter_steps.specs.Node.{nesting_limit};
-ghost use Rattle.jiter_steps.specs.StringDecoder.{text_view};
-ghost use Rattle.jiter_steps.specs.Tree.{Tree, null};
-ghost use Rattle.jiter_value.specs.Value.{view};
 
 use crate::names::Name;
 use crate::slot::put_in;
@@ -56,17 +51,6 @@ pub enum Awaits {
     Comma,
     /// Nothing: the document's value is complete.
     Nothing,
-}
-
-/// What a step did in an open container.
-#[derive(Clone, Copy, Debug)]
-pub enum Turn {
-    /// The container goes on.
-    More,
-    /// A container inside it begins.
-    Opened,
-    /// It ends.
-    Closed,
 }
 
 /// All that is known of the bytes so far, except the value.
@@ -265,27 +249,19 @@ impl Reader {
         slot: &mut JsonValue<'static>,
         level: usize,
         chunk: &[u8],
-    ) -> Result<Turn, AllocFailed>
+    ) -> Result<(), AllocFailed>
         requires ready { Ready level chunk.now self.old (view slot.old) }
         requires here { self.old.depth ≡ level }
         requires inside { self.old.at < length chunk.now }
         ensures went { Went level chunk.now self.old (view slot.old) self.new (view slot.new) }
         ensures wanted { OnErr result (Refuses level chunk.now self.old (view slot.old) self.new) }
-        ensures more { result ≡ Ok turned.More → (self.new.depth ≡ level) × (self.old.at < self.new.at) }
-        ensures opened { result ≡ Ok turned.Opened
-            → (self.new.depth ≡ level + 1) × (self.old.at < self.new.at) × (self.new.fault ≡ None) }
-        ensures closed { result ≡ Ok turned.Closed → self.new.depth + 1 ≡ level }
+        ensures opened { level < self.new.depth → self.new.fault ≡ None }
+        ensures near { OnOk result (self.new.depth ≤ level + 1) }
         ensures progress { OnOk result ((self.old.at < self.new.at) ⊎ (self.new.depth < level)) }
     {
         let count = self.step(slot, level, chunk)?;
         self.at += count;
-        if self.depth == level {
-            Ok(Turn::More)
-        } else if self.depth < level {
-            Ok(Turn::Closed)
-        } else {
-            Ok(Turn::Opened)
-        }
+        Ok(())
     }
 
     // Goes on in the last item or member of a container.
@@ -309,42 +285,17 @@ impl Reader {
         match slot {
             JsonValue::Array(items) => {
                 let last = items.len() - 1;
-                self.resume(&mut items[last], level + 1, chunk)
+                self.parts(&mut items[last], level + 1, chunk)
             }
             JsonValue::Object(members) => {
                 let last = members.len() - 1;
-                self.resume(&mut members[last].1, level + 1, chunk)
+                self.parts(&mut members[last].1, level + 1, chunk)
             }
             _ => unreachable!(),
         }
     }
 
-    // Goes on where the bytes so far ended: in this container or one inside it.
-    #[cycle(read)]
-    fn resume(
-        &mut self,
-        slot: &mut JsonValue<'static>,
-        level: usize,
-        chunk: &[u8],
-    ) -> Result<(), AllocFailed>
-        requires some { 0 < level }
-        requires ready { Ready level chunk.now self.old (view slot.old) }
-        requires unset { self.old.fault ≡ None }
-        ensures went { Went level chunk.now self.old (view slot.old) self.new (view slot.new) }
-        ensures wanted { OnErr result (Refuses level chunk.now self.old (view slot.old) self.new) }
-        ensures all { OnOk result (level ≤ self.new.depth → self.new.at ≡ length chunk.now) }
-    {
-        if level == self.depth {
-            return self.parts(slot, level, chunk);
-        }
-        self.inside(slot, level, chunk)?;
-        if level < self.depth {
-            return Ok(());
-        }
-        self.parts(slot, level, chunk)
-    }
-
-    // The items or members of the innermost open container, up to its end or the chunk's.
+    // Goes on where the bytes so far ended, in this container or one inside it, up to its end or the chunk's.
     #[cycle(read)]
     fn parts(
         &mut self,
@@ -354,21 +305,16 @@ impl Reader {
     ) -> Result<(), AllocFailed>
         requires some { 0 < level }
         requires ready { Ready level chunk.now self.old (view slot.old) }
-        requires here { self.old.depth ≡ level }
+        requires unset { level < self.old.depth → self.old.fault ≡ None }
         ensures went { Went level chunk.now self.old (view slot.old) self.new (view slot.new) }
         ensures wanted { OnErr result (Refuses level chunk.now self.old (view slot.old) self.new) }
         ensures all { OnOk result (level ≤ self.new.depth → self.new.at ≡ length chunk.now) }
     {
-        while self.at < chunk.len() {
-            match self.part(slot, level, chunk)? {
-                Turn::More => {}
-                Turn::Opened => {
-                    self.inside(slot, level, chunk)?;
-                    if level < self.depth {
-                        return Ok(());
-                    }
-                }
-                Turn::Closed => return Ok(()),
+        while self.at < chunk.len() && level <= self.depth {
+            if level < self.depth {
+                self.inside(slot, level, chunk)?;
+            } else {
+                self.part(slot, level, chunk)?;
             }
         }
         Ok(())
@@ -407,7 +353,7 @@ impl Reader {
             } else if self.depth == 0 {
                 self.part(root, 0, chunk)?;
             } else {
-                self.resume(root, 1, chunk)?;
+                self.parts(root, 1, chunk)?;
             }
         }
         Ok(())

@@ -1,17 +1,12 @@
 //! The places of the value so far. Each open container is the last item or member of the one outside it, and the
 //! outermost is the root. A slot is an open container, or the root while no container is open. Its level is how many
 //! containers are open there: 0 for the root.
-ghost use Rattle.std.specs.Prelude.{◌≡◌, ◌+◌, ◌<◌, ◌++◌, ◌∷◌, [], List, OnErr, OnOk, length, vec_capacity, vec_len, ℕ};
-ghost use Rattle.std.specs.Str.{IsAscii};
-ghost use Rattle.jiter_incremental.specs.Between.{text_of};
-ghost use Rattle.jiter_incremental.specs.Strings.{HasText, IsGrown};
-ghost use Rattle.jiter_incremental.specs.Slot.{HasPart, HasRoomAt, IsContainer, IsOfKey, IsPut, IsRoomy, IsTaken};
-ghost use Rattle.jiter_incremental.specs.Slot.{OpenFrame, around, begun, filled};
-ghost use Rattle.jiter_steps.specs.StringDecoder.{text_view};
-ghost use Rattle.jiter_steps.specs.Tree.{Tree, string};
-ghost use Rattle.jiter_value.specs.Stacks.{PartTree, built, empty_tree};
-ghost use Rattle.jiter_value.specs.Value.{view};
-ghost use Rattle.jiter_value.specs.declared.value.JsonValue.{out-JsonValue};
+ghost use Rattle.std.specs.Prelude.{◌≡◌, ◌+◌, ◌<◌, ◌++◌, ◌∷◌, [], List, OnErr, OnOk, length, vec_capacity};
+ghost use Rattle.std.specs.Prelude.{vec_len, ℕ, IsAscii};
+ghost use Rattle.jiter_incremental.specs.Words.{text_of, HasText, IsGrown, HasPart, HasRoomAt, IsContainer};
+ghost use Rattle.jiter_incremental.specs.Words.{IsOfKey, IsPut, IsRoomy, IsTaken, OpenFrame, around, begun};
+ghost use Rattle.jiter_incremental.specs.Words.{filled, text_view, Tree, string, PartTree, built, empty_tree};
+ghost use Rattle.jiter_incremental.specs.Words.{view, out-JsonValue};
 
 use jiter_scan::memory::{AllocFailed, make_room, push_ascii, with_capacity};
 use jiter_steps::parse::ContainerKind;

@@ -1,26 +1,19 @@
 //! Goes on with the token that the last chunk cut (RFC 8259, 3, 6 and 7). A number and a string that are a value if the
 //! input ends here are in the value so far.
-ghost use Rattle.std.specs.Prelude.{◌≡◌, ◌⊎◌, ◌+◌, ◌^◌, ◌<◌, IfOk, List, None, OnErr, length, slice_get, slice_index};
-ghost use Rattle.std.specs.Prelude.{Some, string_bytes, false, true, ℕ};
-ghost use Rattle.jiter_incremental.specs.Between.{text_of};
-ghost use Rattle.jiter_incremental.specs.Document.{Next, HasMoved, HasReadIn, bytes_in, is_shown, token_tree};
-ghost use Rattle.jiter_incremental.specs.Names.{name_word};
-ghost use Rattle.jiter_incremental.specs.Reader.{AsRead, IsAt, IsComplete, IsGrowing, IsHere, IsPlainRun, Stays, Steps, after_level};
-ghost use Rattle.jiter_incremental.specs.Strings.{IsOfString};
-ghost use Rattle.jiter_incremental.specs.Reader.{document, with_shown};
-ghost use Rattle.jiter_incremental.specs.Slot.{HasRoomAt, IsPut, OpenFrame, filled};
+ghost use Rattle.std.specs.Prelude.{◌≡◌, ◌⊎◌, ◌+◌, ◌^◌, ◌<◌, IfOk, List, None, OnErr, OnOk, length};
+ghost use Rattle.std.specs.Prelude.{slice_get, slice_index, Some, string_bytes, false, true, ℕ};
+ghost use Rattle.jiter_incremental.specs.Words.{text_of, Next, HasMoved, HasReadIn, bytes_in, is_shown};
+ghost use Rattle.jiter_incremental.specs.Words.{token_tree, name_word, AsRead, IsAt, IsComplete, IsGrowing};
+ghost use Rattle.jiter_incremental.specs.Words.{IsHere, IsPlainRun, Stays, Steps, after_level, IsOfString};
+ghost use Rattle.jiter_incremental.specs.Words.{document, with_shown, HasRoomAt, IsContainer, IsPut};
+ghost use Rattle.jiter_incremental.specs.Words.{OpenFrame, filled, Number, allows_trailing_strings, Fits};
+ghost use Rattle.jiter_incremental.specs.Words.{IsBegun, is_whole, kept_bytes, own_view, number_tree};
+ghost use Rattle.jiter_incremental.specs.Words.{with_text, text_view, Tree, null, string, owned_text};
+ghost use Rattle.jiter_incremental.specs.Words.{tree_as, view};
 ghost use Rattle.jiter_incremental.specs.declared.reader.Token.TheVariants as token_kind;
 ghost use Rattle.jiter_scan.specs.Ascii as ascii;
-ghost use Rattle.jiter_scan.specs.Number.{Number};
-ghost use Rattle.jiter_scan.specs.PartialMode.{allows_trailing_strings};
-ghost use Rattle.jiter_scan.specs.PartialNumber.{Fits, IsBegun, Leads, is_whole, kept_bytes, own_view};
 ghost use Rattle.jiter_scan.specs.declared.partial_number.Went.TheVariants as number_went;
-ghost use Rattle.jiter_steps.specs.Node.{number_tree};
-ghost use Rattle.jiter_steps.specs.PartialText.{with_text};
-ghost use Rattle.jiter_steps.specs.StringDecoder.{text_view};
-ghost use Rattle.jiter_steps.specs.Tree.{Tree, null, string};
-ghost use Rattle.jiter_value.specs.Owned.{owned_text, tree_as};
-ghost use Rattle.jiter_value.specs.Value.{view};
+ghost use Rattle.jiter_scan.specs.PartialNumber.{Leads};
 
 use crate::names::Name;
 use crate::punctuation::is_blank;
@@ -157,22 +150,26 @@ impl Reader {
         }
     }
 
-    /// Takes out what [`show`](Reader::show) stored.
-    pub fn hide(&mut self, slot: &mut JsonValue<'static>, level: usize)
+    /// Takes out what [`show`](Reader::show) stored, whose capacity stays. If nothing is stored, reserves the capacity.
+    pub fn hide(&mut self, slot: &mut JsonValue<'static>, level: usize) -> Result<(), AllocFailed>
         requires here { self.old.depth ≡ level }
         requires unset { self.old.fault ≡ None }
         requires read { (n : Next) × (t : List ℕ) × (outer : List OpenFrame) × IsAt level outer
             × HasReadIn n (document self.old (filled outer (view slot.old))) t }
+        requires container { 0 < level → IsContainer (view slot.old) }
         ensures hides { AsRead level self.old (view slot.old) self.new (view slot.new) }
         ensures hidden { self.new.shown ≡ false }
-        ensures room { HasRoomAt level slot.old → HasRoomAt level slot.new }
+        ensures room { OnOk result (HasRoomAt level slot.new) }
         ensures same { self.new ≡ with_shown self.old false self.new.number self.new.string self.new.key }
+        ensures refused { OnErr result ((self.new ≡ self.old) × (view slot.new ≡ view slot.old)) }
     {
         if self.shown {
             let value = take_from(slot, level, &mut self.key);
             self.give_back(value);
             self.shown = false;
+            return Ok(());
         }
+        reserve_in(slot)
     }
 
     fn take_word(
@@ -393,8 +390,7 @@ impl Reader {
         ensures steps { IfOk result (λ n. Steps level chunk.now self.old (view slot.old) self.new (view slot.new) n) }
         ensures stays { OnErr result (Stays level chunk.now self.old (view slot.old) self.new (view slot.new)) }
     {
-        reserve_in(slot)?;
-        self.hide(slot, level);
+        self.hide(slot, level)?;
         if matches!(self.token, Token::Number) {
             self.take_number(slot, level, chunk)
         } else {

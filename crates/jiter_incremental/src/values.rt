@@ -1,25 +1,14 @@
 //! Begins what stands between the punctuation: containers, keys and scalars (RFC 8259, 3 to 7). A scalar or key that is
 //! complete in the chunk is read at once.
-ghost use Rattle.std.specs.Prelude.{◌≡◌, ◌+◌, ◌-◌, ◌^◌, ◌<◌, ◌≤◌, ◌++◌, [], IfOk, OnErr, OnOk, length, slice_index, true, false};
-ghost use Rattle.std.specs.Prelude.{string_bytes};
-ghost use Rattle.jiter_incremental.specs.Between.{text_of};
-ghost use Rattle.jiter_incremental.specs.Names.{name_word};
-ghost use Rattle.jiter_incremental.specs.Reader.{AwaitsKey, AwaitsValue, IsHere, Stays, Steps};
-ghost use Rattle.jiter_incremental.specs.Slot.{HasRoomAt};
+ghost use Rattle.std.specs.Prelude.{◌≡◌, ◌+◌, ◌-◌, ◌^◌, ◌<◌, ◌≤◌, ◌++◌, [], IfOk, OnErr, OnOk, length};
+ghost use Rattle.std.specs.Prelude.{slice_index, true, false, string_bytes};
+ghost use Rattle.jiter_incremental.specs.Words.{text_of, name_word, AwaitsKey, AwaitsValue, IsHere, Stays};
+ghost use Rattle.jiter_incremental.specs.Words.{Steps, HasRoomAt, quote, number_view, begins_decimal};
+ghost use Rattle.jiter_incremental.specs.Words.{is_blank, start_of, nesting_limit, number_tree, HasTaken};
+ghost use Rattle.jiter_incremental.specs.Words.{opening, string, owned_text, tree_as, view};
 ghost use Rattle.jiter_incremental.specs.declared.reader.Awaits.TheVariants as awaited;
 ghost use Rattle.jiter_incremental.specs.declared.reader.Token.TheVariants as token_kind;
-ghost use Rattle.jiter_scan.specs.Ascii.{quote};
-ghost use Rattle.jiter_scan.specs.NumberDecoder.{number_view};
-ghost use Rattle.jiter_scan.specs.PartialNumber.{begins_decimal};
-ghost use Rattle.jiter_steps.specs.Blank.{is_blank};
-ghost use Rattle.jiter_steps.specs.Literal.{start_of};
-ghost use Rattle.jiter_steps.specs.Node.{nesting_limit, number_tree};
-ghost use Rattle.jiter_steps.specs.PartialString.{HasTaken};
-ghost use Rattle.jiter_steps.specs.Step.{opening};
-ghost use Rattle.jiter_steps.specs.Tree.{string};
 ghost use Rattle.jiter_steps.specs.declared.parse.Start.TheVariants as start;
-ghost use Rattle.jiter_value.specs.Owned.{owned_text, tree_as};
-ghost use Rattle.jiter_value.specs.Value.{view};
 
 use crate::names::{Name, literal_value};
 use crate::reader::{Awaits, Reader, Token};

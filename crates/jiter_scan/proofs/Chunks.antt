@@ -145,10 +145,6 @@ module _ (test : ℕ → Bool) where
   all-pass [] h = tt
   all-pass (c ∷ w) h = let parts = and_parts (test c) (list_all test w) h in (parts.0, all-pass w parts.1)
 
-  pub pass-all : (w : List ℕ) → Pass test w → list_all test w ≡ true
-  pass-all [] h = refl
-  pass-all (c ∷ w) h = ap (λ b. b && list_all test w) h.0 ∙ pass-all w h.1
-
   -- the first n pass where no more than the first to fail stand after them
   pub prefix_len-pass : (n : ℕ) (w : List ℕ) → n ≤ prefix_len test w → Pass test (take n w)
   prefix_len-pass zero w h = tt

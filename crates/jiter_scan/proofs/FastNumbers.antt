@@ -1,6 +1,6 @@
 -- Numbers whose digits end within a chunk.
 use Rattle.jiter_scan.proofs.Words.{◌≡◌, ◌≢◌, ◌⊎◌, inl, inr, ℕ, ◌+◌, ◌-◌, ◌<◌, ◌≤◌, ◌==◌, ◌||◌, Bool, true, false, List}
-use Rattle.jiter_scan.proofs.Words.{[], ◌∷◌, ◌++◌, length, take, drop, get_or, refl, sym, ap, ◌∙◌, slice_range, arith}
+use Rattle.jiter_scan.proofs.Words.{[], ◌∷◌, subst, length, take, drop, get_or, refl, sym, ap, ◌∙◌, slice_range, arith}
 use Rattle.jiter_scan.proofs.Words.{slice_get, Option, Some, None, prefix_len, cases_lt, nat_tests, length-take}
 use Rattle.jiter_scan.proofs.Words.{get_or-drop, slice_get-get_or, slice_get_past, slice_get_within, is_digit}
 use Rattle.jiter_scan.proofs.Words.{digit_run_end, IsDigits, magnitude_of, IsPlainInteger, extent_then, int_part_at}
@@ -8,14 +8,14 @@ use Rattle.jiter_scan.proofs.Words.{fraction_at, exponent_at, decimal_at, fracti
 use Rattle.jiter_scan.proofs.Words.{power_from, is_float_sign, taken, Stands}
 use Rattle.std.proofs.lemmas.List.{get_or-take}
 use Rattle.jiter_scan.specs.FastNumber.{IsAlone}
-use Rattle.jiter_scan.proofs.Choices.{if-false, if-true, extent_then-taken}
+use Rattle.jiter_scan.proofs.Choices.{if-false, if-true}
 use Rattle.jiter_scan.proofs.Chunks.{prefix_len-prefix, prefix_len-pass, run_end-on}
 use Rattle.jiter_scan.proofs.Magnitudes.{slice_range-count}
 use Rattle.jiter_scan.proofs.NumberComplete.{int_part_at-complete}
 use Rattle.jiter_scan.proofs.NumberExtents.{decimal_at-tail, tail-parts}
-use Rattle.jiter_scan.proofs.NumberSound.{digits-sound, power-sound, exponent_at-sound}
+use Rattle.jiter_scan.proofs.NumberSound.{IsPast, digits-past, power-past}
 use Rattle.jiter_scan.proofs.Runs.{run_end-ahead, run_end-passes, run_end-passing, run_end-stops, run_end-within, NoDigit}
-use Rattle.jiter_scan.proofs.Standing.{stands-slice, stands-length, stands-within, stands-append}
+use Rattle.jiter_scan.proofs.Standing.{stands-slice}
 
 module _ (t : List ℕ) where
   -- digits that end within a chunk end in the text as in the chunk
@@ -202,26 +202,18 @@ module _ (t : List ℕ) where
         }
 
   -- a point or an exponent takes a byte or more
-  pub tail-place : (i e c : ℕ) → slice_get t i ≡ Some c → is_float_sign c ≡ true
-      → extent_then (fraction_at t i) (exponent_at t) ≡ taken tt e → (i + 1 ≤ e) × (e ≤ length t)
-  tail-place i e c here sign tail = by (c == 46) refl
-    where
-      ends : (w : List ℕ) → Stands t (i + 1) e w → (i + 1 ≤ e) × (e ≤ length t)
-      ends w s =
-          let inside = slice_get_within t i c here in
-          let n = stands-length t (i + 1) e w s in
-          (omega arith, stands-within t (i + 1) e w (omega arith) s)
+  pub tail-past : (i c : ℕ) → slice_get t i ≡ Some c → is_float_sign c ≡ true
+      → IsPast (i + 1) (length t) (extent_then (fraction_at t i) (exponent_at t))
+  tail-past i c here sign = by (c == 46) refl where
+    inside : i + 1 ≤ length t
+    inside = let within = slice_get_within t i c here in omega arith
 
-      by : (b : Bool) → (c == 46) ≡ b → (i + 1 ≤ e) × (e ≤ length t)
-      by true point =
-          let a = extent_then-taken _ _ _ _ tail in
-          let digits = ap (fraction_from t i) here ∙ if-true (c == 46) _ _ point in
-          let d = digits-sound t (i + 1) a.0 (sym digits ∙ a.1) in
-          let x = exponent_at-sound t a.0 e a.2 in
-          ends (d.0 ++ x.0) (stands-append t (i + 1) a.0 e d.0 x.0 d.1 x.1)
-      by false no_point =
-          let letter : ((c == 101) || (c == 69)) ≡ true = grind (arith, nat_tests) in
-          let power = ap (exponent_from t i) here ∙ if-true ((c == 101) || (c == 69)) _ _ letter in
-          let none = ap (λ x. extent_then x (exponent_at t)) (fraction_at-none i c here no_point) in
-          let p = power-sound t (i + 1) e (sym (none ∙ power) ∙ tail) in
-          ends p.0 p.1
+    by : (b : Bool) → (c == 46) ≡ b → IsPast (i + 1) (length t) (extent_then (fraction_at t i) (exponent_at t))
+    by true point =
+        let read = ap (fraction_from t i) here ∙ if-true (c == 46) _ _ point in
+        subst (λ x. IsPast (i + 1) (length t) (extent_then x (exponent_at t))) (sym read) (digits-past t (i + 1) inside)
+    by false no_point =
+        let letter : ((c == 101) || (c == 69)) ≡ true = grind (arith, nat_tests) in
+        let power = ap (exponent_from t i) here ∙ if-true ((c == 101) || (c == 69)) _ _ letter in
+        let none = ap (λ x. extent_then x (exponent_at t)) (fraction_at-none i c here no_point) in
+        subst (IsPast (i + 1) (length t)) (sym (none ∙ power)) (power-past t (i + 1) inside)

@@ -1,23 +1,14 @@
 -- The magnitude of a run of digits, by words of sixteen.
 use Rattle.jiter_scan.proofs.Words.{◌≡◌, ℕ, ◌+◌, ◌-◌, ◌*◌, ◌^◌, ◌<◌, ◌≤◌, length, take, drop, get_or, List, [], ◌∷◌}
 use Rattle.jiter_scan.proofs.Words.{◌++◌, sym, ap, ap₂, ◌∙◌, subst, slice_range, arith, drop-cons, pow-le-pow_right}
-use Rattle.jiter_scan.proofs.Words.{length-take, length-drop, Some, nat_le, prefix_len, is_digit, digit_run_end}
+use Rattle.jiter_scan.proofs.Words.{length-take, length-drop, prefix_len, is_digit, digit_run_end}
 use Rattle.jiter_scan.proofs.Words.{decimal_of, AreDigits, magnitude_of}
-use Rattle.jiter_scan.specs.Simd.{digits_end}
-use Rattle.jiter_scan.proofs.Choices.{if_gives}
 use Rattle.jiter_scan.proofs.Chunks.{prefix_len-prefix, prefix_len-pass}
 use Rattle.jiter_scan.proofs.Standing.{slice_range-split}
 use Rattle.jiter_scan.proofs.Digits.{decimal_of-append, decimal_of-below, decimal_of-above}
 
 pub slice_range-count : (t : List ℕ) (i n : ℕ) → slice_range t i (i + n) ≡ take n (drop i t)
 slice_range-count t i n = let count : i + n - i ≡ n = omega arith in ap (λ k. take k (drop i t)) count
-
--- where digits end within a limit
-pub digits_end-some : (t : List ℕ) (i limit e : ℕ) → Some e ≡ digits_end t i limit → e ≡ digit_run_end t i
-digits_end-some t i limit e h =
-    if_gives (nat_le (digit_run_end t i) (i + limit)) _ _ _ (sym h)
-    (λ few is. let same : e ≡ digit_run_end t i = cc in same)
-    (λ many is. let no : ⊥ = cc in absurd no)
 
 module _ (t : List ℕ) where
   -- digits of a run are digits of any chunk that begins as it
@@ -28,11 +19,16 @@ module _ (t : List ℕ) where
       let found = prefix_len-prefix is_digit n (drop i t) chunk (sym (prefix ∙ slice_range-count t i n)) counted in
       omega arith
 
+  -- and their value is that of the text from there to where they end
+  pub digits-value : (chunk : List ℕ) (i n e : ℕ) → take n chunk ≡ slice_range t i (i + n) → i + n ≡ e
+      → decimal_of (take n chunk) ≡ decimal_of (slice_range t i e)
+  digits-value chunk i n e prefix end = ap decimal_of prefix ∙ ap (λ k. decimal_of (slice_range t i k)) end
+
   module _ (i e : ℕ) (some : i ≤ e) (run : e ≤ digit_run_end t i) (within : e ≤ length t) where
     long : length (slice_range t i e) ≡ e - i
     long = omega (arith, length-take (e - i) (drop i t), length-drop i t)
 
-    are_digits : AreDigits (slice_range t i e)
+    pub are_digits : AreDigits (slice_range t i e)
     are_digits = let counted : e - i ≤ prefix_len is_digit (drop i t) =
         omega arith in prefix_len-pass is_digit (e - i) (drop i t) counted
 
@@ -63,17 +59,6 @@ module _ (t : List ℕ) where
         let above : 10 ^ length rest ≤ decimal_of (slice_range t i e) =
         subst (λ w. 10 ^ length rest ≤ decimal_of w) (sym whole) (decimal_of-above (get_or t i 0) rest first) in
         omega arith
-
-  -- a digit more
-  pub decimal_of-more : (i e : ℕ) → i ≤ e → e < length t
-      → decimal_of (slice_range t i (e + 1)) ≡ decimal_of (slice_range t i e) * 10 + (get_or t e 0 - 48)
-  decimal_of-more i e le lt =
-      let w = slice_range t i e in
-      let c = get_or t e 0 in
-      let one : slice_range t e (e + 1) ≡ c ∷ [] = slice_range-count t e 1 ∙ ap (take 1) (drop-cons t e 0 lt) in
-      let is : slice_range t i (e + 1) ≡ w ++ c ∷ [] =
-      slice_range-split t i e le (e + 1) (omega arith) ∙ ap (λ v. w ++ v) one in
-      ap decimal_of is ∙ omega (arith, decimal_of-append w (c ∷ []))
 
   -- the value of sixteen digits, and that of those after them
   pub decimal_of-joined : (i e a b : ℕ) → i + 16 ≤ e → e ≤ length t → a ≡ decimal_of (slice_range t i (i + 16))

@@ -39,6 +39,11 @@ Spelled t Is i (taken u e) = (w : List ℕ) × Stands t i e w × Is w
 Spelled t Is i (failed k j) =
     (i ≤ length t → (i ≤ j) × FaultAt t k j) × (can_end k ≡ true → Unfinished t Is i j)
 
+-- ends or fails at i or after it, and ends within so many bytes
+abbrev pub IsPast : ℕ → ℕ → Extent → Type 0
+IsPast i n (taken u e) = (i ≤ e) × (e ≤ n)
+IsPast i n (failed k j) = i ≤ j
+
 module _ (t : List ℕ) where
   abbrev Here : ℕ → ℕ → Type 0
   Here i c = slice_get t i ≡ Some c
@@ -179,6 +184,23 @@ module _ (t : List ℕ) where
 
   pub number-spelled : (names : Bool) (i : ℕ) → Spelled t (IsNumberText names) i (number_extent names t i)
   number-spelled names i = number t t Here Reads reads names i
+
+  -- what is spelled from there ends there or after it
+  spelled-past : (Is : Part) (i : ℕ) (x : Extent) → i ≤ length t → Spelled t Is i x → IsPast i (length t) x
+  spelled-past Is i (taken u e) le s =
+      (omega (arith, stands-length t i e s.0 s.1), stands-within t i e s.0 le s.1)
+  spelled-past Is i (failed k j) le s = (s.0 le).0
+
+  -- a fraction's digits and an exponent, or an exponent's power
+  pub digits-past : (i : ℕ) → i ≤ length t
+      → IsPast i (length t) (extent_then (digits_from t i (slice_get t i)) (exponent_at t))
+  digits-past i le =
+      spelled-past (Joined IsDigits IsExponent) i _ le
+      (joined IsDigits IsExponent i _ (exponent_at t) (inl refl) (digits t t Here Reads reads i)
+      (λ j. exponent t t Here Reads reads j))
+
+  pub power-past : (i : ℕ) → i ≤ length t → IsPast i (length t) (power_from t i (slice_get t i))
+  power-past i le = spelled-past Power i _ le (power t t Here Reads reads i)
 
   -- what is read stands there
   pub digits-sound : (i e : ℕ) → digits_from t i (slice_get t i) ≡ taken tt e

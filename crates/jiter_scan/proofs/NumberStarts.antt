@@ -1,6 +1,6 @@
 -- What a number begins with, after its minus: a name or a digit.
 use Rattle.jiter_scan.proofs.Words.{◌≡◌, ◌≢◌, inl, inr, ℕ, ◌+◌, ◌<◌, ◌≤◌, ◌==◌, Bool, true, false, List, length, get_or}
-use Rattle.jiter_scan.proofs.Words.{◌||◌, refl, sym, ap, ◌∙◌, subst, arith, ◌-◌, ◌&&◌, ◌∷◌, [], drop, take, slice_range}
+use Rattle.jiter_scan.proofs.Words.{◌||◌, ◌⊎◌, refl, sym, ap, ap₂, ◌∙◌, subst, arith, ◌-◌, ◌&&◌, ◌∷◌, [], drop, take, slice_range}
 use Rattle.jiter_scan.proofs.Words.{Option, Some, None, slice_get, if◌then◌else◌, codes, cases_lt, eq-eqb, eqb-true}
 use Rattle.jiter_scan.proofs.Words.{eqb-false, false≢true, ne_eqb, slice_get-get_or, slice_get_within}
 use Rattle.jiter_scan.proofs.Words.{get_or_from_slice_get, is_float_byte, is_integral, number_value, IsMinusTo}
@@ -8,22 +8,27 @@ use Rattle.jiter_scan.proofs.Words.{IsExtent, minus_end, after_minus, extent_fro
 use Rattle.jiter_scan.proofs.Words.{exponent_at, decimal_at, int_part_at, number_extent, int_at, int_part_from}
 use Rattle.jiter_scan.proofs.Words.{int_seen, integer_after, integer_after_minus, integer_from, integer_or_float}
 use Rattle.jiter_scan.proofs.Words.{is_float_sign, GoesTo, is_int_stage, number_from, tail_at, taken, Stands, Extent}
-use Rattle.jiter_scan.proofs.Words.{word_at, Stage}
+use Rattle.jiter_scan.proofs.Words.{word_at, Stage, Kind, after_zero, digit_run_end, failed, is_digit, nat_le}
 use Rattle.std.proofs.Math.Bool.{and-false}
+use Rattle.std.proofs.lemmas.Bool.{leb-false}
 use Rattle.std.proofs.lemmas.Option.{same_Some}
 use Rattle.jiter_scan.specs.NumberExtent.{IsNameFrom, IsDecimalFrom, IsFloatText}
 use Rattle.jiter_scan.specs.NumberExtent.{name_extent}
+use Rattle.jiter_scan.specs.NumberReading.{float_seen}
+use Rattle.std.specs.Prelude.{IfNone, is_some}
 use Rattle.jiter_scan.specs.declared.partial_number.Stage.TheVariants as stage
 use Rattle.jiter_scan.specs.declared.number_extent.Extent.TheVariants as found
 use Rattle.jiter_scan.proofs.Choices.{if_case, if_gives, if-true, if-false}
 use Rattle.jiter_scan.proofs.NumberBytes.{given-ascii, IsMinusTo-le, IsAscii-decimal, IsAscii-name}
 use Rattle.jiter_scan.proofs.Digits.{digit-bounds}
-use Rattle.jiter_scan.proofs.FastNumbers.{tail-place}
+use Rattle.jiter_scan.proofs.FastNumbers.{decimal_at-int_part, decimal_at-over, tail-past}
 use Rattle.jiter_scan.proofs.NumberExtents.{byte-got, decimal-digit}
 use Rattle.jiter_scan.proofs.NumberParts.{goes-reads, integral-append}
+use Rattle.jiter_scan.proofs.Magnitudes.{are_digits}
 use Rattle.jiter_scan.proofs.NumberRows.{IntPart}
-use Rattle.jiter_scan.proofs.NumberSound.{int_part_at-sound}
-use Rattle.jiter_scan.proofs.NumberValues.{number_value-name}
+use Rattle.jiter_scan.proofs.Runs.{run_end-ahead, run_end-here, run_end-more}
+use Rattle.jiter_scan.proofs.NumberSound.{IsPast, int_part_at-sound}
+use Rattle.jiter_scan.proofs.NumberValues.{digits-no_float, number_value-name}
 use Rattle.jiter_scan.proofs.OpenValues.{float-value, int-digits}
 use Rattle.jiter_scan.proofs.Standing.{slice_range-split, stands-length}
 
@@ -160,7 +165,7 @@ module _ (t : List ℕ) (i j e : ℕ) (inside : i < length t) (start : j ≡ min
       if_case (λ x. x ≡ taken (int_seen (number_value (slice_range t i e))) e) (is_float_sign c) _ _
       (λ sign.
       let tail = ap (λ x. extent_then x (tail_at t)) (sym int_part) ∙ decimal in
-      absurd (omega (arith, (tail-place t e e c h sign tail).0)))
+      absurd (omega (arith, (subst (IsPast (e + 1) (length t)) tail (tail-past t e c h sign)).0)))
       (λ _. refl)
 
   pub int_at-alone : int_at t i ≡ taken (int_seen (number_value (slice_range t i e))) e
@@ -178,7 +183,7 @@ minus-stage t j = by (slice_get t j) refl where
       if_case (λ x. decimal_at t j ≡ x) (c == 73) _ _ (λ yes. ap read (h ∙ ap (λ b. Some b) (eqb-true c 73 yes)))
       (λ no. refl)
 
-decimal-stages : (t : List ℕ) (j : ℕ) (s : Stage) (e : ℕ) → GoesTo stage.Minus t j s e
+pub decimal-stages : (t : List ℕ) (j : ℕ) (s : Stage) (e : ℕ) → GoesTo stage.Minus t j s e
     → decimal_at t j ≡ number_from false s t e
 decimal-stages t j s e go = minus-stage t j ∙ goes-reads false stage.Minus s t j e go
 
@@ -186,7 +191,127 @@ pub found_extent : (names : Bool) (t : List ℕ) (i j : ℕ) (s : Stage) (e : �
     → GoesTo stage.Minus t j s e → number_extent names t i ≡ number_from false s t e
 found_extent names t i j s e begins go = begins.extent names ∙ decimal-stages t j s e go
 
-int_part-some : (t : List ℕ) (i e : ℕ) → int_part_at t i ≡ taken tt e → i < e
+-- the digits of an integer part end where the run does, and what is wrong with them is no later
+abbrev IsIntRead : List ℕ → ℕ → Extent → Type 0
+IsIntRead t j (taken u e) = e ≡ digit_run_end t j
+IsIntRead t j (failed k m) = m ≤ digit_run_end t j
+
+int-read : (t : List ℕ) (j : ℕ) → IsIntRead t j (int_part_at t j)
+int-read t j = by (slice_get t j) refl where
+  end : ℕ
+  end = digit_run_end t j
+
+  zero : (o : Option ℕ) → slice_get t (j + 1) ≡ o → end ≡ digit_run_end t (j + 1) → IsIntRead t j (after_zero (j + 1) o)
+  zero None h more = sym (more ∙ run_end-here is_digit t (j + 1) None h tt)
+  zero (Some c) h more =
+      if_case (IsIntRead t j) (is_digit c) _ _ (λ _. omega (arith, more, run_end-ahead is_digit t (j + 1)))
+      (λ no. sym (more ∙ run_end-here is_digit t (j + 1) (Some c) h no))
+
+  by : (o : Option ℕ) → slice_get t j ≡ o → IsIntRead t j (int_part_from t j o)
+  by None h = run_end-ahead is_digit t j
+  by (Some c) h =
+      if_case (IsIntRead t j) (c == 48) _ _
+      (λ is. zero (slice_get t (j + 1)) refl (run_end-more is_digit t j c h (ap is_digit (eqb-true c 48 is))))
+      (λ _. if_case (IsIntRead t j) (is_digit c) _ _
+      (λ _. if_case (IsIntRead t j) (nat_le end (j + 4300)) _ _ (λ _. refl)
+      (λ many. let more = leb-false end (j + 4300) many in omega arith))
+      (λ _. run_end-ahead is_digit t j))
+
+-- the number's digits begin there where no name does
+pub begins-decimal : {A : Type 0} (o : Option A) (t : List ℕ) (i j : ℕ) → IfNone o (IsDecimalFrom t i j)
+    → is_some o ≡ false → IsDecimalFrom t i j
+begins-decimal None t i j h e = h
+begins-decimal (Some x) t i j h e = absurd (cc)
+
+-- What is read as an integer: its digits, unless a float shows after them. An error after the digits is a float's.
+module _ (t : List ℕ) (i j : ℕ) (begins : IsDecimalFrom t i j) (s : Stage) (e : ℕ) (go : GoesTo stage.Minus t j s e) where
+  abbrev digits : ℕ
+  digits = digit_run_end t j
+
+  record Fails : Type 0 where
+    kind : Kind
+    place : ℕ
+    int : int_at t i ≡ failed kind place
+    decimal : decimal_at t j ≡ failed kind place
+    within : place ≤ digits
+
+  record Shows : Type 0 where
+    int : int_at t i ≡ taken float_seen digits
+    within : digits < length t
+    decimal : IsPast (digits + 1) (length t) (decimal_at t j)
+
+  abbrev Shape : Type 0
+  Shape = Fails ⊎ (Shows ⊎ (decimal_at t j ≡ taken tt digits))
+
+  shape : Shape
+  shape = by (int_part_at t j) refl where
+    ends : int_part_at t j ≡ taken tt digits → (o : Option ℕ) → slice_get t digits ≡ o → Shape
+    ends int_part None h = inr (inr (decimal_at-over t j digits int_part h))
+    ends int_part (Some c) h = sign (is_float_sign c) refl where
+      sign : (b : Bool) → is_float_sign c ≡ b → Shape
+      sign true is = inr (inl (record {
+        int = begins.integer ∙ ap (integer_after t i) int_part ∙ ap (integer_or_float t i digits) h
+            ∙ if-true (is_float_sign c) _ _ is;
+        within = slice_get_within t digits c h;
+        decimal = subst (λ x. IsPast (digits + 1) (length t) (extent_then x (tail_at t))) (sym int_part)
+            (tail-past t digits c h is);
+      }))
+      sign false none = inr (inr (decimal_at-int_part t j digits c int_part h none))
+
+    by : (x : Extent) → int_part_at t j ≡ x → Shape
+    by (failed k m) q = inl (record {
+      kind = k;
+      place = m;
+      int = begins.integer ∙ ap (integer_after t i) q;
+      decimal = ap (λ x. extent_then x (tail_at t)) q;
+      within = subst (IsIntRead t j) q (int-read t j);
+    })
+    by (taken u d) q =
+        let same : d ≡ digits = subst (IsIntRead t j) q (int-read t j) in
+        ends (q ∙ ap (taken tt) same) (slice_get t digits) refl
+
+  pub int_at-fault : (k : Kind) (m : ℕ) → number_from false s t e ≡ failed k m → m ≤ digits → int_at t i ≡ failed k m
+  int_at-fault k m h le =
+      let read : decimal_at t j ≡ failed k m = decimal-stages t j s e go ∙ h in
+      elim shape [
+        | inl f ↦ let both = sym f.decimal ∙ read in
+            let kind : f.kind ≡ k = cc in
+            let place : f.place ≡ m = cc in
+            f.int ∙ ap₂ (λ a b. failed a b) kind place
+        | inr (inl f) ↦ let past : digits + 1 ≤ m = subst (IsPast (digits + 1) (length t)) read f.decimal in
+            absurd (omega (arith, past, le))
+        | inr (inr f) ↦ let both = sym f ∙ read in absurd (cc)
+      ]
+
+  -- the number ends with a float's stage, or fails after the digits
+  abbrev pub IsFloat : Extent → Type 0
+  IsFloat (taken u d) = (d ≡ e) × (is_int_stage s ≡ false)
+  IsFloat (failed k m) = digits < m
+
+  no-float : IsFloat (taken tt digits) → ⊥
+  no-float float =
+      let ahead : j ≤ digits = omega arith in
+      let plain = digits-no_float (slice_range t j digits)
+      (are_digits t j digits ahead (omega arith) (omega (arith, float.0, go.within))) in
+      let whole : is_integral (slice_range t j e) ≡ true =
+      ap (λ k. is_integral (slice_range t j k)) (sym float.0) ∙ ap (λ (b : Bool). if b then false else true) plain in
+      false≢true (sym float.1 ∙ go.int ∙ whole)
+
+  seen : (x : Extent) → number_from false s t e ≡ x → IsFloat x → (int_at t i ≡ taken float_seen digits) × (digits < length t)
+  seen x h float =
+      let read : decimal_at t j ≡ x = decimal-stages t j s e go ∙ h in
+      elim shape [
+        | inl f ↦ absurd (omega (arith, f.within, subst IsFloat (sym read ∙ f.decimal) float))
+        | inr (inl f) ↦ (f.int, f.within)
+        | inr (inr f) ↦ absurd (no-float (subst IsFloat (sym read ∙ f) float))
+      ]
+
+  pub int_at-float : (x : Extent) → number_from false s t e ≡ x → IsFloat x → i ≤ j → (run : ℕ) → run ≡ digits
+      → (int_at t i ≡ taken float_seen run) × (i ≤ run) × (run < length t)
+  int_at-float x h float le run is =
+      let r = seen x h float in (r.0 ∙ ap (taken float_seen) (sym is), omega arith, omega (arith, r.1))
+
+pub int_part-some : (t : List ℕ) (i e : ℕ) → int_part_at t i ≡ taken tt e → i < e
 int_part-some t i e h = by (int_part_at-sound t i e h) where
   by : (w : List ℕ) × Stands t i e w × IntPart w → i < e
   by ([], s, is) = absurd is.0
@@ -211,6 +336,10 @@ module _ (t : List ℕ) (i j : ℕ) where
     found_int int =
         let digits = int-digits t j j e (omega arith) go.within (sym go.int ∙ int) read in
         (minus, digits, int_part-some t j e digits, go.within)
+
+    pub found_alone : i < length t → j ≡ minus_end t i → is_int_stage s ≡ true
+        → (int_at t i ≡ taken (int_seen (number_value (slice_range t i e))) e) × IsExtent t i (found.Int j e)
+    found_alone inside start int = (int_at-alone t i j e inside start (found_int int).1 read, found_int int)
 
     pub found_float : is_int_stage s ≡ false → IsFloatText t i e
     found_float other =

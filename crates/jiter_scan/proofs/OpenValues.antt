@@ -1,13 +1,12 @@
 -- The value of a number that was read byte by byte.
 use Rattle.jiter_scan.proofs.Words.{◌≡◌, inl, inr, ℕ, ◌-◌, ◌^◌, ◌<◌, ◌≤◌, ◌==◌, Bool, true, false, List, [], ◌∷◌, ◌++◌}
 use Rattle.jiter_scan.proofs.Words.{append-nil, length, length-append, refl, sym, ap, subst, ◌∙◌, arith, nat_le, nat_lt}
-use Rattle.jiter_scan.proofs.Words.{codes, slice_get, slice_range, Option, Some, None, IfSome, if◌then◌else◌, take_all}
-use Rattle.jiter_scan.proofs.Words.{cases_lt, decimal_of, Number, integer, big, float, is_integral, integral_value}
+use Rattle.jiter_scan.proofs.Words.{codes, slice_get, slice_range, None, IfSome, if◌then◌else◌, take_all}
+use Rattle.jiter_scan.proofs.Words.{cases_lt, decimal_of, big, float, is_integral, integral_value}
 use Rattle.jiter_scan.proofs.Words.{number_value, IsName, IsNumberText, invalid_number, after_minus, minus_end}
-use Rattle.jiter_scan.proofs.Words.{decimal_at, int_part_at, number_extent, number_at, with_value, number_from, tail_at}
-use Rattle.jiter_scan.proofs.Words.{is_whole, is_int_stage, at_end, IsBegun, int_of, taken, failed, Stands, word_at}
+use Rattle.jiter_scan.proofs.Words.{decimal_at, int_part_at, number_extent, number_from, tail_at}
+use Rattle.jiter_scan.proofs.Words.{is_whole, is_int_stage, at_end, IsBegun, taken, failed, Stands, word_at}
 use Rattle.jiter_scan.proofs.Words.{Stage, continues_number}
-use Rattle.std.proofs.Common.{ℤ}
 use Rattle.jiter_scan.specs.declared.partial_number.Stage.TheVariants as stage
 use Rattle.jiter_scan.proofs.Choices.{if-true, if-false, if_case, if_gives, failed-taken, extent_then-taken}
 use Rattle.jiter_scan.proofs.NumberBytes.{number-not_empty}
@@ -31,13 +30,14 @@ some-bytes : (names : Bool) (w : List ℕ) → IsNumberText names w → 0 < leng
 some-bytes names [] h = absurd (number-not_empty names h)
 some-bytes names (c ∷ w) h = omega arith
 
-integral-big : (w : List ℕ) (e : ℕ) → int_of (taken (integral_value w) e) ≡ None → integral_value w ≡ big w
-integral-big [] e h = refl
-integral-big (c ∷ cs) e h =
-    if_case (λ x. int_of (taken x e) ≡ None → x ≡ big (c ∷ cs)) (c == 45) _ _
-    (λ _. if_case (λ x. int_of (taken x e) ≡ None → x ≡ big (c ∷ cs)) (nat_le (decimal_of cs) (2 ^ 63)) _ _
-    (λ _ g. absurd (cc)) (λ _ g. refl))
-    (λ _. if_case (λ x. int_of (taken x e) ≡ None → x ≡ big (c ∷ cs)) (nat_lt (decimal_of (c ∷ cs)) (2 ^ 63)) _ _
+-- an integer's text where 64 bits do not hold it
+integral-big : (w v : List ℕ) → big v ≡ integral_value w → big w ≡ integral_value w
+integral-big [] v h = refl
+integral-big (c ∷ cs) v h =
+    if_case (λ x. big v ≡ x → big (c ∷ cs) ≡ x) (c == 45) _ _
+    (λ _. if_case (λ x. big v ≡ x → big (c ∷ cs) ≡ x) (nat_le (decimal_of cs) (2 ^ 63)) _ _ (λ _ g. absurd (cc))
+    (λ _ g. refl))
+    (λ _. if_case (λ x. big v ≡ x → big (c ∷ cs) ≡ x) (nat_lt (decimal_of (c ∷ cs)) (2 ^ 63)) _ _
     (λ _ g. absurd (cc)) (λ _ g. refl))
     h
 
@@ -80,11 +80,6 @@ int-digits t i at e low within integral read =
       | inr past ↦ let same : j ≡ e = omega (arith, past, end) in part.1 ∙ ap (taken tt) same
     ]
 
-pub int-found : (x : Number) (e : ℕ) (n : ℤ) → int_of (taken x e) ≡ Some n → x ≡ integer n
-int-found (integer m) e n h = let same : m ≡ n = cc in ap integer same
-int-found (big w) e n h = absurd (cc)
-int-found (float w) e n h = absurd (cc)
-
 module _ (w : List ℕ) (s : Stage) (begun : IsBegun w s) (whole : is_whole s ≡ true) where
   extent-whole : number_extent false w 0 ≡ taken tt (length w)
   extent-whole =
@@ -97,11 +92,6 @@ module _ (w : List ℕ) (s : Stage) (begun : IsBegun w s) (whole : is_whole s �
   pub begun-some : 0 < length w
   begun-some = some-bytes false w is-text
 
-  pub begun-read : number_at false w 0 ≡ taken (number_value w) (length w)
-  unfolding number_at
-  begun-read =
-      ap (with_value w 0) extent-whole ∙ ap (λ v. taken (number_value v) (length w)) (whole-range w)
-
   module _ (int : is_int_stage s ≡ true) where
     integral : is_integral w ≡ true
     integral = begun.whole ∙ int
@@ -112,19 +102,9 @@ module _ (w : List ℕ) (s : Stage) (begun : IsBegun w s) (whole : is_whole s �
         int-digits w 0 (minus_end w 0) (length w) (omega arith) (omega arith) (ap is_integral (whole-range w) ∙ integral)
         (extent-digits w 0 (length w) begun-some extent-whole)
 
-    pub begun-big : int_of (number_at false w 0) ≡ None → number_value w ≡ big w
-    begun-big none =
-        let is = integral-is w integral in
-        let seen : int_of (taken (integral_value w) (length w)) ≡ None =
-        ap (λ x. int_of (taken x (length w))) (sym is) ∙ ap int_of (sym begun-read) ∙ none in
-        is ∙ integral-big w (length w) seen
-
-    pub begun-int : (n : ℤ) → int_of (number_at false w 0) ≡ Some n → number_value w ≡ integer n
-    begun-int n some = int-found (number_value w) (length w) n (ap int_of (sym begun-read) ∙ some)
-
-    pub begun-answer : (r : Option ℤ) → r ≡ int_of (number_at false w 0) → IfSome r (λ n. number_value w ≡ integer n)
-    begun-answer None h = tt
-    begun-answer (Some n) h = begun-int n (sym h)
+    -- which is that of the bytes where no integer of 64 bits is
+    pub begun-big : (v : List ℕ) → big v ≡ number_value w → big w ≡ number_value w
+    begun-big v h = let is = integral-is w integral in integral-big w v (h ∙ is) ∙ sym is
 
 -- ---- after its minus
 -- the last bytes stand after the others

@@ -10,7 +10,7 @@ pub use Rattle.jiter_scan.specs.NumberReading.{after_minus, after_zero, begins_n
 unfoldable pub use Rattle.jiter_scan.specs.NumberReading.{int_at, number_at}
 unfoldable pub use Rattle.jiter_scan.specs.NumberTests.{is_number_text}
 pub use Rattle.jiter_scan.specs.NumberWithin.{continues_number}
-pub use Rattle.jiter_scan.specs.PartialNumber.{GoesTo, HoldsNumber, IsBegun, at_end, int_of, is_int_stage, is_whole, number_from, tail_at, within_room}
+pub use Rattle.jiter_scan.specs.PartialNumber.{GoesTo, HoldsNumber, IsBegun, at_end, is_int_stage, is_whole, number_from, tail_at, within_room}
 pub use Rattle.jiter_scan.specs.Scan.{IsAsciiTo, Pass, is_ascii, is_plain, is_plain_ascii, run_end, scan_stop}
 pub use Rattle.jiter_scan.specs.Scanned.{Scanned, failed, taken}
 pub use Rattle.jiter_scan.specs.Simd.{ascii_from, failing, is_no_control, is_no_mark, less_zero}

@@ -18,3 +18,4 @@ pub mod PartialWord
 pub mod NumberWithin
 pub mod Simd
 pub mod FastNumber
+pub mod Words

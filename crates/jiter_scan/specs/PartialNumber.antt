@@ -1,11 +1,11 @@
 -- A number that arrives in pieces: what its reading is from the stage that was reached, in any text.
 use Rattle.std.specs.Prelude.{◌≡◌, ℕ, ◌+◌, ◌<◌, ◌==◌, ◌||◌, ◌&&◌, Bool, true, false, not, if◌then◌else◌, List}
 use Rattle.std.specs.Prelude.{◌++◌}
-use Rattle.std.specs.Prelude.{codes, length, nat_le, slice_get, slice_range, string_bytes, ℤ, Option, Some, None, ◌≤◌}
+use Rattle.std.specs.Prelude.{codes, length, nat_le, slice_get, slice_range, string_bytes, Some, ◌≤◌}
 use Rattle.std.specs.Str.{IsAscii}
 use Rattle.jiter_scan.specs.Ascii as ascii
 use Rattle.jiter_scan.specs.Kind.{invalid_number, number_out_of_range, eof_value}
-use Rattle.jiter_scan.specs.Scanned.{Scanned, taken, failed}
+use Rattle.jiter_scan.specs.Scanned.{taken, failed}
 use Rattle.jiter_scan.specs.Stands.{Stands}
 use Rattle.jiter_scan.specs.Word.{Extent, word_at}
 use Rattle.jiter_scan.specs.Digits.{is_digit, digit_run_end}
@@ -140,13 +140,6 @@ abbrev pub kind_view : NumberKind → List ℕ → Number
 kind_view (kind.Int n) w = integer n
 kind_view kind.BigInt w = big w
 kind_view kind.Float w = float w
-
--- an integer of 64 bits, if that was read
-abbrev pub int_of : Scanned Number → Option ℤ
-int_of (taken (integer n) e) = Some n
-int_of (taken (big w) e) = None
-int_of (taken (float w) e) = None
-int_of (failed k j) = None
 
 -- the bytes that were kept beside a number's value, or that it holds
 abbrev pub kept_bytes : OwnNumber → List ℕ → List ℕ

@@ -1,9 +1,8 @@
 //! Decimal digits, sixteen bytes at a time.
-ghost use Rattle.std.specs.Prelude.{◌≡◌, ℕ, List, ◌+◌, ◌*◌, ◌^◌, ◌<◌, ◌≤◌, length, take, drop, map, slice_range};
-ghost use Rattle.std.specs.Int.Digits.{number_from_digits, AllBelowBase};
-ghost use Rattle.std.specs.Simd.Lanes.{number_l};
-ghost use Rattle.jiter_scan.specs.Digits.{is_digit, digit_run_end, decimal_of};
-ghost use Rattle.jiter_scan.specs.Simd.{digits_end, failing, less_zero, IsEightBytes};
+ghost use Rattle.std.specs.Prelude.{◌≡◌, ℕ, List, ◌+◌, ◌*◌, ◌^◌, ◌<◌, ◌≤◌, length, take, drop, map};
+ghost use Rattle.std.specs.Prelude.{slice_range};
+ghost use Rattle.jiter_scan.specs.Words.{number_from_digits, AllBelowBase, number_l, is_digit, digit_run_end};
+ghost use Rattle.jiter_scan.specs.Words.{decimal_of, digits_end, failing, less_zero, IsEightBytes};
 
 use std::simd::prelude::*;
 

@@ -1,7 +1,7 @@
 //! The kinds of error, an error's position, and their texts.
 ghost use Rattle.std.specs.Prelude.{◌≡◌, ◌++◌, Some, IfOk, OnOk, codes, string_bytes};
-ghost use Rattle.jiter_scan.specs.Kind.{kind_of, fault_kind, kind_text, is_memory};
-ghost use Rattle.jiter_scan.specs.Position.{at_index, position_of, position_text, short_text, description_text};
+ghost use Rattle.jiter_scan.specs.Words.{kind_of, fault_kind, kind_text, is_memory, at_index, position_of};
+ghost use Rattle.jiter_scan.specs.Words.{position_text, short_text, description_text};
 
 use crate::memory::{AllocFailed, copy_text, push_number, push_text};
 use std::alloc::{AllocError, Global};
@@ -243,7 +243,7 @@ impl JsonError {
         Ok(self.describe(alloc, bytes)?)
     }
 
-    // The public call makes its `AllocError` from an `AllocFailed`, so it fails only if an allocation failed.
+    // An `AllocFailed` shows that an allocation failed. The public call's `AllocError` is made of one.
     fn describe(&self, alloc: Global, bytes: &[u8]) -> Result<String, AllocFailed>
         ensures { IfOk result (λ text. string_bytes text
             ≡ description_text (kind_of self.now.error_type) self.now.index bytes.now) }

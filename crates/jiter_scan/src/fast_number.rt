@@ -1,15 +1,10 @@
 //! The fast path for numbers: short ones are read sixteen bytes at a time, and the results are returned in registers.
-ghost use Rattle.std.specs.Prelude.{◌≡◌, ◌≢◌, ◌⊎◌, ◌==◌, ◌||◌, ◌<◌, ◌≤◌, ◌+◌, ◌^◌, IfSome, length, pos, slice_get, slice_range};
-ghost use Rattle.std.specs.Prelude.{slice_index, true, false};
-ghost use Rattle.std.specs.Prelude.{if◌then◌else◌};
+ghost use Rattle.std.specs.Prelude.{◌≡◌, ◌≢◌, ◌⊎◌, ◌==◌, ◌||◌, ◌<◌, ◌≤◌, ◌+◌, ◌^◌, IfSome, length, pos};
+ghost use Rattle.std.specs.Prelude.{slice_get, slice_range, slice_index, true, false, if◌then◌else◌};
+ghost use Rattle.jiter_scan.specs.Words.{decimal_of, digit_run_end, is_digit, minus_of, magnitude_of};
+ghost use Rattle.jiter_scan.specs.Words.{extent_then, digits_from, fraction_at, power_from, exponent_at};
+ghost use Rattle.jiter_scan.specs.Words.{is_float_sign, taken, IsPlainInteger, IsFastNumber, IsIntAlone};
 ghost use Rattle.jiter_scan.specs.Ascii as ascii;
-ghost use Rattle.jiter_scan.specs.Digits.{decimal_of, digit_run_end, is_digit};
-ghost use Rattle.jiter_scan.specs.Number.{minus_of};
-ghost use Rattle.jiter_scan.specs.NumberDecoder.{magnitude_of};
-ghost use Rattle.jiter_scan.specs.NumberReading.{extent_then, digits_from, fraction_at, power_from, exponent_at};
-ghost use Rattle.jiter_scan.specs.NumberReading.{is_float_sign};
-ghost use Rattle.jiter_scan.specs.Scanned.{taken};
-ghost use Rattle.jiter_scan.specs.FastNumber.{IsPlainInteger, IsFastNumber, IsIntAlone};
 
 use crate::decimal::{chunk_at, digit_count, digit_word, full_chunk_at, is_digit};
 use crate::number_decoder::{digits_magnitude, is_float_sign};
@@ -202,8 +197,8 @@ pub(crate) fn padded_number_at(bytes: &[u8], at: usize) -> FastNumber
     }
 }
 
-// The last bytes of the input are read with zeros after them. Returns an integer's magnitude and the index after it, or
-// the index 0. Both are in registers.
+// Reads the last bytes of the input, with zeros after them. Returns an integer's magnitude and the index after it, in
+// registers. The index is 0 if the slow path must read the number.
 #[cold]
 #[inline(never)]
 fn last_integer_at(bytes: &[u8], at: usize) -> (u64, usize)

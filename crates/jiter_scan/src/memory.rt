@@ -1,12 +1,9 @@
 //! The requests for memory that the parser makes. One that fails returns a [`AllocFailed`], which only this module can
 //! make.
-ghost use Rattle.std.specs.Prelude.{◌≡◌, ◌+◌, ◌^◌, ◌<◌, ◌≤◌, ◌∷◌, ◌++◌, [], take, drop, IfOk, OnOk, OnErr, decimal};
-ghost use Rattle.std.specs.Prelude.{length, replicate, string_bytes, string_capacity, string_len, vec_capacity};
-ghost use Rattle.std.specs.Prelude.{false, not, true, vec_len};
-ghost use Rattle.std.specs.BTreeSet.{contains, insert_key};
-ghost use Rattle.std.specs.Char.{encode_utf8};
-ghost use Rattle.std.specs.Str.{IsAscii};
-ghost use Rattle.smallvec.specs.SmallVec.{HasRoomFor};
+ghost use Rattle.std.specs.Prelude.{◌≡◌, ◌+◌, ◌^◌, ◌<◌, ◌≤◌, ◌∷◌, ◌++◌, [], take, drop, IfOk, OnOk, OnErr};
+ghost use Rattle.std.specs.Prelude.{decimal, length, replicate, string_bytes, string_capacity, string_len};
+ghost use Rattle.std.specs.Prelude.{vec_capacity, false, not, true, vec_len, encode_utf8, IsAscii};
+ghost use Rattle.jiter_scan.specs.Words.{contains, insert_key, HasRoomFor};
 
 use crate::text::ascii_text;
 use smallvec::SmallVec;

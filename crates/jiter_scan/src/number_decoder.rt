@@ -1,22 +1,20 @@
 //! Numbers (RFC 8259, 6): integers that an `i64` holds, and the source text of all others.
-ghost use Rattle.std.specs.Prelude.{◌≡◌, ◌+◌, ◌<◌, ◌≤◌, ◌==◌, ◌||◌, IfOk, min, length, slice_get, slice_index};
-ghost use Rattle.std.specs.Prelude.{slice_range, Some, true};
-ghost use Rattle.std.specs.Str.{IsAscii};
+ghost use Rattle.std.specs.Prelude.{◌≡◌, ◌+◌, ◌<◌, ◌≤◌, ◌==◌, ◌||◌, IfOk, min, length, slice_get};
+ghost use Rattle.std.specs.Prelude.{slice_index, slice_range, Some, true, IsAscii};
+ghost use Rattle.jiter_scan.specs.Words.{Scans, with_end, whole_text, AnswersAlone, taken, word_at};
+ghost use Rattle.jiter_scan.specs.Words.{digit_run_end, decimal_of, is_float_byte, positive_value};
+ghost use Rattle.jiter_scan.specs.Words.{negative_value, number_value, int_part_at, decimal_at};
+ghost use Rattle.jiter_scan.specs.Words.{is_float_sign, after_minus, name_at, with_value, number_at, int_at};
+ghost use Rattle.jiter_scan.specs.Words.{integer_after, integer_after_minus, begins_number, number_alone};
+ghost use Rattle.jiter_scan.specs.Words.{int_alone, int_view, number_view, integer_view, EndsWithin};
+ghost use Rattle.jiter_scan.specs.Words.{magnitude_of, IsMinusTo};
 ghost use Rattle.jiter_scan.specs.Ascii as ascii;
-ghost use Rattle.jiter_scan.specs.Scanned.{Scans, with_end, whole_text, AnswersAlone, taken};
-ghost use Rattle.jiter_scan.specs.Word.{word_at};
-ghost use Rattle.jiter_scan.specs.Digits.{digit_run_end, decimal_of};
-ghost use Rattle.jiter_scan.specs.Number.{is_float_byte, positive_value, negative_value, number_value};
-ghost use Rattle.jiter_scan.specs.NumberReading.{int_part_at, decimal_at, is_float_sign, after_minus, name_at};
-ghost use Rattle.jiter_scan.specs.NumberReading.{with_value, number_at, int_at, integer_after, integer_after_minus};
-ghost use Rattle.jiter_scan.specs.NumberReading.{begins_number, number_alone, int_alone};
-ghost use Rattle.jiter_scan.specs.NumberDecoder.{int_view, number_view, integer_view, EndsWithin, magnitude_of};
-ghost use Rattle.jiter_scan.specs.NumberDecoder.{IsMinusTo};
 
-use crate::decimal::{chunk_at, digit_word, joined};
+use crate::decimal::{chunk_at, digit_run_end, digit_word, joined};
 use crate::errors::{Fault, FaultKind, JsonError, JsonResult, fault_at};
 use crate::fast_number::{FastNumber, fast_number_at};
-use crate::number_extent::{Extent, int_part_end, minus_end, name_from, number_extent};
+use crate::number_extent::{Extent, minus_end, name_from, number_extent};
+use crate::partial_number::{Stage, is_int_stage, stages_end};
 use crate::text::ascii_text;
 use crate::word::byte_at;
 
@@ -114,13 +112,8 @@ fn int_alone<'j>(bytes: &'j [u8]) -> Result<NumberInt<'j>, Fault>
         return Err(fault_at(FaultKind::InvalidNumber, 0));
     }
     match int_at(bytes, 0) {
-        Ok((Integer::Whole(number), end)) => {
-            if end == bytes.len() {
-                Ok(number)
-            } else {
-                Err(fault_at(FaultKind::InvalidNumber, end))
-            }
-        }
+        Ok((Integer::Whole(number), end)) if end == bytes.len() => Ok(number),
+        Ok((Integer::Whole(_), end)) => Err(fault_at(FaultKind::InvalidNumber, end)),
         Ok((Integer::FloatSeen, index)) => Err(fault_at(FaultKind::InvalidNumber, index)),
         Err(fault) => Err(fault),
     }
@@ -156,15 +149,6 @@ const INT_LIMIT: u64 = 1 << 63;
 // The least number of twenty digits.
 const MAGNITUDE_LIMIT: u64 = 10_000_000_000_000_000_000;
 
-#[inline(always)]
-fn digits_value(bytes: &[u8], at: usize, end: usize) -> u64
-    requires some { (at < end) × (end ≤ at + 16) }
-    requires digits { (end ≤ digit_run_end bytes.now at) × (end ≤ length bytes.now) }
-    ensures { result ≡ decimal_of (slice_range bytes.now at end) }
-{
-    digit_word(chunk_at(bytes, at), end - at)
-}
-
 // No `i64` has twenty digits, so the exact value of a longer integer doesn't matter: the result is `MAGNITUDE_LIMIT`.
 #[inline(always)]
 pub(crate) fn digits_magnitude(bytes: &[u8], at: usize, end: usize) -> u64
@@ -174,15 +158,15 @@ pub(crate) fn digits_magnitude(bytes: &[u8], at: usize, end: usize) -> u64
     ensures { result ≡ magnitude_of (slice_range bytes.now at end) }
 {
     let count = end - at;
-    if count <= 16 {
-        digits_value(bytes, at, end)
-    } else if count <= 19 {
-        let prefix = digits_value(bytes, at, at + 16);
-        let back = digits_value(bytes, at + 16, end);
-        joined(prefix, back, count - 16)
-    } else {
-        MAGNITUDE_LIMIT
+    if count > 19 {
+        return MAGNITUDE_LIMIT;
     }
+    let first = digit_word(chunk_at(bytes, at), count.min(16));
+    if count <= 16 {
+        return first;
+    }
+    let back = digit_word(chunk_at(bytes, at + 16), count - 16);
+    joined(first, back, count - 16)
 }
 
 fn positive_int<'j>(text: &'j [u8], magnitude: u64) -> NumberInt<'j>
@@ -307,6 +291,7 @@ pub(crate) fn is_float_sign(byte: u8) -> bool
     matches!(byte, b'.' | b'e' | b'E')
 }
 
+// An error after the first digits is one of a float.
 #[cold]
 #[inline(never)]
 fn slow_int_at<'j>(bytes: &'j [u8], at: usize) -> Result<(Integer<'j>, usize), Fault>
@@ -318,12 +303,21 @@ fn slow_int_at<'j>(bytes: &'j [u8], at: usize) -> Result<(Integer<'j>, usize), F
     if name_from(bytes, at, digits).is_some() {
         return Ok((Integer::FloatSeen, digits));
     }
-    let end = int_part_end(bytes, digits)?;
-    if byte_at(bytes, end).is_some_and(is_float_sign) {
-        return Ok((Integer::FloatSeen, end));
+    let (stage, end, ended) = stages_end(Stage::Minus, bytes, digits);
+    match ended {
+        Ok(()) if is_int_stage(stage) => {
+            let number = long_integer(bytes, at, digits, end);
+            Ok((Integer::Whole(number), end))
+        }
+        Ok(()) => Ok((Integer::FloatSeen, digit_run_end(bytes, digits))),
+        Err(fault) => {
+            let float = digit_run_end(bytes, digits);
+            if fault.index <= float {
+                return Err(fault);
+            }
+            Ok((Integer::FloatSeen, float))
+        }
     }
-    let number = long_integer(bytes, at, digits, end);
-    Ok((Integer::Whole(number), end))
 }
 
 /// Returns the integer at `at` and the index after it (RFC 8259, 6). For a float, returns the index of the first byte

@@ -1,13 +1,9 @@
 //! Finds where numbers end, without their values (RFC 8259, 6).
 ghost use Rattle.std.specs.Prelude.{◌≡◌, ◌+◌, ◌<◌, ◌≤◌, Bool, IfOk, IfSome, IfNone, length, slice_get};
-ghost use Rattle.jiter_scan.specs.Digits.{digit_run_end};
-ghost use Rattle.jiter_scan.specs.NumberReading.{after_zero, within_limit, int_part_at, number_extent};
-ghost use Rattle.jiter_scan.specs.NumberDecoder.{IsMinusTo};
-ghost use Rattle.jiter_scan.specs.NumberExtent.{IsDecimalFrom, IsExtent, IsNameFrom, extent_end, minus_end};
-ghost use Rattle.jiter_scan.specs.NumberExtent.{name_extent};
-ghost use Rattle.jiter_scan.specs.Scanned.{Scans, taken};
+ghost use Rattle.jiter_scan.specs.Words.{digit_run_end, after_zero, within_limit, int_part_at, number_extent};
+ghost use Rattle.jiter_scan.specs.Words.{IsMinusTo, IsDecimalFrom, IsExtent, IsNameFrom, extent_end};
+ghost use Rattle.jiter_scan.specs.Words.{minus_end, name_extent, Scans, taken};
 
-use crate::decimal::{digits_end, is_digit};
 use crate::errors::{Fault, FaultKind, fault_at};
 use crate::fast_number::{FastNumber, padded_number_at};
 use crate::partial_number::{Stage, is_int_stage, stages_end};
@@ -15,57 +11,6 @@ use crate::word::{byte_at, word_end};
 
 /// How many bytes the fast path may read for a short number: a minus, and 65 from its first digit on.
 pub const NUMBER_REACH: usize = 66;
-
-// The most digits that an integer part may have.
-const DIGIT_LIMIT: usize = 4300;
-
-// No digit may follow a leading zero.
-fn zero_end(bytes: &[u8], at: usize) -> Result<usize, Fault>
-    ensures value { Scans (taken tt) result (after_zero at (slice_get bytes.now at)) }
-    ensures place { IfOk result (λ e. e ≡ at) }
-{
-    match byte_at(bytes, at) {
-        None => Ok(at),
-        Some(byte) => {
-            if is_digit(byte) {
-                Err(fault_at(FaultKind::InvalidNumber, at))
-            } else {
-                Ok(at)
-            }
-        }
-    }
-}
-
-fn limited_end(bytes: &[u8], at: usize) -> Result<usize, Fault>
-    requires within { at ≤ length bytes.now }
-    requires some { at < digit_run_end bytes.now at }
-    ensures value { Scans (taken tt) result (within_limit at (digit_run_end bytes.now at)) }
-    ensures place { IfOk result (λ e. (at < e) × (e ≤ length bytes.now)) }
-{
-    match digits_end(bytes, at, DIGIT_LIMIT) {
-        Some(end) => Ok(end),
-        None => Err(fault_at(FaultKind::NumberOutOfRange, at + (DIGIT_LIMIT + 1))),
-    }
-}
-
-pub(crate) fn int_part_end(bytes: &[u8], at: usize) -> Result<usize, Fault>
-    requires { at ≤ length bytes.now }
-    ensures value { Scans (taken tt) result (int_part_at bytes.now at) }
-    ensures place { IfOk result (λ e. (at < e) × (e ≤ length bytes.now)) }
-{
-    match byte_at(bytes, at) {
-        None => Err(fault_at(FaultKind::EofWhileParsingValue, at)),
-        Some(byte) => {
-            if byte == b'0' {
-                zero_end(bytes, at + 1)
-            } else if is_digit(byte) {
-                limited_end(bytes, at)
-            } else {
-                Err(fault_at(FaultKind::InvalidNumber, at))
-            }
-        }
-    }
-}
 
 // What a number is, and where it ends.
 #[derive(Clone, Copy)]

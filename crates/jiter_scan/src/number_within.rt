@@ -7,17 +7,10 @@ use crate::number_decoder::{NumberAny, number_at};
 
 // A complete number ends with a digit, so a sign doesn't continue it.
 #[inline(always)]
-fn continues_number(byte: u8) -> bool
-    ensures { result ≡ continues_number byte }
-{
-    matches!(byte, b'0'..=b'9' | b'.' | b'e' | b'E')
-}
-
-#[inline(always)]
 fn ends_number(piece: &[u8], end: usize) -> bool
     ensures { result ≡ true → EndsNumber piece.now end }
 {
-    end < piece.len() && !continues_number(piece[end])
+    end < piece.len() && !matches!(piece[end], b'0'..=b'9' | b'.' | b'e' | b'E')
 }
 
 /// Returns the number at `at` and the index after it, if the chunk also has the byte that ends it.
@@ -28,13 +21,7 @@ pub fn number_within(piece: &[u8], at: usize) -> Option<(NumberAny<'_>, usize)>
     ensures { IfSome result (λ found. EndsWithin piece.now at (number_view found.0) found.1) }
 {
     match number_at(piece, at, false) {
-        Ok((number, end)) => {
-            if ends_number(piece, end) {
-                Some((number, end))
-            } else {
-                None
-            }
-        }
-        Err(_) => None,
+        Ok((number, end)) if ends_number(piece, end) => Some((number, end)),
+        _ => None,
     }
 }

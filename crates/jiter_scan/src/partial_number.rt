@@ -1,16 +1,13 @@
 //! Numbers that a chunk may truncate (RFC 8259, 6). All bytes of a chunk that continue a number are taken at once, and
 //! a stage says how far it was read.
-ghost use Rattle.std.specs.Prelude.{◌≡◌, ◌+◌, ◌-◌, ◌<◌, ◌≤◌, ◌++◌, [], Bool, IfOk, IfSome, List, None, OnErr, OnOk, Some};
-ghost use Rattle.std.specs.Prelude.{false, length, slice_get, slice_index, slice_range, string_bytes, string_capacity};
-ghost use Rattle.std.specs.Prelude.{string_len, true, ℕ};
-ghost use Rattle.std.specs.Str.{IsAscii};
-ghost use Rattle.jiter_scan.specs.Number.{big, integer, is_float_byte, number_value};
-ghost use Rattle.jiter_scan.specs.NumberExtent.{minus_end};
-ghost use Rattle.jiter_scan.specs.NumberReading.{exponent_at, decimal_at, int_part_at, number_extent, number_at};
-ghost use Rattle.jiter_scan.specs.Scanned.{Scans, taken};
-ghost use Rattle.jiter_scan.specs.PartialNumber.{BeginsThere, Fits, GoesTo, HoldsNumber, IsBegun, Leads, at_end, begins_decimal};
-ghost use Rattle.jiter_scan.specs.PartialNumber.{int_of, is_int_stage, is_whole, kept_bytes, kind_view};
-ghost use Rattle.jiter_scan.specs.PartialNumber.{number_by, number_from, own_view, tail_at};
+ghost use Rattle.std.specs.Prelude.{◌≡◌, ◌+◌, ◌-◌, ◌<◌, ◌≤◌, ◌++◌, [], Bool, IfOk, IfSome, List, None, OnErr};
+ghost use Rattle.std.specs.Prelude.{OnOk, Some, false, length, slice_get, slice_index, slice_range};
+ghost use Rattle.std.specs.Prelude.{string_bytes, string_capacity, string_len, true, ℕ, IsAscii};
+ghost use Rattle.jiter_scan.specs.Words.{big, integer, is_float_byte, number_value, minus_end, exponent_at};
+ghost use Rattle.jiter_scan.specs.Words.{decimal_at, int_part_at, number_extent, number_at, Scans, taken};
+ghost use Rattle.jiter_scan.specs.Words.{BeginsThere, Fits, GoesTo, HoldsNumber, IsBegun, Leads, at_end};
+ghost use Rattle.jiter_scan.specs.Words.{begins_decimal, is_int_stage, is_whole, kept_bytes, kind_view};
+ghost use Rattle.jiter_scan.specs.Words.{number_by, number_from, own_view, tail_at};
 
 use crate::decimal::{digit_run_end, is_digit};
 use crate::errors::{Fault, FaultKind, fault_at};
@@ -123,19 +120,6 @@ fn next_of(stage: Stage, byte: u8) -> Went
         Stage::Zero | Stage::Digits(_) if byte == b'.' => Went::Taken(Stage::Point),
         Stage::Zero | Stage::Digits(_) | Stage::Fraction if letter => Went::Taken(Stage::Letter),
         Stage::Zero | Stage::Digits(_) | Stage::Fraction | Stage::Exponent => Went::Over,
-    }
-}
-
-// The value of an integer, if an `i64` holds it. At most 20 bytes are read: the minus and nineteen digits.
-fn integer_in(text: &[u8]) -> Option<i64>
-    requires some { 0 < length text.now }
-    requires digits { int_part_at text.now (minus_end text.now 0) ≡ taken tt (length text.now) }
-    requires read { number_at false text.now 0 ≡ taken (number_value text.now) (length text.now) }
-    ensures { result ≡ int_of (number_at false text.now 0) }
-{
-    match long_integer(text, 0, minus_end(text, 0), text.len()) {
-        NumberInt::Int(number) => Some(number),
-        NumberInt::BigInt(_) => None,
     }
 }
 
@@ -314,16 +298,6 @@ impl PartialNumber {
         is_whole(self.stage)
     }
 
-    fn small_integer(&self) -> Option<i64>
-        requires begun { IsBegun (string_bytes self.now.text) self.now.stage }
-        requires whole { is_whole self.now.stage ≡ true }
-        requires int { is_int_stage self.now.stage ≡ true }
-        ensures some { IfSome result (λ n. number_value (string_bytes self.now.text) ≡ integer n) }
-        ensures none { result ≡ None → number_value (string_bytes self.now.text) ≡ big (string_bytes self.now.text) }
-    {
-        integer_in(self.text.as_bytes())
-    }
-
     /// Returns what the number is. The bytes so far must be a number. At most 20 bytes are read.
     pub fn kind(&self) -> NumberKind
         requires begun { IsBegun (string_bytes self.now.text) self.now.stage }
@@ -333,9 +307,10 @@ impl PartialNumber {
         if !is_int_stage(self.stage) {
             return NumberKind::Float;
         }
-        match self.small_integer() {
-            Some(number) => NumberKind::Int(number),
-            None => NumberKind::BigInt,
+        let text = self.text.as_bytes();
+        match long_integer(text, 0, minus_end(text, 0), text.len()) {
+            NumberInt::Int(number) => NumberKind::Int(number),
+            NumberInt::BigInt(_) => NumberKind::BigInt,
         }
     }
 

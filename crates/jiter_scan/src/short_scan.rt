@@ -41,7 +41,7 @@ fn look_of(bytes: &[u8], to: usize, ascii: bool) -> Look
     }
 }
 
-// For a string that has fewer than sixteen bytes after `from`, or goes on after sixteen.
+// The slow path: fewer than sixteen bytes are left after `from`, or the string doesn't end within sixteen.
 #[inline(always)]
 fn far_look(bytes: &[u8], from: usize) -> (usize, Look)
     requires { from ≤ length bytes.now }

@@ -1,11 +1,8 @@
 //! A tape: a buffer of which only the first bytes count. The bytes after them are free, so that sixteen can be written
 //! at once.
-ghost use Rattle.std.specs.Prelude.{◌≡◌, ◌+◌, ◌^◌, ◌<◌, ◌≤◌, ◌++◌, IfOk, OnOk, length, take};
-ghost use Rattle.std.specs.Prelude.{slice_range, vec_len};
-ghost use Rattle.std.specs.Char.{encode_utf8};
-ghost use Rattle.std.specs.Simd.Lanes.{chunk};
-ghost use Rattle.jiter_scan.specs.Scan.{is_plain, is_ascii};
-ghost use Rattle.jiter_scan.specs.Simd.{failing};
+ghost use Rattle.std.specs.Prelude.{◌≡◌, ◌+◌, ◌^◌, ◌<◌, ◌≤◌, ◌++◌, IfOk, OnOk, length, take, slice_range};
+ghost use Rattle.std.specs.Prelude.{vec_len, encode_utf8};
+ghost use Rattle.jiter_scan.specs.Words.{chunk, is_plain, is_ascii, failing};
 
 use crate::memory::{AllocFailed, lengthen};
 use crate::simd::{highs, stops};

@@ -1,9 +1,8 @@
 //! Words such as `true`, read from the left.
 ghost use Rattle.std.specs.Prelude.{◌≡◌, ◌+◌, ◌<◌, ◌≤◌, IfOk, IfErr, IfSome, length, slice_get};
-ghost use Rattle.jiter_scan.specs.Scanned.{Scans, taken};
-ghost use Rattle.jiter_scan.specs.Word.{word_at};
+ghost use Rattle.jiter_scan.specs.Words.{Scans, taken, word_at};
 
-use crate::errors::{Fault, FaultKind};
+use crate::errors::{Fault, FaultKind, fault_at};
 
 /// Returns the byte at an index, or `None` at or past the length.
 pub fn byte_at(bytes: &[u8], index: usize) -> Option<u8>
@@ -25,20 +24,11 @@ pub fn word_end(bytes: &[u8], from: usize, word: &[u8]) -> Result<usize, Fault>
     let mut index = from;
     for expected in word {
         match byte_at(bytes, index) {
-            None => {
-                return Err(Fault {
-                    kind: FaultKind::EofWhileParsingValue,
-                    index,
-                });
+            None => return Err(fault_at(FaultKind::EofWhileParsingValue, index)),
+            Some(byte) if byte != *expected => {
+                return Err(fault_at(FaultKind::ExpectedSomeIdent, index));
             }
-            Some(byte) => {
-                if byte != *expected {
-                    return Err(Fault {
-                        kind: FaultKind::ExpectedSomeIdent,
-                        index,
-                    });
-                }
-            }
+            Some(_) => {}
         }
         index += 1;
     }

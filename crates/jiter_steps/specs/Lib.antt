@@ -22,3 +22,4 @@ pub mod FirstFault
 pub mod Skip
 pub mod Found
 pub mod Unique
+pub mod Words

@@ -1,7 +1,6 @@
 //! Finds the end of whitespace (RFC 8259, 2).
 ghost use Rattle.std.specs.Prelude.{◌≡◌, ◌≤◌, length};
-ghost use Rattle.jiter_scan.specs.Simd.{failing};
-ghost use Rattle.jiter_steps.specs.Blank.{is_blank, past_blanks};
+ghost use Rattle.jiter_steps.specs.Words.{failing, is_blank, past_blanks};
 
 use std::simd::prelude::*;
 
@@ -23,21 +22,6 @@ fn no_blanks(v: u8x16) -> u64
         & v.simd_ne(u8x16::splat(b'\r'))).to_bitmask()
 }
 
-// One byte at a time.
-#[inline(always)]
-fn blank_bytes_end(bytes: &[u8], from: usize) -> usize
-    requires { from ≤ length bytes.now }
-    ensures value { result ≡ past_blanks bytes.now from }
-    ensures bound { result ≤ length bytes.now }
-    ensures after { from ≤ result }
-{
-    let mut at = from;
-    while at < bytes.len() && is_blank(bytes[at]) {
-        at += 1;
-    }
-    at
-}
-
 // In the common case at most one byte is whitespace, and two bytes are enough. Otherwise sixteen are read at a time.
 #[inline(never)]
 pub(crate) fn blanks_end(bytes: &[u8], from: usize) -> usize
@@ -54,14 +38,17 @@ pub(crate) fn blanks_end(bytes: &[u8], from: usize) -> usize
         };
     }
     let mut at = from;
-    while bytes.len() - at >= 16 {
+    'chunks: while bytes.len() - at >= 16 {
         let others = no_blanks(u8x16::from_slice(&bytes[at..]));
         if others != 0 {
             return at + others.trailing_zeros() as usize;
         }
         at += 16;
     }
-    blank_bytes_end(bytes, at)
+    'bytes: while at < bytes.len() && is_blank(bytes[at]) {
+        at += 1;
+    }
+    at
 }
 
 /// Returns the index of the first byte from `from` on that is not whitespace, or the length (RFC 8259, 2).

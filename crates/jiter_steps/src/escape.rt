@@ -1,12 +1,10 @@
 //! Reads what ends a run of a string's plain bytes (RFC 8259, 7): an escape, or the end of the string.
-ghost use Rattle.std.specs.Prelude.{◌≡◌, ◌≢◌, ◌+◌, ◌<◌, ◌≤◌, length, true, false, slice_get};
-ghost use Rattle.std.specs.Prelude.{IfSome, Some, None};
-ghost use Rattle.std.specs.Char.{digit_value, encode_utf8};
-ghost use Rattle.jiter_scan.specs.Scan.{is_stop};
-ghost use Rattle.jiter_steps.specs.Escape.{short_escape, is_hex, is_high, is_low};
-ghost use Rattle.jiter_steps.specs.StringReading.{number, part, hex_digits_at, event_at, unit_then, after_backslash};
-ghost use Rattle.jiter_steps.specs.StringReading.{unicode_escape, after_high, after_high_backslash, surrogate_pair};
-ghost use Rattle.jiter_steps.specs.StringDecoder.{digits_view, IfNumber, event_view};
+ghost use Rattle.std.specs.Prelude.{◌≡◌, ◌≢◌, ◌+◌, ◌<◌, ◌≤◌, length, true, false, slice_get, IfSome, Some};
+ghost use Rattle.std.specs.Prelude.{None, encode_utf8};
+ghost use Rattle.jiter_steps.specs.Words.{digit_value, is_stop, short_escape, is_hex, is_high, is_low};
+ghost use Rattle.jiter_steps.specs.Words.{number, part, hex_digits_at, event_at, unit_then, after_backslash};
+ghost use Rattle.jiter_steps.specs.Words.{unicode_escape, after_high, after_high_backslash, surrogate_pair};
+ghost use Rattle.jiter_steps.specs.Words.{digits_view, IfNumber, event_view};
 ghost use Rattle.jiter_steps.specs.declared.escape.StringEvent.TheVariants as at_stop;
 ghost use Rattle.jiter_steps.specs.declared.escape.StringEnd.TheVariants as ending;
 
@@ -73,17 +71,6 @@ fn simple_escape_of(letter: u8) -> u8
     SIMPLE_ESCAPES[letter as usize]
 }
 
-#[inline(always)]
-fn short_escape(letter: u8) -> Option<u8>
-    ensures value { result ≡ short_escape letter }
-    ensures ascii { IfSome result (λ c. c < 128) }
-{
-    match simple_escape_of(letter) {
-        0 => None,
-        sign => Some(sign),
-    }
-}
-
 fn is_high(unit: u32) -> bool
     ensures value { result ≡ is_high unit }
 {
@@ -147,24 +134,17 @@ fn low_surrogate(bytes: &[u8], high: u32, at: usize) -> StringEvent
     }
 }
 
-fn after_high_backslash(bytes: &[u8], high: u32, at: usize) -> StringEvent
-    requires high { is_high high ≡ true }
-    ensures value { event_view result ≡ after_high_backslash bytes.now high at (slice_get bytes.now at) }
-{
-    match byte_at(bytes, at) {
-        None => StringEvent::End(StringEnd::Cut),
-        Some(b'u') => low_surrogate(bytes, high, at + 1),
-        Some(_) => wrong(FaultKind::UnexpectedEndOfHexEscape, at),
-    }
-}
-
 fn after_high(bytes: &[u8], high: u32, at: usize) -> StringEvent
     requires high { is_high high ≡ true }
     ensures value { event_view result ≡ after_high bytes.now high at (slice_get bytes.now at) }
 {
     match byte_at(bytes, at) {
         None => StringEvent::End(StringEnd::Cut),
-        Some(b'\\') => after_high_backslash(bytes, high, at + 1),
+        Some(b'\\') => match byte_at(bytes, at + 1) {
+            None => StringEvent::End(StringEnd::Cut),
+            Some(b'u') => low_surrogate(bytes, high, at + 1 + 1),
+            Some(_) => wrong(FaultKind::UnexpectedEndOfHexEscape, at + 1),
+        },
         Some(_) => wrong(FaultKind::UnexpectedEndOfHexEscape, at),
     }
 }
@@ -198,9 +178,9 @@ fn after_backslash(bytes: &[u8], at: usize) -> StringEvent
     match byte_at(bytes, at) {
         None => StringEvent::End(StringEnd::Cut),
         Some(b'u') => unicode_escape(bytes, at + 1),
-        Some(letter) => match short_escape(letter) {
-            Some(c) => StringEvent::Escape(c as char, at + 1),
-            None => wrong(FaultKind::InvalidEscape, at),
+        Some(letter) => match simple_escape_of(letter) {
+            0 => wrong(FaultKind::InvalidEscape, at),
+            sign => StringEvent::Escape(sign as char, at + 1),
         },
     }
 }
@@ -237,8 +217,11 @@ fn escape_at(bytes: &[u8], at: usize) -> Option<(char, usize)>
         let c = char::from_u32(unit)?;
         return Some((c, at + 6));
     }
-    let c = short_escape(letter)?;
-    Some((c as char, at + 2))
+    let sign = simple_escape_of(letter);
+    if sign == 0 {
+        return None;
+    }
+    Some((sign as char, at + 2))
 }
 
 // The closing quote and most escapes are found first.

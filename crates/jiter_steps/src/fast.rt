@@ -1,8 +1,7 @@
 //! The fast path of literals. It works on the bytes and an index, and its results are returned in registers. Only the
 //! slow path says which error there is.
 ghost use Rattle.std.specs.Prelude.{◌≡◌, ◌+◌, ◌≤◌, ◌<◌, IfSome, IsTrue, length, slice_get, Some};
-ghost use Rattle.jiter_scan.specs.Scanned.{taken};
-ghost use Rattle.jiter_steps.specs.Literal.{literal_at};
+ghost use Rattle.jiter_steps.specs.Words.{taken, literal_at};
 
 use crate::parse::Literal;
 

@@ -3,8 +3,8 @@ ghost use Rattle.std.specs.Prelude.{◌≡◌, ◌+◌, ◌≤◌, ◌++◌, [],
 
 use std::marker::Model;
 
-// A surrogate pair's escapes have twelve bytes. An incomplete character has at most three; up to sixteen more are read
-// with it.
+// A surrogate pair's escapes have twelve bytes. An incomplete character has at most three, and at most seven more are
+// read with it.
 const LIMIT: usize = 20;
 
 #[derive(Drop)]

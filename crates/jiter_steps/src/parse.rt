@@ -34,18 +34,6 @@ pub enum Literal {
     False,
 }
 
-impl Literal {
-    fn word(self) -> &'static [u8]
-        ensures { result.now ≡ word_of self }
-    {
-        match self {
-            Literal::Null => b"null",
-            Literal::True => b"true",
-            Literal::False => b"false",
-        }
-    }
-}
-
 /// What kind of value a byte begins.
 #[derive(Clone, Copy, Debug, PartialEq, Eq)]
 pub enum Start {
@@ -80,7 +68,11 @@ pub fn literal_end(bytes: &[u8], from: usize, literal: Literal) -> Result<usize,
     ensures value { Scans (taken tt) result (literal_at bytes.now literal from) }
     ensures end { IfOk result (λ e. (from < e) × (e ≤ length bytes.now)) }
 {
-    word_end(bytes, from, literal.word())
+    match literal {
+        Literal::Null => word_end(bytes, from, b"null"),
+        Literal::True => word_end(bytes, from, b"true"),
+        Literal::False => word_end(bytes, from, b"false"),
+    }
 }
 
 /// The kind of an open container. Its methods have all that differs between the steps of arrays and of objects.

@@ -1,7 +1,6 @@
 //! Escapes that a chunk may truncate (RFC 8259, 7). Their bytes, twelve at most, are held until the escape is complete.
 ghost use Rattle.std.specs.Prelude.{◌≡◌, ◌+◌, ◌<◌, ◌≤◌, ◌∷◌, ◌++◌, [], length, take};
-ghost use Rattle.jiter_steps.specs.PartialEscape.{IsSpelled, IsWithin, begun, held_after};
-ghost use Rattle.jiter_steps.specs.StringReading.{cut, over, event_at};
+ghost use Rattle.jiter_steps.specs.Words.{IsSpelled, IsWithin, begun, held_after, cut, over, event_at};
 
 use crate::escape::{StringEnd, StringEvent, event_at};
 use crate::held::PendingBytes;

@@ -1,15 +1,13 @@
 //! Strings in chunks (RFC 8259, 7 and 8.1). A chunk may end anywhere, also inside a character or an escape. A string
 //! that is complete in its chunk is read by `text_within`.
-ghost use Rattle.std.specs.Prelude.{◌≡◌, ◌+◌, ◌<◌, ◌≤◌, [], IfOk, IfSome, List, None, OnErr, OnOk, Some, length};
-ghost use Rattle.std.specs.Prelude.{◌++◌, ◌||◌, is_some, false, not, slice_get, slice_index, slice_range, string_bytes, take, true, ℕ};
+ghost use Rattle.std.specs.Prelude.{◌≡◌, ◌+◌, ◌<◌, ◌≤◌, [], IfOk, IfSome, List, None, OnErr, OnOk, Some};
+ghost use Rattle.std.specs.Prelude.{length, ◌++◌, ◌||◌, is_some, false, not, slice_get, slice_index};
+ghost use Rattle.std.specs.Prelude.{slice_range, string_bytes, take, true, ℕ};
+ghost use Rattle.jiter_steps.specs.Words.{eof_string, IsLook, Pass, is_plain, is_plain_ascii, scan_stop};
+ghost use Rattle.jiter_steps.specs.Words.{failed, Goes, HasTaken, HasTakenFrom, IsCountAt, IsEven, IsPart};
+ghost use Rattle.jiter_steps.specs.Words.{IsTextWithin, Wherever, grown, text_or, IsWhole, with_text};
+ghost use Rattle.jiter_steps.specs.Words.{content_at, kept, text_form, whole};
 ghost use Rattle.jiter_scan.specs.Ascii as ascii;
-ghost use Rattle.jiter_scan.specs.Kind.{eof_string};
-ghost use Rattle.jiter_scan.specs.Scan.{IsLook, Pass, is_plain, is_plain_ascii, scan_stop};
-ghost use Rattle.jiter_scan.specs.Scanned.{failed};
-ghost use Rattle.jiter_steps.specs.PartialString.{Goes, HasTaken, HasTakenFrom, IsCountAt, IsEven, IsPart, IsTextWithin};
-ghost use Rattle.jiter_steps.specs.PartialString.{Wherever, grown, text_or};
-ghost use Rattle.jiter_steps.specs.PartialText.{IsWhole, with_text};
-ghost use Rattle.jiter_steps.specs.StringReading.{content_at, kept, text_form, whole};
 
 use crate::escape::{StringEnd, StringEvent, next_event, simple_escape_at};
 use crate::partial_escape::{PartialEscape, Spelled};
@@ -238,7 +236,7 @@ impl PartialString {
         if self.text.is_whole() {
             return self.plain_whole(piece, at);
         }
-        let most = if self.text.is_unfinished() {
+        let most = if self.text.is_text(true) {
             FEW
         } else {
             piece.len()

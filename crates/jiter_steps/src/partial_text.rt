@@ -1,13 +1,9 @@
 //! UTF-8 in chunks (RFC 8259, 8.1), each of which may end inside a character.
-ghost use Rattle.std.specs.Prelude.{◌≡◌, ℕ, ◌+◌, ◌<◌, ◌≤◌, ◌++◌, [], Bool, IfOk, List, OnErr, OnOk, false, length};
-ghost use Rattle.std.specs.Prelude.{◌&&◌, ◌↔◌, IsTrue, drop, nat_lt, not, string_bytes, take, true};
-ghost use Rattle.std.specs.Prelude.{if◌then◌else◌};
-ghost use Rattle.std.specs.Char.{encode_utf8};
-ghost use Rattle.std.specs.Str.{IsAscii, IsUtf8};
-ghost use Rattle.jiter_scan.specs.Kind.{invalid_code_point};
-ghost use Rattle.jiter_scan.specs.Scanned.{taken, failed};
-ghost use Rattle.jiter_steps.specs.PartialText.{HoldsText, IsUnfinished, IsWhole, nothing, with_text};
-ghost use Rattle.jiter_steps.specs.StringReading.{checked};
+ghost use Rattle.std.specs.Prelude.{◌≡◌, ℕ, ◌+◌, ◌<◌, ◌≤◌, ◌++◌, [], Bool, IfOk, List, OnErr, OnOk, false};
+ghost use Rattle.std.specs.Prelude.{length, ◌&&◌, ◌↔◌, IsTrue, drop, nat_lt, not, string_bytes, take, true};
+ghost use Rattle.std.specs.Prelude.{if◌then◌else◌, encode_utf8, IsAscii, IsUtf8};
+ghost use Rattle.jiter_steps.specs.Words.{invalid_code_point, taken, failed, HoldsText, IsUnfinished};
+ghost use Rattle.jiter_steps.specs.Words.{IsWhole, nothing, with_text, checked};
 
 use crate::characters::valid_utf8_end;
 use crate::held::PendingBytes;
@@ -17,8 +13,8 @@ use std::alloc::Global;
 use std::marker::Model;
 use std::mem;
 
-// How many bytes are read next to an incomplete character. In a run of characters of one length, at most three such
-// reads are needed until one ends with a complete character.
+// At most this many bytes are read with an incomplete character. If the characters after it have one length, at most
+// three such reads are needed until one ends with a complete character.
 pub(crate) const FEW: usize = 7;
 
 /// The characters so far, and the bytes of an incomplete one; or the characters before a byte that is wrong, whatever
@@ -152,13 +148,6 @@ impl PartialText {
             else failed invalid_code_point (i + length self.now.text)) }
     {
         !self.broken && (keep || self.rest.as_slice().is_empty())
-    }
-
-    /// Returns whether the bytes so far end with an incomplete character.
-    pub fn is_unfinished(&self) -> bool
-        ensures { result ≡ (not self.now.broken && nat_lt 0 (length self.now.rest)) }
-    {
-        !self.broken && !self.rest.as_slice().is_empty()
     }
 
     /// Returns the characters so far.

@@ -1,16 +1,11 @@
 //! Strings as they are in the source (RFC 8259, 7), and where they end. Escapes are checked but not decoded, and UTF-8
 //! is not tested. Nothing here allocates.
-ghost use Rattle.std.specs.Prelude.{◌≡◌, ◌≢◌, ◌+◌, ◌<◌, ◌≤◌, ℕ, length, slice_get, IfOk, IfSome, OnOk, OnErr, Some};
-ghost use Rattle.std.specs.Prelude.{true, Bool, IsTrue, List, None};
+ghost use Rattle.std.specs.Prelude.{◌≡◌, ◌≢◌, ◌+◌, ◌<◌, ◌≤◌, ℕ, length, slice_get, IfOk, IfSome, OnOk, OnErr};
+ghost use Rattle.std.specs.Prelude.{Some, true, Bool, IsTrue, List, None};
+ghost use Rattle.jiter_steps.specs.Words.{fault_kind, is_stop, scan_stop, Scans, taken, failed, with_end};
+ghost use Rattle.jiter_steps.specs.Words.{seen_as, EndsAt, raw_view, scalar_at, content_at, string_at, raw};
+ghost use Rattle.jiter_steps.specs.Words.{raw_form, Stop, part, over, event_at};
 ghost use Rattle.jiter_scan.specs.Ascii as ascii;
-ghost use Rattle.jiter_scan.specs.Kind.{fault_kind};
-ghost use Rattle.jiter_scan.specs.Scan.{is_stop, scan_stop};
-ghost use Rattle.jiter_scan.specs.Scanned.{Scans, taken, failed, with_end};
-ghost use Rattle.jiter_steps.specs.Answer.{seen_as};
-ghost use Rattle.jiter_steps.specs.RawString.{EndsAt, raw_view};
-ghost use Rattle.jiter_steps.specs.Read.{scalar_at};
-ghost use Rattle.jiter_steps.specs.StringReading.{content_at, string_at, raw, raw_form};
-ghost use Rattle.jiter_steps.specs.StringReading.{Stop, part, over, event_at};
 
 use crate::escape::{StringEnd, StringEvent, event_at, next_event};
 use crate::parse::Parser;

@@ -7,15 +7,15 @@ ghost use Rattle.jiter_steps.specs.Literal.{start_of};
 ghost use Rattle.jiter_steps.specs.Node.{nesting_limit};
 ghost use Rattle.jiter_steps.specs.Parse.{Moves, Reads};
 ghost use Rattle.jiter_steps.specs.Read.{done, scalar_at, value_at};
-ghost use Rattle.jiter_steps.specs.Skip.{key_end, value_inside, first_inside, next_inside, frame_of};
-ghost use Rattle.jiter_steps.specs.Skip.{open_frames, Continues};
+ghost use Rattle.jiter_steps.specs.Found.{step_of};
+ghost use Rattle.jiter_steps.specs.Skip.{Continues, inside, open_frames};
 ghost use Rattle.jiter_steps.specs.Step.{opening};
 
 use crate::fast_skip::{REACH, fast_end, fast_first_inside, fast_run, fast_value_end};
-use crate::parse::{ContainerKind, NESTING_LIMIT, Parser, Start, start_of};
+use crate::parse::{ContainerKind, NESTING_LIMIT, Parser, Start, literal_end, start_of};
 use crate::raw_string::string_end;
-use crate::step::{first, member_value, next};
-use jiter_scan::errors::{Fault, FaultKind};
+use crate::step::{Step, first, member_value, next};
+use jiter_scan::errors::{Fault, FaultKind, fault_at};
 use jiter_scan::number_extent::number_end;
 
 // How many open containers the table can hold: more than `NESTING_LIMIT`.
@@ -29,16 +29,26 @@ struct Nest {
     ghost within: { depth ≤ nesting_limit },
 }
 
-// In an object, the value is after a key and its colon.
+// Goes from where a step ended to the value there, which in an object is after a key and its colon. Returns `false` after
+// the closing bracket.
 #[inline(always)]
-fn value_inside(parser: &mut Parser<'_>, shape: ContainerKind) -> Result<bool, Fault>
-    requires { parser.old.index < length parser.old.bytes.now }
+fn inside(
+    parser: &mut Parser<'_>,
+    found: (usize, Step),
+    shape: ContainerKind,
+) -> Result<bool, Fault>
+    requires place { (parser.old.index ≤ found.0) × (found.0 ≤ length parser.old.bytes.now) }
+    requires part { found.1 ≡ Step.Part → found.0 < length parser.old.bytes.now }
     ensures moves { Moves parser.old parser.new }
     ensures value { Reads (λ more. more) result parser.new.index
-        (value_inside shape parser.old.bytes.now parser.old.index) }
+        (inside shape parser.old.bytes.now (step_of found.0 found.1)) }
     ensures inside { IfOk result (λ more. more ≡ true
         → parser.new.index < length parser.old.bytes.now) }
+    ensures ahead { OnOk result (found.0 ≤ parser.new.index) }
 {
+    if !parser.step(found)? {
+        return Ok(false);
+    }
     match shape {
         ContainerKind::Array => Ok(true),
         ContainerKind::Object => {
@@ -49,41 +59,7 @@ fn value_inside(parser: &mut Parser<'_>, shape: ContainerKind) -> Result<bool, F
     }
 }
 
-// Returns `true` at the first value inside, and `false` after the closing bracket.
-#[inline(always)]
-fn first_inside(parser: &mut Parser<'_>, shape: ContainerKind) -> Result<bool, Fault>
-    requires { parser.old.index < length parser.old.bytes.now }
-    ensures moves { Moves parser.old parser.new }
-    ensures value { Reads (λ more. more) result parser.new.index
-        (first_inside shape parser.old.bytes.now parser.old.index) }
-    ensures ahead { OnOk result (parser.old.index < parser.new.index) }
-    ensures inside { IfOk result (λ more. more ≡ true
-        → parser.new.index < length parser.old.bytes.now) }
-{
-    match parser.step(first(parser.bytes, parser.index + 1, shape)) {
-        Ok(true) => value_inside(parser, shape),
-        Ok(false) => Ok(false),
-        Err(fault) => Err(fault),
-    }
-}
-
-// Returns `true` at the next value inside, and `false` after the closing bracket.
-#[inline(always)]
-fn next_inside(parser: &mut Parser<'_>, shape: ContainerKind) -> Result<bool, Fault>
-    ensures moves { Moves parser.old parser.new }
-    ensures value { Reads (λ more. more) result parser.new.index
-        (next_inside shape parser.old.bytes.now parser.old.index) }
-    ensures inside { IfOk result (λ more. more ≡ true
-        → parser.new.index < length parser.old.bytes.now) }
-{
-    match parser.step(next(parser.bytes, parser.index, shape)) {
-        Ok(true) => value_inside(parser, shape),
-        Ok(false) => Ok(false),
-        Err(fault) => Err(fault),
-    }
-}
-
-// Like `first_inside`, and adds the container to the table. The nesting limit's error is at its first value.
+// Goes to the first value inside, and adds the container to the table. The nesting limit's error is at that value.
 #[inline(always)]
 fn begin(parser: &mut Parser<'_>, nest: &mut Nest, shape: ContainerKind) -> Result<bool, Fault>
     requires within { parser.old.index < length parser.old.bytes.now }
@@ -96,13 +72,10 @@ fn begin(parser: &mut Parser<'_>, nest: &mut Nest, shape: ContainerKind) -> Resu
         (open_frames nest.old.kinds nest.old.depth) parser.old.index) }
     ensures ahead { OnOk result (parser.old.index < parser.new.index) }
 {
-    match first_inside(parser, shape) {
+    match inside(parser, first(parser.bytes, parser.index + 1, shape), shape) {
         Ok(true) => {
             if nest.depth == NESTING_LIMIT {
-                return Err(Fault {
-                    kind: FaultKind::RecursionLimitExceeded,
-                    index: parser.index,
-                });
+                return Err(fault_at(FaultKind::RecursionLimitExceeded, parser.index));
             }
             nest.kinds[nest.depth] = shape;
             nest.depth += 1;
@@ -123,23 +96,16 @@ fn skip_scalar(parser: &mut Parser<'_>, allow_inf_nan: bool) -> Result<(), Fault
         (value_at (only_ends allow_inf_nan) parser.old.bytes.now levels parser.old.index) }
     ensures ahead { OnOk result (parser.old.index < parser.new.index) }
 {
-    match start_of(parser.bytes[parser.index]) {
-        Start::Literal(literal) => parser.literal(literal),
-        Start::Number => {
-            parser.index = number_end(parser.bytes, parser.index, allow_inf_nan)?;
-            Ok(())
-        }
-        Start::String => {
-            parser.index = string_end(parser.bytes, parser.index)?;
-            Ok(())
-        }
-        Start::Nothing => Err(Fault {
-            kind: FaultKind::ExpectedSomeValue,
-            index: parser.index,
-        }),
+    let at = parser.index;
+    match start_of(parser.bytes[at]) {
+        Start::Literal(literal) => parser.index = literal_end(parser.bytes, at, literal)?,
+        Start::Number => parser.index = number_end(parser.bytes, at, allow_inf_nan)?,
+        Start::String => parser.index = string_end(parser.bytes, at)?,
+        Start::Nothing => return Err(fault_at(FaultKind::ExpectedSomeValue, at)),
         Start::Array => unreachable!(),
         Start::Object => unreachable!(),
     }
+    Ok(())
 }
 
 // Returns `true` at the first value inside, and `false` after the value.
@@ -177,7 +143,8 @@ fn end_value(parser: &mut Parser<'_>, nest: &mut Nest) -> Result<bool, Fault>
         if nest.depth == 0 {
             return Ok(false);
         }
-        match next_inside(parser, nest.kinds[nest.depth - 1]) {
+        let shape = nest.kinds[nest.depth - 1];
+        match inside(parser, next(parser.bytes, parser.index, shape), shape) {
             Ok(true) => return Ok(true),
             Ok(false) => nest.depth -= 1,
             Err(fault) => return Err(fault),
@@ -185,9 +152,9 @@ fn end_value(parser: &mut Parser<'_>, nest: &mut Nest) -> Result<bool, Fault>
     }
 }
 
-// The fast path after a value. Returns the index that it reaches, how many containers are open there, and whether a
-// value begins there. If none does, one has ended there. Here and below, `last` is the last index with `REACH` bytes
-// left.
+// The fast path after a value. Returns the index that it reaches, and how many containers are open there. The `bool` is
+// `true` if a value begins at that index, and `false` if one ends there. Here and below, `last` is the last index with
+// `REACH` bytes left.
 #[inline(always)]
 fn fast_after(
     bytes: &[u8],

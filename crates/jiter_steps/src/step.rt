@@ -1,10 +1,8 @@
 //! The steps between the parts of a document (RFC 8259, 4 and 5). Each returns in registers where it ended and what it
 //! found there, the kind of an error included.
 ghost use Rattle.std.specs.Prelude.{◌≡◌, ◌+◌, ◌≤◌, ◌<◌, IfSome, None, Some, length, slice_get, true};
-ghost use Rattle.jiter_steps.specs.Blank.{past_blanks};
-ghost use Rattle.jiter_steps.specs.Step.{step, container_first, container_comma, container_step, colon, value_first};
-ghost use Rattle.jiter_steps.specs.Step.{object_colon};
-ghost use Rattle.jiter_steps.specs.Found.{Finds, extent_of};
+ghost use Rattle.jiter_steps.specs.Words.{past_blanks, step, container_first, container_comma};
+ghost use Rattle.jiter_steps.specs.Words.{container_step, colon, value_first, object_colon, Finds, extent_of};
 
 use crate::blank::blanks_end;
 use crate::parse::ContainerKind;

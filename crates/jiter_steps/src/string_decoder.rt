@@ -1,14 +1,12 @@
 //! Reads strings (RFC 8259, 7 and 8.1). A string without a backslash is borrowed from the input; any other is decoded.
-ghost use Rattle.std.specs.Prelude.{◌≡◌, ◌≢◌, ℕ, Bool, ◌+◌, ◌^◌, ◌<◌, ◌≤◌, length, true, false, List, slice_get, slice_range};
-ghost use Rattle.std.specs.Prelude.{IfOk, IfErr, IfSome, IsTrue, MatchResult, Some, None, drop, take, vec_len};
-ghost use Rattle.std.specs.Str.{IsUtf8, IsValidUpTo};
-ghost use Rattle.std.specs.Char.{encode_utf8};
-ghost use Rattle.jiter_scan.specs.Scan.{is_stop, scan_stop, IsAsciiTo, IsLook};
-ghost use Rattle.jiter_scan.specs.Kind.{fault_kind, invalid_code_point};
-ghost use Rattle.jiter_scan.specs.Scanned.{Scans, with_end, taken, failed};
-ghost use Rattle.jiter_steps.specs.ReadError.{UnlessRefused, WhereRefused};
-ghost use Rattle.jiter_steps.specs.StringReading.{body_at, event_at, over, text_form, text_in_form, checked, string_at};
-ghost use Rattle.jiter_steps.specs.StringDecoder.{text_view, stop_view, Decodes, PutsEscape, WantsMemory};
+ghost use Rattle.std.specs.Prelude.{◌≡◌, ◌≢◌, ℕ, Bool, ◌+◌, ◌^◌, ◌<◌, ◌≤◌, length, true, false, List};
+ghost use Rattle.std.specs.Prelude.{slice_get, slice_range, IfOk, IfErr, IfSome, IsTrue, MatchResult, Some};
+ghost use Rattle.std.specs.Prelude.{None, drop, take, vec_len, IsUtf8, encode_utf8};
+ghost use Rattle.jiter_steps.specs.Words.{IsValidUpTo, is_stop, scan_stop, IsAsciiTo, IsLook, fault_kind};
+ghost use Rattle.jiter_steps.specs.Words.{invalid_code_point, Scans, with_end, taken, failed, UnlessRefused};
+ghost use Rattle.jiter_steps.specs.Words.{WhereRefused, body_at, event_at, over, text_form, text_in_form};
+ghost use Rattle.jiter_steps.specs.Words.{checked, string_at, text_view, stop_view, Decodes, PutsEscape};
+ghost use Rattle.jiter_steps.specs.Words.{WantsMemory};
 
 use crate::characters::valid_utf8_end;
 use crate::escape::{StringEnd, StringEvent, next_event, simple_escape_at};

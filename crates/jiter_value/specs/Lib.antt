@@ -19,3 +19,4 @@ pub mod Scratch
 pub mod Equality
 pub mod ValueCode
 pub mod DuplicateKeys
+pub mod Words

@@ -1,11 +1,8 @@
 //! Access to the parts of a value. Nothing is copied or allocated.
-ghost use Rattle.std.specs.Prelude.{◌≡◌, IfOk, IfErr, None, option_map};
-ghost use Rattle.jiter_steps.specs.StringDecoder.{text_view};
-ghost use Rattle.jiter_steps.specs.Tree.{array, object, string};
-ghost use Rattle.std.specs.Str.{bytes_eq};
-ghost use Rattle.jiter_value.specs.Access.{is_null_tree, boolean_in, int_in, number_text_in, string_in};
-ghost use Rattle.jiter_value.specs.Access.{items_in, members_in, item_at, item_of, member_named, last_such};
-ghost use Rattle.jiter_value.specs.Value.{view, views, member_views};
+ghost use Rattle.std.specs.Prelude.{◌≡◌, IfOk, IfErr, None, option_map, bytes_eq};
+ghost use Rattle.jiter_value.specs.Words.{text_view, array, object, string, is_null_tree, boolean_in, int_in};
+ghost use Rattle.jiter_value.specs.Words.{number_text_in, string_in, items_in, members_in, item_at, item_of};
+ghost use Rattle.jiter_value.specs.Words.{member_named, last_such, view, views, member_views};
 
 use crate::value::{JsonArray, JsonObject, JsonValue};
 use std::borrow::CowStr;

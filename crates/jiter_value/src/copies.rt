@@ -1,11 +1,8 @@
 //! Copies of values. A text is a string, a key or the source of a number. In a `clone` each text is borrowed or owned
 //! as it was; `to_static` and `into_static` own every text.
 ghost use Rattle.std.specs.Prelude.{◌≡◌, IfOk, OnErr, false, map, true};
-ghost use Rattle.jiter_steps.specs.StringDecoder.{text_view};
-ghost use Rattle.jiter_value.specs.Owned.{owned_text, owned_tree, owned_member, HoldsTextOrPart};
-ghost use Rattle.jiter_value.specs.Owned.{HoldsOwnedTextOrPart, HoldsBorrowedTextOrPart};
-ghost use Rattle.jiter_value.specs.Stacks.{member_view};
-ghost use Rattle.jiter_value.specs.Value.{view};
+ghost use Rattle.jiter_value.specs.Words.{text_view, owned_text, owned_tree, owned_member, HoldsTextOrPart};
+ghost use Rattle.jiter_value.specs.Words.{HoldsOwnedTextOrPart, HoldsBorrowedTextOrPart, member_view, view};
 
 use crate::value::{JsonArray, JsonObject, JsonValue};
 use jiter_scan::memory::{AllocFailed, copy_text, push, with_capacity};

@@ -1,15 +1,8 @@
 //! Equality of values, whether their strings, keys and number texts are borrowed or owned.
-ghost use Rattle.std.specs.Prelude.{◌≡◌, true, map, Some};
-ghost use Rattle.std.specs.Bool.{Decides};
-ghost use Rattle.std.specs.Cmp.{on_per, on_equiv, partial_equiv_from_equiv};
-ghost use Rattle.std.specs.Cmp.Lexicographic.{nat_list_eq_equiv};
-ghost use Rattle.jiter_steps.specs.StringDecoder.{text_view};
-ghost use Rattle.jiter_steps.specs.Tree.{Tree};
-ghost use Rattle.jiter_value.specs.Access.{boolean_in, int_in, string_in};
-ghost use Rattle.jiter_value.specs.Equality.{code, same_content};
-ghost use Rattle.jiter_value.specs.Owned.{owned_text, owned_tree, owned_member, HoldSame};
-ghost use Rattle.jiter_value.specs.Stacks.{member_view};
-ghost use Rattle.jiter_value.specs.Value.{view};
+ghost use Rattle.std.specs.Prelude.{◌≡◌, true, map, Some, Decides};
+ghost use Rattle.jiter_value.specs.Words.{on_per, on_equiv, partial_equiv_from_equiv, nat_list_eq_equiv};
+ghost use Rattle.jiter_value.specs.Words.{text_view, Tree, boolean_in, int_in, string_in, code, same_content};
+ghost use Rattle.jiter_value.specs.Words.{owned_text, owned_tree, owned_member, HoldSame, member_view, view};
 
 use crate::value::{JsonArray, JsonObject, JsonValue};
 use std::borrow::CowStr;

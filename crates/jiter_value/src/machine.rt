@@ -84,6 +84,7 @@ fn begin<'j>(reading: &mut Reading<'j>, bytes: &'j [u8]) -> bool
 }
 
 // The result of a reading that has ended.
+#[inline(always)]
 fn answer<'j>(reading: &mut Reading<'j>, bytes: &'j [u8]) -> Result<JsonValue<'j>, JsonError>
     requires within { reading.old.at ≤ length bytes.now }
     requires over { IsOver bytes.now reading.old }

@@ -1,15 +1,9 @@
 //! Parsing into values that own all their strings, keys and number texts.
 ghost use Rattle.std.specs.Prelude.{◌≡◌, ◌<◌, ◌⊎◌, IfOk, length, true};
-ghost use Rattle.jiter_steps.specs.Blank.{past_blanks};
-ghost use Rattle.jiter_steps.specs.Node.{nesting_limit};
-ghost use Rattle.jiter_steps.specs.Parse.{Moves, Gives};
-ghost use Rattle.jiter_steps.specs.Read.{value_at};
-ghost use Rattle.jiter_steps.specs.ReadError.{WhereRefused};
-ghost use Rattle.jiter_value.specs.Owned.{owned_text, owned_tree, ReadHolds, IsOwnedAnswer, OwnedMayGrow};
-ghost use Rattle.jiter_value.specs.Parses.{Parses, reading_as};
-ghost use Rattle.jiter_value.specs.Scratch.{HoldsNothing, IsCleared};
-ghost use Rattle.jiter_value.specs.Settings.{each, rules, rules_as};
-ghost use Rattle.jiter_value.specs.Value.{view, BeginsContainer, MayGrowAt, MayGrow};
+ghost use Rattle.jiter_value.specs.Words.{past_blanks, nesting_limit, Moves, Gives, value_at, WhereRefused};
+ghost use Rattle.jiter_value.specs.Words.{owned_text, owned_tree, ReadHolds, IsOwnedAnswer, OwnedMayGrow};
+ghost use Rattle.jiter_value.specs.Words.{Parses, reading_as, HoldsNothing, IsCleared, each, rules, rules_as};
+ghost use Rattle.jiter_value.specs.Words.{view, BeginsContainer, MayGrowAt, MayGrow};
 
 use crate::copies::move_value;
 use crate::reading::{error_at, read_text, read_text_as, read_value};

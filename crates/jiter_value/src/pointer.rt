@@ -1,13 +1,9 @@
 //! JSON Pointers into a value (RFC 6901). Nothing is copied or allocated.
 ghost use Rattle.std.specs.Prelude.{◌≡◌, ◌≢◌, ◌↔◌, ◌^◌, ◌<◌, ◌++◌, ℕ, List, None, Some, IsTrue, MatchOption};
-ghost use Rattle.std.specs.Prelude.{option_map};
-ghost use Rattle.std.specs.Fmt.{decimal};
-ghost use Rattle.jiter_value.specs.Pointer.{token_byte, token_of, item_spelled, part_spelled};
-ghost use Rattle.jiter_value.specs.Pointer.{pointed, pointed_by, is_slash};
-ghost use Rattle.std.specs.List.{slice_split};
-ghost use Rattle.std.specs.Str.{bytes_eq};
-ghost use Rattle.jiter_value.specs.Access.{last_such};
-ghost use Rattle.jiter_value.specs.Value.{view, views, member_views};
+ghost use Rattle.std.specs.Prelude.{option_map, decimal, bytes_eq};
+ghost use Rattle.jiter_value.specs.Words.{token_byte, token_of, item_spelled, part_spelled, pointed};
+ghost use Rattle.jiter_value.specs.Words.{pointed_by, is_slash, slice_split, last_such, view, views};
+ghost use Rattle.jiter_value.specs.Words.{member_views};
 
 use crate::access::item_at;
 use crate::value::{JsonArray, JsonObject, JsonValue};

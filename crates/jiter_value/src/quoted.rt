@@ -1,10 +1,7 @@
 //! A key as its error prints it: between quotes, with escapes.
-ghost use Rattle.std.specs.Prelude.{◌≡◌, ◌++◌, ◌∷◌, [], ◌<◌, MatchOption, OnOk, length, slice_index, slice_range};
-ghost use Rattle.std.specs.Prelude.{string_bytes};
-ghost use Rattle.std.specs.Fmt.{WritesOnOk};
-ghost use Rattle.std.specs.Str.{IsCharBoundary};
-ghost use Rattle.jiter_scan.specs.Quoted.{quoted, quoted_byte};
-ghost use Rattle.jiter_value.specs.QuotedKeys.{quoted_from, EndsAtAscii};
+ghost use Rattle.std.specs.Prelude.{◌≡◌, ◌++◌, ◌∷◌, [], ◌<◌, MatchOption, OnOk, length, slice_index};
+ghost use Rattle.std.specs.Prelude.{slice_range, string_bytes, IsCharBoundary};
+ghost use Rattle.jiter_value.specs.Words.{WritesOnOk, quoted, quoted_byte, quoted_from, EndsAtAscii};
 
 use jiter_scan::memory::{AllocFailed, push_text};
 use std::fmt;

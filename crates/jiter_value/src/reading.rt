@@ -1,16 +1,9 @@
 //! Reading a complete document, or the value at a reader's position.
 ghost use Rattle.std.specs.Prelude.{◌≡◌, ◌≤◌, ◌<◌, IfOk, length, false};
-ghost use Rattle.jiter_steps.specs.Blank.{past_blanks};
-ghost use Rattle.jiter_steps.specs.Node.{nesting_limit};
-ghost use Rattle.jiter_steps.specs.Parse.{Moves, Gives};
-ghost use Rattle.jiter_steps.specs.Read.{done, value_at};
-ghost use Rattle.jiter_steps.specs.ReadError.{WhereRefused};
-ghost use Rattle.jiter_value.specs.Owned.{tree_as};
-ghost use Rattle.jiter_value.specs.Parses.{Parses, as_read};
-ghost use Rattle.jiter_value.specs.Reading.{GivesWhole, IsErrorOf};
-ghost use Rattle.jiter_value.specs.Scratch.{HoldsNothing, IsCleared};
-ghost use Rattle.jiter_value.specs.Settings.{answer_as, rules, rules_as};
-ghost use Rattle.jiter_value.specs.Value.{view, MayGrowAt, MayGrowBy, MayGrow};
+ghost use Rattle.jiter_value.specs.Words.{past_blanks, nesting_limit, Moves, Gives, done, value_at};
+ghost use Rattle.jiter_value.specs.Words.{WhereRefused, tree_as, Parses, as_read, GivesWhole, IsErrorOf};
+ghost use Rattle.jiter_value.specs.Words.{HoldsNothing, IsCleared, answer_as, rules, rules_as, view};
+ghost use Rattle.jiter_value.specs.Words.{MayGrowAt, MayGrowBy, MayGrow};
 
 use crate::settings::Settings;
 use crate::texts::{Borrowing, StringStorage};
@@ -38,6 +31,7 @@ pub fn error_at(error: ReadError, index: usize) -> JsonError
 }
 
 /// Returns the value, which ends at the reader's position. With partial reading off, only whitespace may follow it.
+#[inline(always)]
 pub(crate) fn finish_whole<'s, T: StringStorage<'s>>(
     parser: &mut Parser<'_>,
     settings: Settings,

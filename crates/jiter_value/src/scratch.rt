@@ -1,9 +1,6 @@
 //! Buffers that are reused from document to document.
 ghost use Rattle.std.specs.Prelude.{◌≡◌, [], IfOk};
-ghost use Rattle.jiter_value.specs.Owned.{owned_tree, OwnedMayGrow};
-ghost use Rattle.jiter_value.specs.Parses.{Parses, as_read};
-ghost use Rattle.jiter_value.specs.Scratch.{IsCleared};
-ghost use Rattle.jiter_value.specs.Value.{MayGrow};
+ghost use Rattle.jiter_value.specs.Words.{owned_tree, OwnedMayGrow, Parses, as_read, IsCleared, MayGrow};
 
 use crate::parse_owned::read_text_owned;
 use crate::reading::read_text;

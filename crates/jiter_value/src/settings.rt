@@ -1,7 +1,6 @@
 //! How a document is read, and which errors a partial mode forgives.
 ghost use Rattle.std.specs.Prelude.{◌≡◌};
-ghost use Rattle.jiter_scan.specs.Kind.{fault_kind};
-ghost use Rattle.jiter_value.specs.Settings.{forgives};
+ghost use Rattle.jiter_value.specs.Words.{fault_kind, forgives};
 
 use jiter_scan::PartialMode;
 use jiter_scan::errors::FaultKind;

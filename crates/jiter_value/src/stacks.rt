@@ -1,20 +1,12 @@
 //! The stacks of items and of members that all open containers share.
-ghost use Rattle.std.specs.Prelude.{◌≡◌, ◌≢◌, ℕ, ℤ, List, ◌+◌, ◌≤◌, ◌<◌, ◌∷◌, ◌++◌, [], IfOk, IsTrue, OnOk, OnErr, length};
+ghost use Rattle.std.specs.Prelude.{◌≡◌, ℕ, List, ◌+◌, ◌≤◌, ◌<◌, ◌∷◌, ◌++◌, [], IfOk, IsTrue, OnOk, length};
 ghost use Rattle.std.specs.Prelude.{take, drop, false, map, true, vec_len};
-ghost use Rattle.std.specs.declared.alloc.Global.{Global};
-ghost use Rattle.std.specs.declared.borrow.CowStr.{CowStr as CowStrView};
-ghost use Rattle.jiter_steps.specs.Read.{done};
-ghost use Rattle.jiter_steps.specs.Tree.{object, members_of};
+ghost use Rattle.jiter_value.specs.Words.{Global, CowStrView, done, object, members_of, view, size};
+ghost use Rattle.jiter_value.specs.Words.{value_size, inside_size, after_size, Keeping, HoldsNothing};
+ghost use Rattle.jiter_value.specs.Words.{IsCleared, Member, member_view, resume_with, after, container_ends};
+ghost use Rattle.jiter_value.specs.Words.{Stands, StandsInside, HasRoom, HasRoomIn, HoldsSame, LeavesKeys};
+ghost use Rattle.jiter_value.specs.Words.{without_root, SettingsView, JsonValueView};
 ghost use Rattle.jiter_steps.specs.declared.read_error.ReadError.TheVariants as error;
-ghost use Rattle.jiter_value.specs.Value.{view};
-ghost use Rattle.jiter_value.specs.Size.{size, value_size, inside_size, after_size};
-ghost use Rattle.jiter_value.specs.Settings.{Keeping};
-ghost use Rattle.jiter_value.specs.Scratch.{HoldsNothing, IsCleared};
-ghost use Rattle.jiter_value.specs.Stacks.{Member, member_view, resume_with, after, container_ends, Stands};
-ghost use Rattle.jiter_value.specs.Stacks.{StandsInside, HasRoom, HasRoomIn, HoldsSame, LeavesKeys, without_root};
-ghost use Rattle.jiter_value.specs.declared.settings.Settings.{Settings as SettingsView};
-ghost use Rattle.jiter_value.specs.declared.value.JsonValue.{JsonValue as JsonValueView};
-ghost use Rattle.jiter_value.specs.declared.value.JsonValue.TheVariants.{Int};
 
 use crate::value::{JsonObject, JsonValue};
 use jiter_scan::errors::{Fault, FaultKind};
@@ -85,24 +77,16 @@ pub struct Stacks<'j> {
     pub reused: bool,
 }
 
-// Replaces an integer without dropping it: an integer has nothing to free.
-#[inline(always)]
-fn replace_int<'j>(place: &mut JsonValue<'j>, value: JsonValue<'j>)
-    requires { (number : ℤ) × (place.old ≡ Int number) }
-    ensures { place.new ≡ value.entry }
-{
-    mem::forget(mem::replace(place, value));
-}
-
-// The placeholder of a key is an integer. Any other value would be dropped.
+// The placeholder of a key is an integer, which has nothing to free. Any other value is dropped.
 #[inline(always)]
 fn replace_placeholder<'j>(place: &mut JsonValue<'j>, value: JsonValue<'j>)
     ensures { place.new ≡ value.entry }
 {
     if let JsonValue::Int(_) = place {
-        return replace_int(place, value);
+        mem::forget(mem::replace(place, value));
+    } else {
+        *place = value;
     }
-    *place = value;
 }
 
 // Replaces the placeholder of the last key.
@@ -158,19 +142,6 @@ pub fn reserve_part(stacks: &mut Stacks<'_>, shape: ContainerKind) -> Result<(),
     }
 }
 
-/// Reserves capacity for the expected value in its slot. Only an item may need an allocation.
-#[inline(always)]
-pub fn reserve<'j>(stacks: &mut Stacks<'j>, slot: Slot) -> Result<(), AllocFailed>
-    ensures same { HoldsSame stacks.old stacks.new }
-    ensures room { OnOk result (HasRoom stacks.new slot) }
-    ensures full { OnErr result (slot ≡ Slot.Item) }
-{
-    match slot {
-        Slot::Item if stacks.items.len() == stacks.items.capacity() => make_room(&mut stacks.items),
-        _ => Ok(()),
-    }
-}
-
 /// Puts the expected value into its slot, which has the capacity for it.
 #[inline(always)]
 pub fn put_reserved<'j>(stacks: &mut Stacks<'j>, slot: Slot, value: JsonValue<'j>)
@@ -202,9 +173,12 @@ pub fn put<'j>(stacks: &mut Stacks<'j>, slot: Slot, value: JsonValue<'j>) -> Res
     ensures held { OnOk result (after_size stacks.new slot
         ≡ value_size stacks.old slot + size (view value.entry)) }
     ensures keys { OnOk result (LeavesKeys stacks.old.members.items stacks.new.members.items) }
-    ensures refused { OnErr result (slot ≢ Slot.Root) }
 {
-    reserve(stacks, slot)?;
+    let full = stacks.items.len() == stacks.items.capacity();
+    match slot {
+        Slot::Item if full => make_room(&mut stacks.items)?,
+        _ => {}
+    }
     put_reserved(stacks, slot, value);
     Ok(())
 }
@@ -288,6 +262,7 @@ pub fn too_deep<'j>(stacks: &mut Stacks<'j>, at: usize) -> (usize, State)
 }
 
 /// Moves the value of the document out of the stacks.
+#[inline(always)]
 pub fn take_root<'j>(stacks: &mut Stacks<'j>) -> JsonValue<'j>
     ensures value { result ≡ stacks.old.root }
     ensures cleared { HoldsNothing stacks.old → IsCleared stacks.new }

@@ -1,8 +1,7 @@
 //! The errors of a parse that rejects duplicate keys, and what they print.
 ghost use Rattle.std.specs.Prelude.{◌≡◌, Some, IfOk, OnErr, string_bytes};
-ghost use Rattle.jiter_scan.specs.Kind.{is_memory, kind_text};
-ghost use Rattle.jiter_scan.specs.Position.{at_index, description_text, position_of};
-ghost use Rattle.jiter_value.specs.UniqueErrors.{unique_kind, IsDuplicateKey};
+ghost use Rattle.jiter_value.specs.Words.{is_memory, kind_text, at_index, description_text, position_of};
+ghost use Rattle.jiter_value.specs.Words.{unique_kind, IsDuplicateKey};
 
 use crate::quoted::{push_quoted, write_quoted};
 use jiter_scan::errors::{kind_text, push_position};

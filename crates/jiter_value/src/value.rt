@@ -1,11 +1,7 @@
 //! The tree of a document (`JsonValue`), and the calls that parse one.
 ghost use Rattle.std.specs.Prelude.{◌≡◌, IfOk, MatchResult, Some, Bool, ℕ, List, true};
-ghost use Rattle.jiter_scan.specs.PartialMode.{is_active};
-ghost use Rattle.jiter_steps.specs.Answer.{answer, answer_in};
-ghost use Rattle.jiter_steps.specs.Cut.{cut, IsBegunContainer};
-ghost use Rattle.jiter_steps.specs.Node.{Node, IsDocument, value_of};
-ghost use Rattle.jiter_value.specs.Parses.{Parses, as_read};
-ghost use Rattle.jiter_value.specs.Value.{view, Answers, MayGrow};
+ghost use Rattle.jiter_value.specs.Words.{is_active, answer, answer_in, cut, IsBegunContainer, Node};
+ghost use Rattle.jiter_value.specs.Words.{IsDocument, value_of, Parses, as_read, view, Answers, MayGrow};
 
 use crate::machine::Machine;
 use jiter_scan::{JsonError, JsonErrorType, PartialMode};

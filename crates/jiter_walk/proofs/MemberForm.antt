@@ -26,7 +26,7 @@ use Rattle.jiter_steps.proofs.Reading.Values.{inside_at-within, member-value, ob
 use Rattle.jiter.specs.Caller.{Cause, Key, MovesOn, Node, ReaderState, Reply, Text, ValueType, begin, gave, key_bytes, next}
 use Rattle.jiter.specs.Caller.{indexed_key_bytes, key_step, object_read, refused, reply_seen, tree_type, value_of, value_place, whole, wrong_type}
 use Rattle.jiter.specs.Reader.{colon_reply, if_byte, key_reply, member_reply, part_reply, refused_as}
-use Rattle.jiter.proofs.MemberLoops.{seen-refused}
+use Rattle.jiter.proofs.Walking.{seen-refused}
 use Rattle.jiter.proofs.Telling.{object-refused}
 use Rattle.jiter.proofs.Walking.{AMember, IsNoObject, MeetsPart, gave-is, gave-refused, member-meets, next-reads}
 use Rattle.jiter.proofs.Walking.{sees-whole, whole_key}

@@ -13,8 +13,8 @@ use Rattle.std.specs.Io.KnownBytes.{Appends}
 use Rattle.std.proofs.lemmas.Option.{IfSome_then}
 use Rattle.jiter_print.specs.Written.{AppendsPrefix}
 use Rattle.json_lines.proofs.Positions.{starts-part}
-use Rattle.json_lines.specs.declared.items.Ended.{Ended}
-use Rattle.json_lines.specs.declared.items.Ended.TheVariants as ended
+use Rattle.json_lines.specs.declared.array.Ended.{Ended}
+use Rattle.json_lines.specs.declared.array.Ended.TheVariants as ended
 
 -- what follows of a result
 pub if-ok : {T E : Type 0} {P Q : T → Type 0} (r : Result T E) → ((x : T) → P x → Q x) → IfOk r P → IfOk r Q

@@ -13,8 +13,8 @@ use Rattle.json_lines.specs.Items.{Part, after_array, after_blanks, blanks, is_w
 use Rattle.json_lines.specs.ItemsRead.{StartsAt, TakesPiece, end_byte, past, piece_parts, pieces_by, tail_count, tail_report}
 use Rattle.json_lines.specs.ItemsWritten.{IsRight, WritesPartly, WritesParts}
 use Rattle.json_lines.specs.Line.{Seen}
-use Rattle.json_lines.specs.declared.items.Ended.{Ended}
-use Rattle.json_lines.specs.declared.items.Ended.TheVariants as ended
+use Rattle.json_lines.specs.declared.array.Ended.{Ended}
+use Rattle.json_lines.specs.declared.array.Ended.TheVariants as ended
 use Rattle.json_lines.specs.declared.log.Counts.{Counts}
 use Rattle.json_lines.proofs.ItemsWriting.{parts-as, partly-as, wrote-both, wrote-none, wrote-nothing, wrote-partly-more, wrote-then-partly}
 use Rattle.json_lines.proofs.ItemsWriting.{wrote-wrong, wrote-wrong-partly}

@@ -7,8 +7,8 @@ use Rattle.std.proofs.KnownBytes.{Consumes-trans, starts_with_rest}
 use Rattle.std.specs.Io.KnownBytes.{Consumes, IsAtEnd, Keeps}
 use Rattle.json_lines.specs.Items.{Pieces, Place, after_backslash, bracket, comma, cut, ends_item, in_string, outside, pieces, place_after, with_byte}
 use Rattle.json_lines.specs.ItemsRead.{EndsSo, IsNextByte, Passes, TakesByte, TakesPiece, begins_with_mark, end_byte, end_bytes, pieces_by, with_bytes}
-use Rattle.json_lines.specs.declared.items.Ended.{Ended}
-use Rattle.json_lines.specs.declared.items.Ended.TheVariants as ended
+use Rattle.json_lines.specs.declared.array.Ended.{Ended}
+use Rattle.json_lines.specs.declared.array.Ended.TheVariants as ended
 
 with-bytes-append : (a b : List ℕ) (ps : Pieces) → with_bytes (a ++ b) ps ≡ with_bytes a (with_bytes b ps)
 with-bytes-append [] b ps = refl

@@ -6,10 +6,10 @@ use Rattle.jiter_scan.specs.declared.errors.LinePosition.{LinePosition}
 use Rattle.json_lines.specs.Items.{Part, Pieces, Place, after_backslash, after_blanks, blanks, bracket, comma, cut, in_string}
 use Rattle.json_lines.specs.Items.{ends_item, item_or, last_of, outside, pieces, trim_end, with_byte, wrong}
 use Rattle.json_lines.specs.Line.{cause_in, refusal_text}
-use Rattle.json_lines.specs.declared.items.State.{State}
-use Rattle.json_lines.specs.declared.items.State.TheVariants as state
-use Rattle.json_lines.specs.declared.items.Ended.{Ended}
-use Rattle.json_lines.specs.declared.items.Ended.TheVariants as ended
+use Rattle.json_lines.specs.declared.array.State.{State}
+use Rattle.json_lines.specs.declared.array.State.TheVariants as state
+use Rattle.json_lines.specs.declared.array.Ended.{Ended}
+use Rattle.json_lines.specs.declared.array.Ended.TheVariants as ended
 
 -- what the code's values are
 abbrev pub place_of : State → Place

@@ -2,12 +2,14 @@
 //! program takes its words and ends.
 #![tactic(auto)]
 
+mod array;
 mod items;
 mod line;
 mod log;
 mod program;
 mod progress;
 mod reading;
+mod report;
 
 pub use items::convert_items;
 pub use line::{Convert, Outcome, refusal_line, refusal_of};

@@ -45,7 +45,7 @@ pub enum Outcome {
 ///
 /// [`crate::convert_logs`] reads the logs that the command line names and writes what their lines become.
 pub trait Convert {
-    // This may become of a line.
+    // What a line may become.
     ghost becomes: { Self → List ℕ → Seen → Type 0 };
 
     /// Converts a line, without the `\n` or `\r\n` at its end.

@@ -1,13 +1,13 @@
 //! Logs, read line by line.
-ghost use Rattle.std.specs.Prelude.{◌≡◌, ◌↔◌, [], IfOk, IfSome, IsTrue, OnErr, OnOk, Some};
+ghost use Rattle.std.specs.Prelude.{◌≡◌, ◌↔◌, [], IfOk, IfSome, IsTrue, OnErr, OnOk};
 ghost use Rattle.std.specs.Io.Buffered.{reader_remaining};
 ghost use Rattle.std.specs.Io.KnownBytes.{Appends, Keeps, append_known};
 ghost use Rattle.jiter_print.specs.Written.{AppendsPrefix};
-ghost use Rattle.json_lines.specs.Line.{refused};
-ghost use Rattle.json_lines.specs.Log.{Grows, IsBlankLine, WritesAll, WritesPart, chomp, ended, kept_of, refusal_of};
+ghost use Rattle.json_lines.specs.Log.{Grows, IsBlankLine, WritesAll, WritesPart, chomp, ended};
 
-use crate::line::{Convert, Outcome, refusal_line};
+use crate::line::{Convert, Outcome};
 use crate::reading::read_line;
+use crate::report::write_report;
 use jiter_print::write_line;
 use jiter_scan::LinePosition;
 use memchr::memchr;
@@ -24,14 +24,18 @@ pub struct Counts {
     pub refused: usize,
 }
 
-// No lines yet.
+// The counts before the first line.
 pub(crate) const NONE: Counts = Counts {
     texts: 0,
     refused: 0,
 };
 
-// A batch of so many bytes is written.
-const BATCH: usize = 1 << 16;
+// A batch is written once it has this many bytes. With a line's text it fits into twice as many, unless the text is long.
+const BATCH: usize = 1 << 14;
+
+// The first capacity of the buffer for a line. Buffers that stay are allocated before anything that is freed: a hole below
+// them makes each allocation of a line's value slower.
+const LINE: usize = 1 << 12;
 
 /// What the reports of a log name: where it comes from, and the number of its first line.
 #[derive(Debug, Clone, Copy)]
@@ -43,7 +47,7 @@ pub struct Origin<'n> {
     pub first_line: usize,
 }
 
-// A line without its `\n` or `\r\n`.
+// Returns the line without its `\n` or `\r\n`.
 fn without_end(line: &[u8]) -> &[u8]
     ensures { result.now ≡ chomp line.now }
 {
@@ -51,14 +55,14 @@ fn without_end(line: &[u8]) -> &[u8]
     line.strip_suffix(b"\r").unwrap_or(line)
 }
 
-// Whether a line has no byte but whitespace.
+// Returns whether a line has only whitespace.
 fn is_blank(line: &[u8]) -> bool
     ensures { IsTrue result ↔ IsBlankLine line.now }
 {
     line.iter().all(|byte| *byte == b' ' || *byte == b'\t' || *byte == b'\n' || *byte == b'\r')
 }
 
-// A line with a line feed at its end.
+// Returns the line with a line feed at its end.
 fn ended(alloc: Global, line: &[u8]) -> Result<Vec<u8>, AllocError>
     ensures { IfOk result (λ text. text.items ≡ ended line.now) }
 {
@@ -67,32 +71,7 @@ fn ended(alloc: Global, line: &[u8]) -> Result<Vec<u8>, AllocError>
     Ok(text)
 }
 
-// Reports a line with an error to `err`, and keeps it in `bad`.
-fn write_refused<E: Write, B: Write>(
-    alloc: Global,
-    name: &str,
-    position: &LinePosition,
-    line: &[u8],
-    cause: &str,
-    err: &mut E,
-    bad: &mut B,
-) -> io::Result<()>
-    ensures whole { OnOk result (let o = Some (refused position.now.column cause.now) in
-        Appends (E.contents err.old) (E.contents err.new)
-        (refusal_of name.now position.now.line (chomp line.now) o)
-        × Appends (B.contents bad.old) (B.contents bad.new) (kept_of line.now o)) }
-    ensures part { OnErr result (let o = Some (refused position.now.column cause.now) in
-        AppendsPrefix (E.contents err.old) (E.contents err.new)
-        (refusal_of name.now position.now.line (chomp line.now) o)
-        × AppendsPrefix (B.contents bad.old) (B.contents bad.new) (kept_of line.now o)) }
-{
-    let report = refusal_line(alloc, name, position, without_end(line), cause)?;
-    let kept = ended(alloc, line)?;
-    write_line(err, report.as_bytes())?;
-    write_line(bad, kept.as_slice())
-}
-
-// Writes the texts that were collected, and forgets them.
+// Writes the texts of the batch, and clears it.
 fn write_batch<O: Write>(out: &mut O, batch: &mut Vec<u8>) -> io::Result<()>
     ensures whole { OnOk result (Appends (O.contents out.old) (O.contents out.new) batch.old.items) }
     ensures part { AppendsPrefix (O.contents out.old) (O.contents out.new) batch.old.items }
@@ -106,7 +85,7 @@ fn write_batch<O: Write>(out: &mut O, batch: &mut Vec<u8>) -> io::Result<()>
     written
 }
 
-// Writes the batch before a read that may wait for more of the log, and where it is long.
+// Writes the batch if it is long, or if the next read may wait for more of the log.
 fn write_due<R: Read, O: Write>(
     reader: &BufReader<R>,
     out: &mut O,
@@ -124,7 +103,7 @@ fn write_due<R: Read, O: Write>(
     write_batch(out, batch)
 }
 
-// Converts the lines of a log as `convert_log` does. Texts that aren't written yet are left in the batch.
+// Converts the lines of a log as `convert_log` does. The batch then holds the texts that aren't written yet.
 fn convert_lines<C: Convert, R: Read, O: Write, E: Write, B: Write>(
     alloc: Global,
     converter: &C,
@@ -147,7 +126,7 @@ fn convert_lines<C: Convert, R: Read, O: Write, E: Write, B: Write>(
     ensures grows { Grows (O.contents out.old) (O.contents out.new) }
 {
     let mut counts = NONE;
-    let mut buffer = Vec::new(alloc);
+    let mut buffer = Vec::with_capacity(alloc, LINE)?;
     for line in origin.first_line..usize::MAX {
         write_due(reader, out, batch)?;
         buffer.clear();
@@ -166,9 +145,10 @@ fn convert_lines<C: Convert, R: Read, O: Write, E: Write, B: Write>(
             Outcome::Refused(column, cause) => {
                 write_batch(out, batch)?;
                 let position = LinePosition { line, column };
-                let line = buffer.as_slice();
+                let line = ended(alloc, buffer.as_slice())?;
+                let kept = line.as_slice();
                 let cause = cause.as_str();
-                write_refused(alloc, origin.name, &position, line, cause, err, bad)?;
+                write_report(alloc, origin.name, &position, bytes, cause, kept, err, bad)?;
                 counts.refused += 1;
             }
         }
@@ -211,7 +191,7 @@ pub fn convert_log<C: Convert, R: Read, O: Write, E: Write, B: Write>(
         (O.contents out.old) (O.contents out.new) (E.contents err.old) (E.contents err.new)
         (B.contents bad.old) (B.contents bad.new))) }
 {
-    let mut batch = Vec::new(alloc);
+    let mut batch = Vec::with_capacity(alloc, 2 * BATCH)?;
     let counts = convert_lines(alloc, converter, origin, reader, &mut batch, out, err, bad);
     let written = write_batch(out, &mut batch);
     let counts = counts?;

@@ -27,8 +27,8 @@ const LOGS: &str = "The logs; standard input if there is none";
 const NO_PROGRESS: &str =
     "Don't show how far each log is read. It is shown on standard error, if that is a terminal and standard output isn't one";
 
-// The bytes of a log that are read at once, at most.
-const CAPACITY: usize = 1 << 16;
+// One read takes at most this many bytes of a log.
+const CAPACITY: usize = 1 << 15;
 
 /// A program with words.
 pub trait Program {
@@ -124,7 +124,7 @@ pub fn log_command<'a>(
         .arg(no_progress)
 }
 
-// Reports an error and returns the exit status. A closed pipe is no news to who closed it.
+// Reports an error and returns the exit status. A closed pipe isn't reported: whoever closed it knows.
 fn report(rt: &HostRuntime, program: &str, name: &str, error: &io::Error) -> u8 {
     if error.kind() != ErrorKind::BrokenPipe {
         let _ = eprintln!(rt; "{program}: {name}: {error}");
@@ -155,7 +155,7 @@ pub fn main_of<P: Program>(rt: &HostRuntime) -> ExitCode {
     }
 }
 
-// The size of a file, if it is an ordinary one.
+// Returns the size of a file, if it is a regular one.
 fn size_of(file: &File) -> Option<u64> {
     let metadata = file.metadata().ok()?;
     metadata.is_file().then_some(metadata.len())
@@ -204,7 +204,7 @@ pub fn read_each<I: ReadInput>(
     status
 }
 
-// What is written to it is dropped.
+// A writer that drops what it gets.
 #[derive(Drop)]
 struct Sink;
 
@@ -218,7 +218,7 @@ impl Write for Sink {
     }
 }
 
-// A converter of logs, where the lines with an error are kept, and the counts of the logs that were read.
+// What reads the logs: the converter, the output for lines with an error, and the counts of the logs that were read.
 struct Logs<'a, C, B> {
     converter: &'a C,
     first_line: usize,
@@ -283,12 +283,12 @@ impl<C: Convert, B: Write> ReadInput for Logs<'_, C, B> {
     }
 }
 
-// Whether to show how far a log is read: on a terminal that nothing else is written to.
+// Returns whether to show the progress: only on a terminal that nothing else is written to.
 fn shows_progress(rt: &HostRuntime, matches: &ArgMatches<'_>) -> bool {
     !matches.get_flag("no-progress") && rt.stderr().is_terminal() && !rt.stdout().is_terminal()
 }
 
-// The progress of an input, if it is to be shown. Without a clock, nothing is shown.
+// Returns the progress of an input, if it is to be shown. Without a clock, nothing is shown.
 fn progress_of(
     rt: &HostRuntime,
     shows: bool,

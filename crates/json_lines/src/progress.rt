@@ -11,7 +11,7 @@ use std::io::{Read, Write};
 use std::rt::Clock;
 use std::time::{Duration, Instant};
 
-// How many line feeds there are. The sum is written out, so that it is compiled to code for many bytes at once.
+// Returns how many line feeds there are. A sum in a loop is compiled to vector instructions.
 fn line_feeds(bytes: &[u8]) -> usize
     ensures { result ≡ count_by (λ byte. byte == 10) bytes.now }
 {
@@ -41,7 +41,7 @@ impl Tally {
         errors: 0,
     };
 
-    // What was read, with these bytes after it.
+    // Returns the tally after these bytes.
     fn with_read(self, read: &[u8]) -> Tally
         ensures { result ≡ with_read self read.now }
     {
@@ -52,7 +52,7 @@ impl Tally {
         }
     }
 
-    // What was read, with one more line with an error.
+    // Returns the tally after one more line with an error.
     fn with_error(self) -> Tally
         ensures { result ≡ with_error self }
     {
@@ -64,7 +64,7 @@ impl Tally {
     }
 }
 
-// A number of bytes, in the largest unit that it reaches.
+// Returns a number of bytes, in the largest unit that it reaches.
 fn size_text(alloc: Global, bytes: u128) -> Result<String, AllocError>
     ensures { IfOk result (λ text. string_bytes text ≡ size_text bytes) }
 {
@@ -79,7 +79,7 @@ fn size_text(alloc: Global, bytes: u128) -> Result<String, AllocError>
     format!(in alloc; "{whole}.{tenth}{name}")
 }
 
-// How much of an input is read, if its size is known.
+// Returns how much of an input is read, if its size is known.
 fn percent_text(alloc: Global, bytes: u64, size: Option<u64>) -> Result<String, AllocError>
     ensures { IfOk result (λ text. string_bytes text ≡ percent_text bytes size) }
 {
@@ -92,14 +92,14 @@ fn percent_text(alloc: Global, bytes: u64, size: Option<u64>) -> Result<String, 
     }
 }
 
-// Whether a second has gone by.
+// Returns whether a second has passed since the line was drawn.
 fn is_due(drawn: Instant, now: Instant) -> bool
     ensures { IsTrue result ↔ (instant_nanos drawn + 1000000000 ≤ instant_nanos now) }
 {
     now.duration_since(drawn) >= Duration::from_secs(1)
 }
 
-// The bytes a second.
+// Returns the bytes a second.
 fn rate(bytes: u64, elapsed: Duration) -> u128
     ensures { result ≡ rate bytes (as_nanos elapsed) }
 {
@@ -145,7 +145,7 @@ pub struct Progress<'r, H> {
     size: Option<u64>,
     start: Instant,
     tally: Cell<Tally>,
-    // When the line was last drawn, or the start.
+    // When the line was last drawn; at first, the start.
     drawn: Cell<Instant>,
     is_shown: Cell<bool>,
 }
@@ -168,7 +168,7 @@ impl<'r, H: Clock + Eprint + AllocGlobal> Progress<'r, H> {
         })
     }
 
-    // Counts what was read, and shows it if it was last shown a second ago.
+    // Counts what was read, and draws the line if a second has passed since it was drawn.
     fn read(&self, read: &[u8]) {
         self.tally.set(self.tally.get().with_read(read));
         let _ = self.draw();
@@ -195,7 +195,7 @@ impl<'r, H: Clock + Eprint + AllocGlobal> Progress<'r, H> {
         }
     }
 
-    fn refused(&self) {
+    fn count_error(&self) {
         self.tally.set(self.tally.get().with_error());
     }
 }
@@ -241,9 +241,9 @@ impl<E: Write, H: Clock + Eprint + AllocGlobal> Write for Reports<'_, E, H> {
         };
         progress.clear();
         let count = self.err.write(buf)?;
-        // A line is complete when all that is left of it is written.
+        // The line is complete once its last bytes are written.
         if count == buf.len() {
-            progress.refused();
+            progress.count_error();
         }
         Ok(count)
     }

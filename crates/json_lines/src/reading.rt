@@ -9,7 +9,7 @@ use memchr::memchr;
 use std::io;
 use std::io::{BufRead, ErrorKind};
 
-// How many of these bytes a line takes: all up to its line feed, or all.
+// Returns how many of these bytes belong to the line: all up to its line feed, or all of them.
 fn len_of_line(bytes: &[u8]) -> usize
     ensures bound { result ≤ length bytes.now }
     ensures some { 0 < length bytes.now → 0 < result }
@@ -21,7 +21,8 @@ fn len_of_line(bytes: &[u8]) -> usize
     }
 }
 
-// Appends what the reader's buffer has of a line. Returns whether that ends the line. An interrupted read appends nothing.
+// Appends the part of the line that is in the reader's buffer. Returns whether the line ends there. An interrupted read
+// appends nothing.
 fn append_part<B: BufRead>(reader: &mut B, line: &mut Vec<u8>) -> io::Result<bool>
     ensures grows { vec_len line.old ≤ vec_len line.new }
     ensures appends { StartsWith line.new.items line.old.items }
@@ -47,7 +48,7 @@ fn append_part<B: BufRead>(reader: &mut B, line: &mut Vec<u8>) -> io::Result<boo
     Ok(is_done)
 }
 
-// Appends a line with the line feed at its end. Returns how many bytes it has: none at the end of the reader.
+// Appends a line with the line feed at its end. Returns how many bytes it has, which is 0 at the reader's end.
 pub(crate) fn read_line<B: BufRead>(reader: &mut B, line: &mut Vec<u8>) -> io::Result<usize>
     ensures ok { IfOk result (λ n. vec_len line.new ≡ vec_len line.old + n) }
     ensures bytes { OnOk result (IfSome (B.remaining reader.old)

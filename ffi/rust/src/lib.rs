@@ -414,15 +414,11 @@ impl Document {
     /// ```
     /// let walk = jiter_c::Document::parse(br#"{"a": [1, 2.5], "b": "c"}"#)?.walk()?;
     /// let members: Vec<_> = walk.root().children().map(|it| (it.key(), it.value().length)).collect();
-    /// assert_eq!(members, [(Some("a".into()), 2), (Some("b".into()), 1)]);
+    /// assert_eq!(members, [(Some("a"), 2), (Some("b"), 1)]);
     /// # Ok::<(), jiter_c::Error>(())
     /// ```
     pub fn walk(&self) -> Result<Walk> {
-        let (walk, mut fault) = (Handle::new()?, raw::Fault::default());
-        let given = unsafe {
-            raw::jiter_walk_begin(&mut walk.0.borrow_mut(), &mut self.0.0.borrow_mut(), &mut fault)
-        };
-        told(given, Walk(walk), fault)
+        Walk::of(&self.0)
     }
 }
 

@@ -51,8 +51,10 @@ pub struct Value {
 #[repr(C)]
 #[derive(Default, Clone, Copy)]
 pub struct Node {
-    pub value: Value,
-    pub index: usize,
+    pub kind: u32,
+    pub truth: u32,
+    pub integer: i64,
+    pub length: usize,
     pub nodes: usize,
     pub left: usize,
     pub text: usize,
@@ -121,10 +123,7 @@ unsafe extern "C" {
     pub fn jiter_document_double(
         handle: &mut Handle, pointer: *const u8, length: usize, steps: *const usize, depth: usize, value: &mut f64,
         finite: &mut bool, fault: &mut Fault) -> bool;
-    pub fn jiter_walk_begin(walk: &mut Handle, document: &mut Handle, fault: &mut Fault) -> bool;
-    pub fn jiter_walk_node(walk: &mut Handle, index: usize, node: &mut Node) -> bool;
-    pub fn jiter_walk_text(
-        walk: &mut Handle, begin: usize, count: usize, out: *mut u8, room: usize, whole: &mut usize) -> bool;
-    pub fn jiter_walk_double(
-        walk: &mut Handle, begin: usize, count: usize, value: &mut f64, finite: &mut bool) -> bool;
+    pub fn jiter_document_count(handle: &mut Handle, nodes: &mut usize, bytes: &mut usize) -> bool;
+    pub fn jiter_document_nodes(
+        handle: &mut Handle, nodes: *mut Node, count: usize, texts: *mut u8, length: usize) -> bool;
 }

@@ -1,48 +1,59 @@
 //! A walk through the values of a document.
-use crate::{raw, utf8, Handle, Type, Value};
+use crate::{double_of, raw, Error, Handle, Result, Type, Value};
 
 /// The values of a document, one after another. It owns them and their texts: the document may be dropped before.
 ///
-/// It may move to another thread: it is `Send`, and not `Sync`.
+/// It may move to another thread, and threads may share it: it is `Send` and `Sync`.
 ///
 /// ```
 /// let walk = jiter_c::Document::parse(br#"[1, {"a": "b"}]"#)?.walk()?;
 /// let second = walk.root().first_child().unwrap().next_sibling().unwrap();
 /// let member = second.first_child().unwrap();
-/// assert_eq!((member.key(), member.text()), (Some("a".into()), Some("b".into())));
+/// assert_eq!((member.key(), member.text()), (Some("a"), Some("b")));
 /// # Ok::<(), jiter_c::Error>(())
 /// ```
-pub struct Walk(pub(crate) Handle);
+pub struct Walk {
+    nodes: Vec<raw::Node>,
+    texts: String,
+}
 
-/// A value of a walk. Each call takes constant time, except to copy a text.
+/// A value of a walk. Each call takes constant time.
 #[derive(Clone, Copy)]
 pub struct Node<'w> {
     walk: &'w Walk,
-    raw: raw::Node,
+    index: usize,
     is_member: bool,
 }
 
+/// Returns an empty vector with this capacity.
+fn with_capacity<T>(count: usize) -> Result<Vec<T>> {
+    let mut items = Vec::new();
+    items.try_reserve_exact(count).map_err(|_| Error::memory())?;
+    Ok(items)
+}
+
 impl Walk {
+    pub(crate) fn of(document: &Handle) -> Result<Walk> {
+        let (mut count, mut length, handle) = (0, 0, &mut document.0.borrow_mut());
+        unsafe { raw::jiter_document_count(handle, &mut count, &mut length) };
+        let (mut nodes, mut texts) = (with_capacity(count)?, with_capacity(length)?);
+        nodes.resize(count, raw::Node::default());
+        texts.resize(length, 0);
+        unsafe { raw::jiter_document_nodes(handle, nodes.as_mut_ptr(), count, texts.as_mut_ptr(), length) };
+        Ok(Walk { nodes, texts: crate::utf8(texts) })
+    }
+
     /// Returns the document's value.
     pub fn root(&self) -> Node<'_> {
-        self.node(0, false).expect("a document has a value")
-    }
-
-    fn node(&self, index: usize, is_member: bool) -> Option<Node<'_>> {
-        let mut raw = raw::Node::default();
-        let found = unsafe { raw::jiter_walk_node(&mut self.0.0.borrow_mut(), index, &mut raw) };
-        found.then_some(Node { walk: self, raw, is_member })
-    }
-
-    fn text(&self, begin: usize, count: usize) -> String {
-        let (mut out, mut whole) = (vec![0; count], 0);
-        unsafe { raw::jiter_walk_text(&mut self.0.0.borrow_mut(), begin, count, out.as_mut_ptr(), count, &mut whole) };
-        out.truncate(whole);
-        utf8(out)
+        Node { walk: self, index: 0, is_member: false }
     }
 }
 
 impl<'w> Node<'w> {
+    fn raw(&self) -> &'w raw::Node {
+        &self.walk.nodes[self.index]
+    }
+
     /// Returns the value: its type, and what it is or how long.
     ///
     /// ```
@@ -51,7 +62,8 @@ impl<'w> Node<'w> {
     /// # Ok::<(), jiter_c::Error>(())
     /// ```
     pub fn value(&self) -> Value {
-        Value::of(self.raw.value)
+        let &raw::Node { kind, truth, integer, length, .. } = self.raw();
+        Value::of(raw::Value { kind, truth: truth == 1, integer, length })
     }
 
     /// Returns the type.
@@ -60,15 +72,15 @@ impl<'w> Node<'w> {
     }
 
     /// Returns the key, decoded, if the value is that of a member.
-    pub fn key(&self) -> Option<String> {
-        let count = self.raw.key_length;
-        self.is_member.then(|| self.walk.text(self.raw.text - count, count))
+    pub fn key(&self) -> Option<&'w str> {
+        let &raw::Node { text, key_length, .. } = self.raw();
+        self.is_member.then(|| &self.walk.texts[text - key_length..text])
     }
 
     /// Returns the string, decoded, or the source text of a number that is no `Int`; `None` for other values.
-    pub fn text(&self) -> Option<String> {
-        let has_text = matches!(self.kind(), Type::String | Type::Float | Type::BigInt);
-        has_text.then(|| self.walk.text(self.raw.text, self.raw.value.length))
+    pub fn text(&self) -> Option<&'w str> {
+        let &raw::Node { text, length, .. } = self.raw();
+        matches!(self.kind(), Type::String | Type::Float | Type::BigInt).then(|| &self.walk.texts[text..text + length])
     }
 
     /// Returns the double nearest to a number, whichever it is; `None` for other values.
@@ -81,25 +93,24 @@ impl<'w> Node<'w> {
     /// ```
     pub fn double(&self) -> Option<f64> {
         match self.kind() {
-            Type::Int => Some(self.raw.value.integer as f64),
-            Type::Float | Type::BigInt => {
-                let (mut value, mut finite) = (0.0, false);
-                let (begin, count, walk) = (self.raw.text, self.raw.value.length, &mut self.walk.0.0.borrow_mut());
-                unsafe { raw::jiter_walk_double(walk, begin, count, &mut value, &mut finite) }.then_some(value)
-            }
+            Type::Int => Some(self.raw().integer as f64),
+            Type::Float | Type::BigInt => self.text().map(double_of),
             _ => None,
         }
     }
 
+    fn at(&self, index: usize, is_member: bool) -> Node<'w> {
+        Node { walk: self.walk, index, is_member }
+    }
+
     /// Returns the first item or member.
     pub fn first_child(&self) -> Option<Node<'w>> {
-        let is_member = self.kind() == Type::Object;
-        if self.raw.nodes > 1 { self.walk.node(self.raw.index + 1, is_member) } else { None }
+        (self.raw().nodes > 1).then(|| self.at(self.index + 1, self.kind() == Type::Object))
     }
 
     /// Returns the next item or member of the same array or object.
     pub fn next_sibling(&self) -> Option<Node<'w>> {
-        if self.raw.left > 0 { self.walk.node(self.raw.index + self.raw.nodes, self.is_member) } else { None }
+        (self.raw().left > 0).then(|| self.at(self.index + self.raw().nodes, self.is_member))
     }
 
     /// Returns the items of an array or the members of an object, in order.

@@ -163,7 +163,7 @@ fn walks_through_a_document() -> Result<()> {
     let wanted = "{a:[Nullfalse,Booltrue,-7],:{b:c\tdNone},e:[2.50Some(2.5),9223372036854775808Some(9.223372036854775807e18),[],{}]}";
     assert_eq!(shown(walk.root()), wanted.replace("9.223372036854775807e18", "9.223372036854776e18"));
     let last = walk.root().children().last().unwrap();
-    assert_eq!((last.key(), last.next_sibling().is_none()), (Some("e".into()), true));
+    assert_eq!((last.key(), last.next_sibling().is_none()), (Some("e"), true));
     assert_eq!((last.first_child().unwrap().first_child().is_none(), walk.root().key()), (true, None));
     let moved = std::thread::spawn(move || shown(walk.root())).join().unwrap();
     assert_eq!(moved.len(), wanted.len() - 3);
@@ -188,6 +188,8 @@ fn handles_are_send() {
     is_send::<Document>();
     is_send::<Walk>();
     is_send::<Parser>();
+    fn is_sync<T: Sync>() {}
+    is_sync::<Walk>();
 }
 
 #[test]

@@ -1,12 +1,7 @@
 //! Two prefixes of one document, parsed in one call.
 ghost use Rattle.std.specs.Prelude.{◌≡◌, ◌≤◌, ◌⊎◌, IfOk, IfErr, length, take, true};
-ghost use Rattle.jiter_scan.specs.PartialMode.{is_active};
-ghost use Rattle.jiter_steps.specs.Cut.{IsBegunContainer};
-ghost use Rattle.jiter_steps.specs.Extends.{Extends};
-ghost use Rattle.jiter_value.specs.Owned.{owned_tree};
-ghost use Rattle.jiter_value.specs.Parses.{as_read};
-ghost use Rattle.jiter_value.specs.Value.{view, MayGrow};
-ghost use Rattle.jiter.specs.Prefixes.{ParsesPrefix, OneThenOther, IsCleanCut, PrefixesGrow};
+ghost use Rattle.jiter.specs.Words.{is_active, IsBegunContainer, Extends, owned_tree, as_read, view, MayGrow};
+ghost use Rattle.jiter.specs.Words.{ParsesPrefix, OneThenOther, IsCleanCut, PrefixesGrow};
 
 use jiter_scan::{JsonError, JsonErrorType, PartialMode};
 use jiter_value::JsonValue;

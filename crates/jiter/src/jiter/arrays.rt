@@ -1,10 +1,8 @@
 //! The pull reader's steps through arrays.
 ghost use Rattle.std.specs.Prelude.{◌≡◌, ◌<◌, ◌≤◌, length, option_map};
+ghost use Rattle.jiter.specs.Words.{step_of, next, known, array_read, item_reply, item_step, StandsAt};
+ghost use Rattle.jiter.specs.Words.{TellsHere, byte_of, Reads, never};
 ghost use Rattle.jiter_scan.specs.Ascii as ascii;
-ghost use Rattle.jiter_steps.specs.Found.{step_of};
-ghost use Rattle.jiter.specs.Reader.{next, known, array_read, item_reply, item_step};
-ghost use Rattle.jiter.specs.Jiter.{StandsAt, TellsHere, byte_of};
-ghost use Rattle.jiter.specs.Reads.{Reads, never};
 
 use crate::errors::{JiterResult, JsonType};
 use crate::jiter::Jiter;
@@ -71,7 +69,7 @@ impl<'j> Jiter<'j> {
                 let found = first(self.parser.bytes, at + 1, ContainerKind::Array);
                 self.item(found)
             }
-            (at, _) => self.stop_at(JsonType::Array, at),
+            (at, _) => Err(self.stop_at(JsonType::Array, at)),
         }
     }
 

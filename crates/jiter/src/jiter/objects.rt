@@ -1,20 +1,13 @@
 //! The pull reader's steps through objects.
-ghost use Rattle.std.specs.Borrow.{sem};
-ghost use Rattle.std.specs.Prelude.{◌≡◌, ◌<◌, ◌≤◌, ◌+◌, IfErr, IfOk, IfSome, None, OnOk, Some, length, option_map, slice_get};
-ghost use Rattle.std.specs.Prelude.{Option};
+ghost use Rattle.std.specs.Prelude.{◌≡◌, ◌<◌, ◌≤◌, ◌+◌, Err, IfErr, IfOk, IfSome, None, OnOk, Option, Some};
+ghost use Rattle.std.specs.Prelude.{length, option_map, slice_get};
+ghost use Rattle.jiter.specs.Words.{sem, step_of, raw_view, more, step, colon, object_first, object_step};
+ghost use Rattle.jiter.specs.Words.{text_view, Form, whole, raw, Text, value_place, next, known, colon_reply};
+ghost use Rattle.jiter.specs.Words.{member_reply, object_read, key_step, position_after, reply_seen};
+ghost use Rattle.jiter.specs.Words.{key_bytes, indexed_key_bytes, StandsAt, StandsBefore, EndsWithColon};
+ghost use Rattle.jiter.specs.Words.{KeyIsAt, Lends, Reads, never, key_memory, first_key_memory};
+ghost use Rattle.jiter.specs.Words.{next_key_memory, LeavesReader};
 ghost use Rattle.jiter_scan.specs.Ascii as ascii;
-ghost use Rattle.jiter_steps.specs.Found.{step_of};
-ghost use Rattle.jiter_steps.specs.RawString.{raw_view};
-ghost use Rattle.jiter_steps.specs.Step.{more, step, colon, object_first, object_step};
-ghost use Rattle.jiter_steps.specs.StringDecoder.{text_view};
-ghost use Rattle.jiter_steps.specs.StringReading.{Form, whole, raw};
-ghost use Rattle.jiter_steps.specs.Tree.{Text};
-ghost use Rattle.jiter.specs.Reader.{value_place, next, known, gave, colon_reply, member_reply, object_read};
-ghost use Rattle.jiter.specs.Reader.{key_step, position_after};
-ghost use Rattle.jiter.specs.Jiter.{MovesOn, reply_seen, key_bytes, StandsAt, indexed_key_view};
-ghost use Rattle.jiter.specs.Jiter.{StandsBefore, EndsWithColon, KeyIsAt, indexed_key_bytes};
-ghost use Rattle.jiter.specs.Reads.{Lends, Reads, never, key_memory, first_key_memory, next_key_memory};
-ghost use Rattle.jiter.specs.Lending.{LeavesReader};
 
 use crate::errors::{JiterResult, JsonType};
 use crate::jiter::Jiter;
@@ -33,14 +26,13 @@ impl<'j> Jiter<'j> {
             (λ found. step self.old.text object_first (value_place self.old + 1) ≡ step_of found.0 found.1) }
         ensures within { IfOk result (λ found. (self.new.position ≤ found.0) × (found.0 ≤ length self.new.text)) }
         ensures part { IfOk result (λ found. found.1 ≡ Step.Part → found.0 < length self.new.text) }
-        ensures brace { IfOk result
-            (λ _. slice_get self.old.text (value_place self.old) ≡ Some ascii.left_brace) }
+        ensures brace { IfOk result (λ _. slice_get self.old.text (value_place self.old) ≡ Some ascii.left_brace) }
         ensures refused { IfErr result (λ e. (form : Form) → Reads {X = Option Text} never (λ key. key)
             (next self.old (object_read form self.old)) (Err e) self.old self.new) }
     {
         match peek_for(self.parser.bytes, self.parser.index, b'{') {
             (at, Some(b'{')) => Ok(first(self.parser.bytes, at + 1, ContainerKind::Object)),
-            (at, _) => self.stop_at(JsonType::Object, at),
+            (at, _) => Err(self.stop_at(JsonType::Object, at)),
         }
     }
 
@@ -62,90 +54,59 @@ impl<'j> Jiter<'j> {
         }
     }
 
-    // Reads the plain key that a step found and its colon, or moves past the end of the object (`Some(None)`). Otherwise
-    // returns `None` and stays.
+    // Reads the key that a step found and its colon, or returns the end or the error that it found. Returns `None` and
+    // stays if the key is not in the document as it is, or its string has an error.
     #[inline(always)]
-    fn plain_key(&mut self, found: (usize, Step)) -> Option<Option<&'j str>>
+    fn plain_key(&mut self, found: (usize, Step)) -> Option<JiterResult<Option<&'j str>>>
         requires within { (self.old.position ≤ found.0) × (found.0 ≤ length self.old.text) }
         requires part { found.1 ≡ Step.Part → found.0 < length self.old.text }
-        ensures moves { MovesOn self.old self.new }
-        ensures value { IfSome result
-            (λ key. reply_seen key_bytes (member_reply whole self.old.text (step_of found.0 found.1))
-            ≡ gave (option_map (λ x. x.now) key) self.new.position) }
-        ensures colon { IfSome result
-            (λ key. IfSome key (λ _. StandsBefore self.old.text self.new.position ascii.colon)) }
-        ensures index { IfSome result (λ key. IfSome key (λ _. found.1 ≡ Step.Part)) }
+        ensures reads { IfSome result (λ read. Reads never (option_map (λ x. x.now))
+            (reply_seen key_bytes (member_reply whole self.old.text (step_of found.0 found.1))) read self.old self.new) }
+        ensures colon { IfSome result (λ read. EndsWithColon read self.old.text self.new.position) }
+        ensures index { IfSome result (λ read. IfOk read (λ key. IfSome key (λ _. found.1 ≡ Step.Part))) }
+        ensures part { result ≡ None → found.1 ≡ Step.Part }
         ensures same { result ≡ None → self.new ≡ self.old }
     {
         match found {
             (at, Step::Part) => {
-                let Ok(key) = plain_text(self.parser.bytes, at) else {
+                let Ok((key, end)) = plain_text(self.parser.bytes, at) else {
                     return None;
                 };
-                match colon(self.parser.bytes, at + key.len() + 2) {
-                    (end, None) => {
-                        self.parser.index = end;
-                        Some(Some(key))
-                    }
-                    _ => None,
-                }
+                Some(self.past_colon(end, Some(key)))
             }
             (at, Step::End) => {
                 self.parser.index = at;
-                Some(None)
+                Some(Ok(None))
             }
-            _ => None,
+            (at, Step::Fault(kind)) => Some(self.stop(kind, at)),
         }
     }
 
-    // Reads what the fast path can't, or returns the error that the step found.
+    // Reads the key at `at` and its colon.
     #[inline(never)]
-    fn take_key(
-        &mut self,
-        alloc: Global,
-        found: (usize, Step),
-    ) -> JiterResult<Option<(CowStr<'j>, usize)>>
-        requires within { (self.old.position ≤ found.0) × (found.0 ≤ length self.old.text) }
-        requires part { found.1 ≡ Step.Part → found.0 < length self.old.text }
-        ensures reads { Reads (key_memory self.old.text (step_of found.0 found.1)) (option_map indexed_key_view)
-            (member_reply whole self.old.text (step_of found.0 found.1)) result self.old self.new }
-        ensures colon { EndsWithColon result self.old.text self.new.position }
-        ensures index { KeyIsAt (step_of found.0 found.1) result }
+    fn take_key(&mut self, alloc: Global, at: usize) -> JiterResult<CowStr<'j>>
+        requires { (self.old.position ≤ at) × (at < length self.old.text) }
+        ensures reads { Reads (key_memory self.old.text (more at)) (λ key. Some (text_view key))
+            (member_reply whole self.old.text (more at)) result self.old self.new }
+        ensures colon { OnOk result (StandsBefore self.old.text self.new.position ascii.colon) }
     {
-        match found {
-            (at, Step::Part) => {
-                self.parser.index = at;
-                let text = self.string(alloc, false)?;
-                self.past_colon(self.parser.index, Some((text, at)))
-            }
-            (at, Step::End) => {
-                self.parser.index = at;
-                Ok(None)
-            }
-            (at, Step::Fault(kind)) => self.stop(kind, at),
-        }
+        self.parser.index = at;
+        let text = self.string(alloc, false)?;
+        self.past_colon(self.parser.index, text)
     }
 
     // A function of its own: otherwise the fast path would reserve stack space for the result of `take_key`.
     #[inline(always)]
-    fn slow_key(&mut self, alloc: Global, found: (usize, Step)) -> JiterResult<Option<&str>>
-        requires within { (self.old.position ≤ found.0) × (found.0 ≤ length self.old.text) }
-        requires part { found.1 ≡ Step.Part → found.0 < length self.old.text }
-        ensures reads { Lends (key_memory self.old.text (step_of found.0 found.1)) (option_map (λ x. x.now))
-            (reply_seen key_bytes (member_reply whole self.old.text (step_of found.0 found.1))) result self.old }
-        ensures colon { EndsWithColon result self.old.text
-            (position_after (member_reply whole self.old.text (step_of found.0 found.1))) }
-        ensures* after { sem 𝓛 (LeavesReader (key_memory self.old.text (step_of found.0 found.1)) (option_map (λ x. x.now))
-            (reply_seen key_bytes (member_reply whole self.old.text (step_of found.0 found.1))) result self.entry) }
+    fn slow_key(&mut self, alloc: Global, at: usize) -> JiterResult<Option<&str>>
+        requires { (self.old.position ≤ at) × (at < length self.old.text) }
+        ensures reads { Lends (key_memory self.old.text (more at)) (option_map (λ x. x.now))
+            (reply_seen key_bytes (member_reply whole self.old.text (more at))) result self.old }
+        ensures colon { EndsWithColon result self.old.text (position_after (member_reply whole self.old.text (more at))) }
+        ensures* after { sem 𝓛 (LeavesReader (key_memory self.old.text (more at)) (option_map (λ x. x.now))
+            (reply_seen key_bytes (member_reply whole self.old.text (more at))) result self.entry) }
     {
-        let key = self.take_key(alloc, found)?;
-        match key {
-            Some((text, _)) => {
-                self.text = text;
-                Ok(Some(self.text.as_str()))
-            }
-            None => Ok(None),
-        }
+        self.text = self.take_key(alloc, at)?;
+        Ok(Some(self.text.as_str()))
     }
 
     #[inline(always)]
@@ -159,27 +120,11 @@ impl<'j> Jiter<'j> {
         ensures* after { sem 𝓛 (LeavesReader (key_memory self.old.text (step_of found.0 found.1)) (option_map (λ x. x.now))
             (reply_seen key_bytes (member_reply whole self.old.text (step_of found.0 found.1))) result self.entry) }
     {
-        if let Some(key) = self.plain_key(found) {
-            return Ok(key);
+        match self.plain_key(found) {
+            Some(Ok(key)) => Ok(key),
+            Some(Err(error)) => Err(error),
+            None => self.slow_key(alloc, found.0),
         }
-        self.slow_key(alloc, found)
-    }
-
-    #[inline(always)]
-    fn slow_key_cow(
-        &mut self,
-        alloc: Global,
-        found: (usize, Step),
-    ) -> JiterResult<Option<(CowStr<'j>, usize)>>
-        requires within { (self.old.position ≤ found.0) × (found.0 ≤ length self.old.text) }
-        requires part { found.1 ≡ Step.Part → found.0 < length self.old.text }
-        ensures reads { Reads (key_memory self.old.text (step_of found.0 found.1)) (option_map indexed_key_bytes)
-            (reply_seen key_bytes (member_reply whole self.old.text (step_of found.0 found.1)))
-            result self.old self.new }
-        ensures colon { EndsWithColon result self.old.text self.new.position }
-        ensures index { KeyIsAt (step_of found.0 found.1) result }
-    {
-        self.take_key(alloc, found)
     }
 
     #[inline(always)]
@@ -197,9 +142,13 @@ impl<'j> Jiter<'j> {
         ensures index { KeyIsAt (step_of found.0 found.1) result }
     {
         match self.plain_key(found) {
-            Some(Some(text)) => Ok(Some((CowStr::Borrowed(text), found.0))),
-            Some(None) => Ok(None),
-            None => self.slow_key_cow(alloc, found),
+            Some(Ok(Some(text))) => Ok(Some((CowStr::Borrowed(text), found.0))),
+            Some(Ok(None)) => Ok(None),
+            Some(Err(error)) => Err(error),
+            None => {
+                let text = self.take_key(alloc, found.0)?;
+                Ok(Some((text, found.0)))
+            }
         }
     }
 
@@ -314,11 +263,8 @@ impl<'j> Jiter<'j> {
         ensures* after { sem 𝓛 (LeavesReader (first_key_memory self.old.text self.old.position) (option_map (λ x. x.now))
             (reply_seen key_bytes (known self.old (object_read whole self.old))) result self.entry) }
     {
-        let found = first(
-            self.parser.bytes,
-            self.parser.index + 1,
-            ContainerKind::Object,
-        );
+        let from = self.parser.index + 1;
+        let found = first(self.parser.bytes, from, ContainerKind::Object);
         self.key(alloc, found)
     }
 
@@ -346,8 +292,7 @@ impl<'j> Jiter<'j> {
     pub fn next_key(&mut self, alloc: Global) -> JiterResult<Option<&str>>
         ensures reads { Lends (next_key_memory self.old) (option_map (λ x. x.now))
             (reply_seen key_bytes (key_step whole self.old)) result self.old }
-        ensures colon { EndsWithColon result self.old.text
-            (position_after (key_step whole self.old)) }
+        ensures colon { EndsWithColon result self.old.text (position_after (key_step whole self.old)) }
         ensures* after { sem 𝓛 (LeavesReader (next_key_memory self.old) (option_map (λ x. x.now))
             (reply_seen key_bytes (key_step whole self.old)) result self.entry) }
     {

@@ -1,9 +1,6 @@
 //! The pull reader's calls for complete values that own their strings.
-ghost use Rattle.jiter_value.specs.Owned.{owned_tree};
-ghost use Rattle.jiter_value.specs.Value.{view};
-ghost use Rattle.jiter.specs.Reader.{value_place, next, known, value_read};
-ghost use Rattle.jiter.specs.Jiter.{StandsAt, byte_of, reply_seen};
-ghost use Rattle.jiter.specs.Reads.{Reads, owned_value_memory};
+ghost use Rattle.jiter.specs.Words.{owned_tree, view, value_place, next, known, value_read, StandsAt};
+ghost use Rattle.jiter.specs.Words.{byte_of, reply_seen, Reads, owned_value_memory};
 
 use crate::errors::JiterResult;
 use crate::jiter::{Jiter, refusal_at};

@@ -1,14 +1,9 @@
 //! The pull reader's calls for literals and numbers.
-ghost use Rattle.std.specs.Prelude.{◌≡◌, ◌<◌, ◌≤◌, length, true, false};
+ghost use Rattle.std.specs.Prelude.{◌<◌, ◌≤◌, length};
+ghost use Rattle.jiter.specs.Words.{number_view, int_view, number_at, seen_as, literal_at, next, known};
+ghost use Rattle.jiter.specs.Words.{scalar_reply, null_read, bool_read, number_read, int_read};
+ghost use Rattle.jiter.specs.Words.{number_bytes_read, StandsAt, byte_of, Reads, never};
 ghost use Rattle.jiter_scan.specs.Ascii as ascii;
-ghost use Rattle.jiter_scan.specs.NumberDecoder.{number_view, int_view};
-ghost use Rattle.jiter_scan.specs.NumberReading.{number_at};
-ghost use Rattle.jiter_scan.specs.Scanned.{taken};
-ghost use Rattle.jiter_steps.specs.Literal.{literal_at};
-ghost use Rattle.jiter.specs.Reader.{next, known, scalar_reply, null_read, bool_read, number_read};
-ghost use Rattle.jiter.specs.Reader.{int_read, number_bytes_read};
-ghost use Rattle.jiter.specs.Jiter.{MovesOn, StandsAt, byte_of};
-ghost use Rattle.jiter.specs.Reads.{Reads, never};
 
 use crate::errors::{JiterResult, JsonType};
 use crate::jiter::{Jiter, refusal, wrong_type};
@@ -17,16 +12,54 @@ use jiter_scan::number_decoder::{Integer, int_at};
 use jiter_scan::number_extent::fast_number_end;
 use jiter_scan::{NumberAny, NumberInt};
 use jiter_steps::fast::fast_literal_end;
-use jiter_steps::parse::{Literal, Start, start_of};
+use jiter_steps::parse::{Literal, Start, literal_end, start_of};
 use jiter_steps::step::{peek, peek_for};
 
 impl<'j> Jiter<'j> {
-    fn literal(&mut self, literal: Literal) -> JiterResult<()>
-        ensures reads { Reads never (λ u. u)
-            (scalar_reply self.old.position (literal_at self.old.text literal self.old.position))
-            result self.old self.new }
+    // Reads the literal at `at` near the end of the input, and finds the error.
+    #[cold]
+    #[inline(never)]
+    fn cold_literal<T: Drop>(&mut self, at: usize, literal: Literal, told: T) -> JiterResult<T>
+        requires { (self.old.position ≤ at) × (at < length self.old.text) }
+        ensures reads { Reads never (λ x. x)
+            (scalar_reply at (seen_as (λ _ _. told) (literal_at self.old.text literal at))) result self.old self.new }
     {
-        self.parser.literal(literal).map_err(refusal)
+        match literal_end(self.parser.bytes, at, literal) {
+            Ok(end) => {
+                self.parser.index = end;
+                Ok(told)
+            }
+            Err(fault) => {
+                self.parser.index = at;
+                Err(refusal(fault))
+            }
+        }
+    }
+
+    // A function of its own: otherwise the fast path would reserve stack space for the result of this call.
+    #[inline(always)]
+    fn slow_literal<T: Drop>(&mut self, at: usize, literal: Literal, told: T) -> JiterResult<T>
+        requires { (self.old.position ≤ at) × (at < length self.old.text) }
+        ensures reads { Reads never (λ x. x)
+            (scalar_reply at (seen_as (λ _ _. told) (literal_at self.old.text literal at))) result self.old self.new }
+    {
+        self.cold_literal(at, literal, told)
+    }
+
+    // Reads the literal at `at`.
+    #[inline(always)]
+    fn literal<T: Drop>(&mut self, at: usize, literal: Literal, told: T) -> JiterResult<T>
+        requires { (self.old.position ≤ at) × (at < length self.old.text) }
+        ensures reads { Reads never (λ x. x)
+            (scalar_reply at (seen_as (λ _ _. told) (literal_at self.old.text literal at))) result self.old self.new }
+    {
+        match fast_literal_end(self.parser.bytes, at, literal) {
+            Some(end) => {
+                self.parser.index = end;
+                Ok(told)
+            }
+            None => self.slow_literal(at, literal, told),
+        }
     }
 
     #[inline(always)]
@@ -37,44 +70,6 @@ impl<'j> Jiter<'j> {
             result self.old self.new }
     {
         self.parser.number(self.allow_inf_nan).map_err(refusal)
-    }
-
-    // Reads the literal at `at` if it is there and more bytes follow. Otherwise the reader stays where it is.
-    #[inline(always)]
-    fn fast_literal(&mut self, at: usize, literal: Literal) -> bool
-        requires within { (self.old.position ≤ at) × (at < length self.old.text) }
-        ensures moves { MovesOn self.old self.new }
-        ensures value { result ≡ true → literal_at self.old.text literal at ≡ taken tt self.new.position }
-        ensures same { result ≡ false → self.new ≡ self.old }
-    {
-        match fast_literal_end(self.parser.bytes, at, literal) {
-            Some(end) => {
-                self.parser.index = end;
-                true
-            }
-            None => false,
-        }
-    }
-
-    // Reads what the fast path can't, and finds the error.
-    #[cold]
-    #[inline(never)]
-    fn cold_null(&mut self) -> JiterResult<()>
-        ensures reads { Reads never (λ u. u) (next self.old (null_read self.old)) result self.old self.new }
-    {
-        let start = self.next_start()?;
-        match start {
-            Start::Literal(Literal::Null) => self.literal(Literal::Null),
-            _ => Err(self.refused_as(JsonType::Null, start)),
-        }
-    }
-
-    // A function of its own: otherwise the fast path would reserve stack space for the result of this call.
-    #[inline(always)]
-    fn slow_null(&mut self) -> JiterResult<()>
-        ensures reads { Reads never (λ u. u) (next self.old (null_read self.old)) result self.old self.new }
-    {
-        self.cold_null()
     }
 
     /// Reads `null` (RFC 8259, 3).
@@ -92,8 +87,8 @@ impl<'j> Jiter<'j> {
         ensures reads { Reads never (λ u. u) (next self.old (null_read self.old)) result self.old self.new }
     {
         match peek_for(self.parser.bytes, self.parser.index, b'n') {
-            (at, Some(b'n')) if self.fast_literal(at, Literal::Null) => Ok(()),
-            _ => self.slow_null(),
+            (at, Some(b'n')) => self.literal(at, Literal::Null, ()),
+            (at, _) => Err(self.stop_at(JsonType::Null, at)),
         }
     }
 
@@ -116,28 +111,6 @@ impl<'j> Jiter<'j> {
         self.next_null()
     }
 
-    // Reads what the fast path can't, and finds the error.
-    #[cold]
-    #[inline(never)]
-    fn cold_bool(&mut self) -> JiterResult<bool>
-        ensures reads { Reads never (λ b. b) (next self.old (bool_read self.old)) result self.old self.new }
-    {
-        let start = self.next_start()?;
-        match start {
-            Start::Literal(Literal::True) => self.literal(Literal::True).and(Ok(true)),
-            Start::Literal(Literal::False) => self.literal(Literal::False).and(Ok(false)),
-            _ => Err(self.refused_as(JsonType::Bool, start)),
-        }
-    }
-
-    // A function of its own: otherwise the fast path would reserve stack space for the result of this call.
-    #[inline(always)]
-    fn slow_bool(&mut self) -> JiterResult<bool>
-        ensures reads { Reads never (λ b. b) (next self.old (bool_read self.old)) result self.old self.new }
-    {
-        self.cold_bool()
-    }
-
     /// Reads `true` or `false` (RFC 8259, 3).
     ///
     /// # Errors
@@ -153,9 +126,9 @@ impl<'j> Jiter<'j> {
         ensures reads { Reads never (λ b. b) (next self.old (bool_read self.old)) result self.old self.new }
     {
         match peek_for(self.parser.bytes, self.parser.index, b't') {
-            (at, Some(b't')) if self.fast_literal(at, Literal::True) => Ok(true),
-            (at, Some(b'f')) if self.fast_literal(at, Literal::False) => Ok(false),
-            _ => self.slow_bool(),
+            (at, Some(b't')) => self.literal(at, Literal::True, true),
+            (at, Some(b'f')) => self.literal(at, Literal::False, false),
+            (at, _) => Err(self.stop_at(JsonType::Bool, at)),
         }
     }
 
@@ -194,8 +167,7 @@ impl<'j> Jiter<'j> {
     ///
     /// The reader is then at the value's first byte (or at the end, if only whitespace is left).
     pub fn next_number(&mut self) -> JiterResult<NumberAny<'j>>
-        ensures reads { Reads never number_view (next self.old (number_read self.old))
-            result self.old self.new }
+        ensures reads { Reads never number_view (next self.old (number_read self.old)) result self.old self.new }
     {
         let peek = self.peek()?;
         self.known_number(peek)
@@ -212,8 +184,7 @@ impl<'j> Jiter<'j> {
     /// The byte of `peek` is at the reader's position, as after the call that returned it. `rt try` does not test it.
     pub fn known_number(&mut self, peek: Peek) -> JiterResult<NumberAny<'j>>
         requires { StandsAt self.old (byte_of peek) }
-        ensures reads { Reads never number_view (known self.old (number_read self.old))
-            result self.old self.new }
+        ensures reads { Reads never number_view (known self.old (number_read self.old)) result self.old self.new }
     {
         let start = start_of(peek.into_inner());
         match start {
@@ -279,8 +250,7 @@ impl<'j> Jiter<'j> {
     #[cold]
     #[inline(never)]
     fn cold_number_bytes(&mut self) -> JiterResult<&'j [u8]>
-        ensures reads { Reads never (λ b. b.now) (next self.old (number_bytes_read self.old))
-            result self.old self.new }
+        ensures reads { Reads never (λ b. b.now) (next self.old (number_bytes_read self.old)) result self.old self.new }
     {
         let start = self.next_start()?;
         let index = self.parser.index;
@@ -296,8 +266,7 @@ impl<'j> Jiter<'j> {
     // A function of its own: otherwise the fast path would reserve stack space for the result of this call.
     #[inline(always)]
     fn slow_number_bytes(&mut self) -> JiterResult<&'j [u8]>
-        ensures reads { Reads never (λ b. b.now) (next self.old (number_bytes_read self.old))
-            result self.old self.new }
+        ensures reads { Reads never (λ b. b.now) (next self.old (number_bytes_read self.old)) result self.old self.new }
     {
         self.cold_number_bytes()
     }
@@ -311,8 +280,7 @@ impl<'j> Jiter<'j> {
     /// The reader is then at the value's first byte (or at the end, if only whitespace is left).
     #[inline(always)]
     pub fn next_number_bytes(&mut self) -> JiterResult<&'j [u8]>
-        ensures reads { Reads never (λ b. b.now) (next self.old (number_bytes_read self.old))
-            result self.old self.new }
+        ensures reads { Reads never (λ b. b.now) (next self.old (number_bytes_read self.old)) result self.old self.new }
     {
         if let (at, Some(_)) = peek(self.parser.bytes, self.parser.index) {
             if let Some(end) = fast_number_end(self.parser.bytes, at) {

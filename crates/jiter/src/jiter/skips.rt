@@ -1,8 +1,6 @@
 //! The pull reader's skips, which move past a value and build nothing.
-ghost use Rattle.jiter.specs.Reader.{next, known, value_read, skip_read};
-ghost use Rattle.jiter.specs.Jiter.{Replies, StandsAt, byte_of};
-ghost use Rattle.jiter.specs.Reads.{Reads, never};
-ghost use Rattle.jiter.specs.Skipping.{SkipsAsRead};
+ghost use Rattle.jiter.specs.Words.{next, known, value_read, skip_read, Replies, StandsAt, byte_of, Reads};
+ghost use Rattle.jiter.specs.Words.{never, SkipsAsRead};
 
 use crate::errors::JiterResult;
 use crate::jiter::{Jiter, refusal};

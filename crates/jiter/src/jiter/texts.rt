@@ -1,17 +1,11 @@
 //! The pull reader's calls for strings.
-ghost use Rattle.std.specs.Borrow.{sem};
-ghost use Rattle.std.specs.Prelude.{◌≡◌, ◌+◌, ◌<◌, ◌≤◌, Bool, IfErr, IfOk, IfSome, Some, if◌then◌else◌, length, slice_get};
-ghost use Rattle.std.specs.Prelude.{false, true, vec_len};
-ghost use Rattle.std.specs.Str.{IsUtf8};
+ghost use Rattle.std.specs.Prelude.{◌≡◌, ◌+◌, ◌<◌, ◌≤◌, Bool, IfErr, IfOk, IfSome, Some, if◌then◌else◌};
+ghost use Rattle.std.specs.Prelude.{length, slice_get, false, true, vec_len, IsUtf8};
+ghost use Rattle.jiter.specs.Words.{sem, taken, raw_view, text_view, string_at, text_form, whole, kept, raw};
+ghost use Rattle.jiter.specs.Words.{raw_kept, value_place, next, known, scalar_reply, str_read, bytes_read};
+ghost use Rattle.jiter.specs.Words.{prefix, reply_seen, text_bytes, IsEscapedAt, StandsAt, Lends, Reads};
+ghost use Rattle.jiter.specs.Words.{never, escape_memory, string_memory, LeavesReader};
 ghost use Rattle.jiter_scan.specs.Ascii as ascii;
-ghost use Rattle.jiter_scan.specs.Scanned.{taken};
-ghost use Rattle.jiter_steps.specs.RawString.{raw_view};
-ghost use Rattle.jiter_steps.specs.StringDecoder.{text_view};
-ghost use Rattle.jiter_steps.specs.StringReading.{string_at, text_form, whole, kept, raw, raw_kept};
-ghost use Rattle.jiter.specs.Reader.{value_place, next, known, scalar_reply, str_read, bytes_read};
-ghost use Rattle.jiter.specs.Jiter.{prefix, reply_seen, text_bytes, IsEscapedAt, StandsAt};
-ghost use Rattle.jiter.specs.Reads.{Lends, Reads, never, escape_memory, string_memory};
-ghost use Rattle.jiter.specs.Lending.{LeavesReader};
 
 use crate::errors::{JiterResult, JsonType};
 use crate::jiter::{Jiter, refusal, refusal_at};
@@ -23,21 +17,24 @@ use jiter_steps::string_decoder::{checked_text, decode};
 use std::alloc::Global;
 use std::borrow::CowStr;
 
-// Returns the string at `at`, if it is in the document as it is. Otherwise returns its first backslash, and whether all
-// bytes before it are below 80 hex, or `None` if it has none or an error is before it.
+// Returns the string at `at` and where it ends, if it is in the document as it is. Otherwise returns its first
+// backslash, and whether all bytes before it are below 80 hex, or `None` if it has none or an error is before it.
 #[inline(always)]
-pub(super) fn plain_text<'j>(bytes: &'j [u8], at: usize) -> Result<&'j str, Option<(usize, bool)>>
+pub(super) fn plain_text<'j>(
+    bytes: &'j [u8],
+    at: usize,
+) -> Result<(&'j str, usize), Option<(usize, bool)>>
     requires { at < length bytes.now }
-    ensures value { IfOk result (λ text. (keep : Bool) → string_at (text_form keep) bytes.now at
-        ≡ taken (record { owned = false; bytes = text.now }) (at + length text.now + 2)) }
-    ensures within { IfOk result (λ text. at + length text.now + 2 ≤ length bytes.now) }
+    ensures value { IfOk result (λ read. (keep : Bool) → string_at (text_form keep) bytes.now at
+        ≡ taken (record { owned = false; bytes = read.0.now }) read.1) }
+    ensures within { IfOk result (λ read. (at < read.1) × (read.1 ≤ length bytes.now)) }
     ensures escaped { IfErr result (λ e. IfSome e (IsEscapedAt bytes.now at)) }
 {
     let (to, look) = look_at(bytes, at + 1);
     match look {
-        Look::Plain => Ok(ascii_text(&bytes[at + 1..to])),
+        Look::Plain => Ok((ascii_text(&bytes[at + 1..to]), to + 1)),
         Look::Utf8 => match checked_text(bytes, at + 1, to, false) {
-            Ok(text) => Ok(text),
+            Ok(text) => Ok((text, to + 1)),
             Err(_) => Err(None),
         },
         Look::Escaped(ascii) => Err(Some((to, ascii))),
@@ -167,8 +164,8 @@ impl<'j> Jiter<'j> {
     {
         if let (at, Some(b'"')) = peek_for(self.parser.bytes, self.parser.index, b'"') {
             match plain_text(self.parser.bytes, at) {
-                Ok(text) => {
-                    self.parser.index = at + text.len() + 2;
+                Ok((text, end)) => {
+                    self.parser.index = end;
                     return Ok(text);
                 }
                 Err(Some(escape)) => return self.escaped_str(alloc, at, escape),
@@ -203,8 +200,8 @@ impl<'j> Jiter<'j> {
             (next self.old (str_read self.old)) result self.old self.new }
     {
         if let (at, Some(b'"')) = peek_for(self.parser.bytes, self.parser.index, b'"') {
-            if let Ok(plain) = plain_text(self.parser.bytes, at) {
-                self.parser.index = at + plain.len() + 2;
+            if let Ok((plain, end)) = plain_text(self.parser.bytes, at) {
+                self.parser.index = end;
                 return Ok(CowStr::Borrowed(plain));
             }
         }

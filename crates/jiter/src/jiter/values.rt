@@ -1,8 +1,6 @@
 //! The pull reader's calls for complete values.
-ghost use Rattle.jiter_value.specs.Value.{view};
-ghost use Rattle.jiter.specs.Reader.{value_place, next, known, value_read};
-ghost use Rattle.jiter.specs.Jiter.{StandsAt, byte_of};
-ghost use Rattle.jiter.specs.Reads.{Reads, value_memory};
+ghost use Rattle.jiter.specs.Words.{view, value_place, next, known, value_read, StandsAt, byte_of, Reads};
+ghost use Rattle.jiter.specs.Words.{value_memory};
 
 use crate::errors::JiterResult;
 use crate::jiter::{Jiter, refusal_at};

@@ -1,11 +1,11 @@
 -- What the next byte is to a document that arrives, where no token is unfinished.
-use Rattle.jiter_incremental.proofs.Words.{◌≡◌, ◌+◌, ◌≤◌, ◌∷◌, ◌++◌, ◌∙◌, ℕ, List, [], ap, arith, get_or, length}
-use Rattle.jiter_incremental.proofs.Words.{slice_get-get_or, None, slice_range, slice-one, slice_range-split}
+use Rattle.jiter_incremental.proofs.Words.{◌≡◌, ◌+◌, ◌≤◌, ◌∷◌, ◌++◌, ℕ, List, [], ap, get_or, length, None}
 use Rattle.jiter_incremental.proofs.Words.{nesting_limit, Tree, Arrived, IsLeft, OpenValue, TakesByte, Document}
 use Rattle.jiter_incremental.proofs.Words.{Follows, HasTakenIn, IsReadAs, IsScalarWithin, anything, between_tokens}
-use Rattle.jiter_incremental.proofs.Words.{with_byte}
+use Rattle.jiter_incremental.proofs.Words.{slice_range, with_byte}
 use Rattle.jiter_incremental.specs.declared.reader.Token.TheVariants as token
 use Rattle.jiter_incremental.proofs.Documents.{known-any, taken-between, takes-byte}
+use Rattle.jiter_incremental.proofs.Documents.Tokens.{range-first}
 
 -- A scalar that ends within a chunk: it is followed by what comes then,
 module _ (chunk : List ℕ) (at : ℕ) (v : Tree) (e : ℕ) (h : IsScalarWithin chunk at v e) where
@@ -16,10 +16,7 @@ module _ (chunk : List ℕ) (at : ℕ) (v : Tree) (e : ℕ) (h : IsScalarWithin 
   bytes = slice_range chunk at e
 
   scalar-bytes : bytes ≡ first ∷ slice_range chunk (at + 1) e
-  scalar-bytes =
-      slice_range-split chunk at (at + 1) (omega arith) e (omega (arith, h.begins))
-      ∙ ap (λ w. w ++ slice_range chunk (at + 1) e)
-      (slice-one chunk at first (slice_get-get_or chunk at 0 (omega (arith, h.begins, h.within))))
+  scalar-bytes = range-first chunk at e h.begins h.within
 
   pub scalar-follows : Follows (with_byte first) bytes anything
   scalar-follows u comes = (slice_range chunk (at + 1) e ++ u, ap (λ w. w ++ u) scalar-bytes)

@@ -1,4 +1,4 @@
--- What the plain way answers of literals and of strings that need no decoding.
+-- What the fast path returns for literals, and for strings that need no decoding.
 use Rattle.jiter_steps.proofs.Words.{◌≡◌, ℕ, ◌+◌, ◌<◌, true, false, List, [], length, ◌∙◌, arith, ◌∷◌, refl, Bool}
 use Rattle.jiter_steps.proofs.Words.{slice_get, slice_range, Some, AllPass, nat_tests, scan_stop, is_ascii, IsAscii}
 use Rattle.jiter_steps.proofs.Words.{IsUtf8, eq-eqb, taken, word_at, text_form, string_at, between}

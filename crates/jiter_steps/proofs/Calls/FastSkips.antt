@@ -1,4 +1,4 @@
--- The plain way of skipping, as what its open containers complete the reading to.
+-- The fast path of skipping, as what its open containers complete the reading to.
 use Rattle.jiter_steps.proofs.Words.{◌≡◌, ◌≢◌, ℕ, ◌+◌, ◌-◌, ◌<◌, ◌≤◌, Bool, true, false, List, ◌∷◌, length, refl, sym}
 use Rattle.jiter_steps.proofs.Words.{ap, subst, ◌∙◌, arith, slice_get, slice_index, slice_index_or, slice_set, IfSome}
 use Rattle.jiter_steps.proofs.Words.{Option, Some, None, Ok, number_extent, extent_then, is_plain, scan_stop, taken}
@@ -158,11 +158,6 @@ near-closed t i to within stop quote =
     (raw-closed t false (i + 1) to (raw-over_run t (i + 1) to within stop other) quote)
 
 module _ (t : List ℕ) (i : ℕ) where
-  pub string-ends : (e : ℕ) → start_of (slice_index t i) ≡ start.String
-      → seen_as (λ s k. tt {0}) (string_at raw t i) ≡ taken tt e → IsPlainEnd t i e
-  string-ends e begins is = λ names levels.
-      ap (value_with (only_ends names) (λ j. inside_at (only_ends names) t levels j) t i) begins ∙ ap (scalar_at i) is
-
   pub number-ends : (e : ℕ) → start_of (slice_index t i) ≡ start.Number
       → ((names : Bool) → number_extent names t i ≡ taken tt e) → IsPlainEnd t i e
   number-ends e begins is = λ names levels. number-value names t levels i begins ∙ ap (scalar_at i) (is names)

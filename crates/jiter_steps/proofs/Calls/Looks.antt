@@ -1,16 +1,15 @@
 -- What a look at a string says of its reading.
 use Rattle.jiter_steps.proofs.Words.{◌≡◌, ◌≢◌, ℕ, ◌+◌, ◌<◌, Bool, true, false, List, length, refl, sym, ap, ◌∙◌}
-use Rattle.jiter_steps.proofs.Words.{arith, subst, ◌==◌, slice_get, slice_range, Option, Some, None, IsUtf8}
-use Rattle.jiter_steps.proofs.Words.{utf8_valid_len, same_Some, slice_get_past, control_character, eof_string}
+use Rattle.jiter_steps.proofs.Words.{arith, subst, ◌==◌, slice_get, slice_range, Option, Some, None}
+use Rattle.jiter_steps.proofs.Words.{utf8_valid_len, slice_get_past, eof_string}
 use Rattle.jiter_steps.proofs.Words.{fault_kind, IsLook, scan_stop, taken, failed, FaultKind, Look, failed-taken}
-use Rattle.jiter_steps.proofs.Words.{if_gives, same_taken, get-none, between, checked, Form, kept, raw}
-use Rattle.jiter_steps.proofs.Words.{raw_form, raw_kept, string_at, text_form, text_in_form, unclosed, whole, Text}
+use Rattle.jiter_steps.proofs.Words.{if_gives, same_taken, get-none, between, checked, kept}
+use Rattle.jiter_steps.proofs.Words.{string_at, text_form, whole, Text}
 use Rattle.jiter_scan.specs.Scan.{IsFaultOf}
 use Rattle.jiter_scan.specs.declared.errors.FaultKind.TheVariants as fault
 use Rattle.jiter_scan.specs.declared.short_scan.Look.TheVariants as look
 use Rattle.jiter_steps.proofs.Calls.FastAnswers.{plain-quoted, plain-utf8}
 use Rattle.jiter_steps.proofs.Calls.PlainRuns.{plain_run-within}
-use Rattle.jiter_steps.proofs.Calls.RawStrings.{raw-closed, raw-over_run}
 use Rattle.jiter_steps.proofs.Reading.StringForms.{content-kept}
 use Rattle.jiter_steps.specs.StringDecoder.{WantsMemory}
 use Rattle.jiter_steps.proofs.Calls.StringAnswers.{string-control, string-none, string-quote}
@@ -27,10 +26,6 @@ module _ (t : List ℕ) (at to : ℕ) (inside : at < length t) (stop : to ≡ sc
   look-plain found keep = plain-quoted t at to inside stop found.0 (plain-utf8 content found.1) keep
 
   -- one whose bytes have to be tested
-  pub look-utf8 : Found look.Utf8 → IsUtf8 content → (keep : Bool)
-      → string_at (text_form keep) t at ≡ taken (between t (at + 1) to) (to + 1)
-  look-utf8 found utf8 keep = plain-quoted t at to inside stop found utf8 keep
-
   pub look-checked : Found look.Utf8 → (keep : Bool)
       → string_at (text_form keep) t at ≡ checked keep (at + 1) false content (to + 1)
   look-checked found keep = string-quote t at inside to stop keep found
@@ -65,17 +60,6 @@ module _ (t : List ℕ) (at to : ℕ) (inside : at < length t) (stop : to ≡ sc
   pub look-escaped : (a : Bool) → Found (look.Escaped a) → WantsMemory t at
   look-escaped a found = subst (λ j. slice_get t j ≡ Some 92) stop found.0
 
-  -- a control byte
-  control-here : (form : Form) (o : Option ℕ) → slice_get t to ≡ o → IsFaultOf o fault.ControlCharacterWhileParsingString
-      → string_at form t at ≡ failed control_character to
-  control-here form None here found = absurd (cc)
-  control-here form (Some b) here found =
-      string-control t at inside to stop form b here (omega (arith, found.0)) (omega (arith, found.0))
-
-  pub look-control : (form : Form) → Found (look.Fault fault.ControlCharacterWhileParsingString)
-      → string_at form t at ≡ failed control_character to
-  look-control form found = control-here form (slice_get t to) refl found
-
   -- the end of the input
   none-here : (o : Option ℕ) → IsFaultOf o fault.EofWhileParsingString → o ≡ None
   none-here None found = refl
@@ -92,34 +76,19 @@ module _ (t : List ℕ) (at to : ℕ) (inside : at < length t) (stop : to ≡ sc
       string-none t at inside to stop kept (slice_get_past t to (omega arith))
       ∙ ap (checked true (at + 1) false content) (sym end)
 
-  pub look-kept : Found (look.Fault fault.EofWhileParsingString)
-      → string_at kept t at ≡ checked true (at + 1) false content to
-  look-kept found = look-ended (look-end found)
-
-  pub look-raw_kept : Found (look.Fault fault.EofWhileParsingString)
-      → string_at raw_kept t at ≡ taken (between t (at + 1) to) to
-  look-raw_kept found =
-      string-none t at inside to stop raw_kept (none-here (slice_get t to) found)
-      ∙ ap (λ e. taken (between t (at + 1) e) e) (sym (look-end found))
-
   -- any error, of a string that has to be closed
-  module _ (form : Form)
-      (ends : text_in_form form t (at + 1) content false unclosed ≡ failed eof_string (length t)) where
-    fault-here : (k : FaultKind) (o : Option ℕ) → slice_get t to ≡ o → IsFaultOf o k
-        → string_at form t at ≡ failed (fault_kind k) to
-    fault-here k None here found =
-        string-none t at inside to stop form here ∙ ends
-        ∙ ap (failed eof_string) (sym (look-end (rw (here, sym found) refl)))
-        ∙ ap (λ x. failed (fault_kind x) to) (sym found)
-    fault-here k (Some b) here found =
-        string-control t at inside to stop form b here (omega (arith, found.0)) (omega (arith, found.0))
-        ∙ ap (λ x. failed (fault_kind x) to) (sym found.1)
+  fault-here : (k : FaultKind) (o : Option ℕ) → slice_get t to ≡ o → IsFaultOf o k
+      → string_at whole t at ≡ failed (fault_kind k) to
+  fault-here k None here found =
+      string-none t at inside to stop whole here
+      ∙ ap (failed eof_string) (sym (look-end (rw (here, sym found) refl)))
+      ∙ ap (λ x. failed (fault_kind x) to) (sym found)
+  fault-here k (Some b) here found =
+      string-control t at inside to stop whole b here (omega (arith, found.0)) (omega (arith, found.0))
+      ∙ ap (λ x. failed (fault_kind x) to) (sym found.1)
 
   pub look-fault : (k : FaultKind) → Found (look.Fault k) → string_at whole t at ≡ failed (fault_kind k) to
-  look-fault k found = fault-here whole refl k (slice_get t to) refl found
-
-  pub look-raw_fault : (k : FaultKind) → Found (look.Fault k) → string_at raw t at ≡ failed (fault_kind k) to
-  look-raw_fault k found = fault-here raw refl k (slice_get t to) refl found
+  look-fault k found = fault-here k (slice_get t to) refl found
 
   -- or of one that is kept, unless the input ends there
   pub look-unkept : (keep : Bool) (k : FaultKind) → Found (look.Fault k) → (keep ≡ true → to ≢ length t)
@@ -131,11 +100,3 @@ module _ (t : List ℕ) (at to : ℕ) (inside : at < length t) (stop : to ≡ sc
     by (Some b) here f =
         string-control t at inside to stop kept b here (omega (arith, f.0)) (omega (arith, f.0))
         ∙ ap (λ x. failed (fault_kind x) to) (sym f.1)
-
-  -- the bytes between the quotes, without an escape
-  pub look-raw : (keep : Bool) → slice_get t to ≡ Some 34
-      → string_at (raw_form keep) t at ≡ taken (between t (at + 1) to) (to + 1)
-  look-raw keep quote =
-      let unescaped : slice_get t to ≢ Some 92 =
-      λ backslash. let same = same_Some _ _ (sym quote ∙ backslash) in absurd (omega arith) in
-      raw-closed t keep (at + 1) to (raw-over_run t (at + 1) to (omega arith) stop unescaped) quote

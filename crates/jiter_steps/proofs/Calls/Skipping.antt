@@ -1,13 +1,13 @@
 -- The turns of a skip, as what its open containers complete the reading to.
 use Rattle.jiter_steps.proofs.Words.{◌≡◌, ◌≢◌, ℕ, zero, suc, ◌+◌, ◌-◌, ◌<◌, ◌≤◌, Bool, true, false, List, [], ◌∷◌, ◌++◌}
 use Rattle.jiter_steps.proofs.Words.{None, length, refl, sym, ap, ap₂, ◌∙◌, arith, slice_index, slice_index_or}
-use Rattle.jiter_steps.proofs.Words.{slice_set, Result, Ok, Kind, recursion_limit, Scanned, taken, failed, Extent}
-use Rattle.jiter_steps.proofs.Words.{Fault, seen_as, only_ends, nothing_forgiven, start_of, Step, more, closed, stuck}
+use Rattle.jiter_steps.proofs.Words.{slice_set, Kind, recursion_limit, Scanned, taken, failed, Extent}
+use Rattle.jiter_steps.proofs.Words.{seen_as, only_ends, nothing_forgiven, start_of, Step, more, closed, stuck}
 use Rattle.jiter_steps.proofs.Words.{step, opening, container_first, container_step, object_colon, ContainerKind, raw}
 use Rattle.jiter_steps.proofs.Words.{string_at, Reading, done, fault, Container, with_key, after_colon, after_key}
 use Rattle.jiter_steps.proofs.Words.{follow, after_part, inside_at, parts_at, scalar_at, value_at, value_with, Frame}
 use Rattle.jiter_steps.proofs.Words.{resolve_step, parts_from, parts_step, value_in, resume, value_from, value_inside}
-use Rattle.jiter_steps.proofs.Words.{inside, first_inside, next_inside, frame_of, open_frames, Continues, with_value}
+use Rattle.jiter_steps.proofs.Words.{inside, first_inside, next_inside, frame_of, open_frames, with_value}
 use Rattle.jiter_steps.proofs.Words.{number_extent, number_at}
 use Rattle.std.proofs.lemmas.List.{get_or-set_same, get_or-set_other}
 use Rattle.jiter_steps.specs.declared.parse.ContainerKind.TheVariants as shape
@@ -203,12 +203,6 @@ module _ (names : Bool) (t : List ℕ) where
       ap (λ n. resumed (f ∷ fs) (value_in (only_ends names) t (suc n) i)) full
       ∙ ap (resumed (f ∷ fs)) (value_in-limit (only_ends names) t i)
       ∙ fault-passes (f ∷ fs) recursion_limit i i
-
-  -- a reading that is another's
-  pub continues-along : (fs : Frames) (result : Result Bool Fault) (i : ℕ) (x y : Reading (Unit {0})) → x ≡ y
-      → Continues names t fs result i y → Continues names t fs result i x
-  continues-along fs (Ok true) i x y q h = (q ∙ h.0, h.1)
-  continues-along fs result i x y q h = q ∙ h
 
 -- the innermost one of some, and what it leads to after a value
 pub open_frames-innermost : (kinds : List ContainerKind) (d : ℕ) → 0 < d

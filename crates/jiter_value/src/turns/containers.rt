@@ -1,21 +1,14 @@
 //! Containers on the stacks: how one begins, goes on after a part and ends, and which errors are forgiven there.
 ghost use Rattle.std.specs.Prelude.{◌≡◌, ◌≢◌, ℕ, ◌+◌, ◌≤◌, ◌<◌, List, IfOk, IfSome, None, OnOk, length};
 ghost use Rattle.std.specs.Prelude.{slice_index, true, false};
-ghost use Rattle.jiter_scan.specs.Kind.{fault_kind};
-ghost use Rattle.jiter_steps.specs.Literal.{start_of};
-ghost use Rattle.jiter_steps.specs.Node.{nesting_limit};
-ghost use Rattle.jiter_steps.specs.Found.{step_of};
-ghost use Rattle.jiter_steps.specs.Read.{done};
-ghost use Rattle.jiter_steps.specs.ReadError.{WhereRefused};
-ghost use Rattle.jiter_steps.specs.Step.{step, more, container_first, opening};
+ghost use Rattle.jiter_value.specs.Words.{fault_kind, start_of, nesting_limit, step_of, done, WhereRefused};
+ghost use Rattle.jiter_value.specs.Words.{step, more, container_first, opening, Keeping, forgives};
+ghost use Rattle.jiter_value.specs.Words.{value_size, inside_size, after_size, resume_with, from_value};
+ghost use Rattle.jiter_value.specs.Words.{after, container_ends, container_fault, Stands, StandsInside};
+ghost use Rattle.jiter_value.specs.Words.{slot_in, base_of, part_of, empty_tree, HasRoom, LeavesKeys};
+ghost use Rattle.jiter_value.specs.Words.{Follows, IsAtValue, IsReady, Proceeds, IsResolved, Turned, left};
+ghost use Rattle.jiter_value.specs.Words.{outcome, MayGrowAt, SettingsView};
 ghost use Rattle.jiter_steps.specs.declared.read_error.ReadError.TheVariants as error;
-ghost use Rattle.jiter_value.specs.Settings.{Keeping, forgives};
-ghost use Rattle.jiter_value.specs.Size.{value_size, inside_size, after_size};
-ghost use Rattle.jiter_value.specs.Stacks.{resume_with, from_value, after, container_ends, container_fault, Stands};
-ghost use Rattle.jiter_value.specs.Stacks.{StandsInside, slot_in, base_of, part_of, empty_tree, HasRoom, LeavesKeys};
-ghost use Rattle.jiter_value.specs.Turns.{Follows, IsAtValue, IsReady, Proceeds, IsResolved, Turned, left, outcome};
-ghost use Rattle.jiter_value.specs.Value.{MayGrowAt};
-ghost use Rattle.jiter_value.specs.declared.settings.Settings.{Settings as SettingsView};
 
 use crate::settings::{Settings, forgives};
 use crate::stacks::{

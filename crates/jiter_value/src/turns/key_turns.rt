@@ -1,15 +1,9 @@
 //! Turns at keys. A plain key is read in place. Any other outcome is a call that takes over the turn.
-ghost use Rattle.std.specs.Prelude.{◌≡◌, ◌+◌, ◌≤◌, ◌<◌, ◌++◌, ◌∷◌, ℕ, List, []};
-ghost use Rattle.std.specs.Prelude.{false, length, pos, true, vec_capacity, vec_len};
-ghost use Rattle.jiter_scan.specs.Scanned.{taken};
-ghost use Rattle.jiter_steps.specs.Node.{nesting_limit};
-ghost use Rattle.jiter_steps.specs.Read.{fault};
-ghost use Rattle.jiter_steps.specs.StringDecoder.{text_view};
-ghost use Rattle.jiter_steps.specs.StringReading.{string_at, whole};
-ghost use Rattle.jiter_value.specs.Stacks.{StandsAtKey, HasRoomIn, HaveKeys};
-ghost use Rattle.jiter_value.specs.StringStorage.{IsLentAt};
-ghost use Rattle.jiter_value.specs.Turns.{HasTakenKey, IsAtKey, IsKeyRead};
-ghost use Rattle.jiter_value.specs.declared.value.JsonValue.TheVariants.{Int};
+ghost use Rattle.std.specs.Prelude.{◌≡◌, ◌+◌, ◌≤◌, ◌<◌, ◌++◌, ◌∷◌, ℕ, List, [], false, length, pos, true};
+ghost use Rattle.std.specs.Prelude.{vec_capacity, vec_len};
+ghost use Rattle.jiter_value.specs.Words.{taken, nesting_limit, fault, text_view, string_at, whole};
+ghost use Rattle.jiter_value.specs.Words.{StandsAtKey, HasRoomIn, HaveKeys, IsLentAt, HasTakenKey, IsAtKey};
+ghost use Rattle.jiter_value.specs.Words.{IsKeyRead, Int};
 
 use crate::stacks::{Stacks, State, no_memory, too_deep};
 use crate::texts::StringStorage;

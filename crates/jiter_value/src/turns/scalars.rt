@@ -1,23 +1,11 @@
 //! Turns at scalars. What is short and right is read in place. Any other outcome is a call that takes over the turn.
-ghost use Rattle.std.specs.Prelude.{◌≡◌, ◌≢◌, ◌+◌, ◌≤◌, ◌<◌, ℕ, IfOk, OnErr};
-ghost use Rattle.std.specs.Prelude.{false, length, slice_index, true};
-ghost use Rattle.jiter_scan.specs.Kind.{fault_kind};
-ghost use Rattle.jiter_scan.specs.NumberDecoder.{number_view};
-ghost use Rattle.jiter_scan.specs.Scan.{IsLook, scan_stop};
-ghost use Rattle.jiter_steps.specs.Literal.{literal_tree, start_of};
-ghost use Rattle.jiter_steps.specs.Node.{number_tree};
-ghost use Rattle.jiter_steps.specs.Read.{done, fault, value_at};
-ghost use Rattle.jiter_steps.specs.StringReading.{string_at};
-ghost use Rattle.jiter_steps.specs.declared.parse.Start.{Start};
+ghost use Rattle.std.specs.Prelude.{◌≡◌, ◌≢◌, ◌+◌, ◌≤◌, ◌<◌, ℕ, IfOk, OnErr, false, length, slice_index};
+ghost use Rattle.std.specs.Prelude.{true};
+ghost use Rattle.jiter_value.specs.Words.{fault_kind, number_view, IsLook, scan_stop, literal_tree, start_of};
+ghost use Rattle.jiter_value.specs.Words.{number_tree, done, fault, value_at, string_at, Start, tree_as};
+ghost use Rattle.jiter_value.specs.Words.{rules_as, size, LeavesKeys, IsNumberAt, IsAtValue, IsPutAt};
+ghost use Rattle.jiter_value.specs.Words.{IsRefusedAt, Turned, view, Int};
 ghost use Rattle.jiter_steps.specs.declared.read_error.ReadError.TheVariants as error;
-ghost use Rattle.jiter_value.specs.Owned.{tree_as};
-ghost use Rattle.jiter_value.specs.Settings.{rules_as};
-ghost use Rattle.jiter_value.specs.Size.{size};
-ghost use Rattle.jiter_value.specs.Stacks.{LeavesKeys};
-ghost use Rattle.jiter_value.specs.StringStorage.{IsNumberAt};
-ghost use Rattle.jiter_value.specs.Turns.{IsAtValue, IsPutAt, IsRefusedAt, Turned};
-ghost use Rattle.jiter_value.specs.Value.{view};
-ghost use Rattle.jiter_value.specs.declared.value.JsonValue.TheVariants.{Int};
 
 use crate::stacks::{Slot, Stacks, State, give_up, no_memory, put_reserved};
 use crate::texts::{StringStorage, keep_lent};

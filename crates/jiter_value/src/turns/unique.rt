@@ -1,22 +1,12 @@
 //! Turns that stop at a duplicate key.
-ghost use Rattle.std.specs.Prelude.{◌≡◌, ◌+◌, ◌≤◌, ◌<◌, ◌∷◌, ◌++◌, ℕ, [], All, IfOk, IfSome, OnOk, drop, false, is_some};
-ghost use Rattle.std.specs.Prelude.{◌⊎◌, length, not, reverse, slice_index, true};
-ghost use Rattle.std.specs.Option.{option_map};
-ghost use Rattle.std.specs.Str.{bytes_eq};
-ghost use Rattle.jiter_scan.specs.Scanned.{taken};
-ghost use Rattle.jiter_steps.specs.Node.{nesting_limit};
-ghost use Rattle.jiter_steps.specs.Parse.{Moves};
-ghost use Rattle.jiter_steps.specs.Read.{value_at};
-ghost use Rattle.jiter_steps.specs.Step.{step, colon};
-ghost use Rattle.jiter_steps.specs.StringDecoder.{text_view};
-ghost use Rattle.jiter_value.specs.Settings.{lent_unique, rules_as};
-ghost use Rattle.jiter_value.specs.DuplicateKeys.{HasKeys, IsUpToDate};
-ghost use Rattle.jiter_value.specs.Stacks.{StandsAtKey, IsFree, keys_of};
-ghost use Rattle.jiter_value.specs.Scratch.{HoldsNothing};
-ghost use Rattle.jiter_value.specs.Turns.{IsKeyRead};
-ghost use Rattle.jiter_value.specs.UniqueKeys.{has_key, innermost_base, object_has_key, fault_at_key, fault_of, HasStopped};
-ghost use Rattle.jiter_value.specs.UniqueKeys.{GivesUnique, WhereUniqueRefused};
-ghost use Rattle.jiter_value.specs.Value.{MayGrowBy};
+ghost use Rattle.std.specs.Prelude.{◌≡◌, ◌+◌, ◌≤◌, ◌<◌, ◌∷◌, ◌++◌, ℕ, [], All, IfOk, IfSome, OnOk, drop};
+ghost use Rattle.std.specs.Prelude.{false, is_some, ◌⊎◌, length, not, reverse, slice_index, true, option_map};
+ghost use Rattle.std.specs.Prelude.{bytes_eq};
+ghost use Rattle.jiter_value.specs.Words.{taken, nesting_limit, Moves, value_at, step, colon, text_view};
+ghost use Rattle.jiter_value.specs.Words.{lent_unique, rules_as, HasKeys, IsUpToDate, StandsAtKey, IsFree};
+ghost use Rattle.jiter_value.specs.Words.{keys_of, HoldsNothing, IsKeyRead, has_key, innermost_base};
+ghost use Rattle.jiter_value.specs.Words.{object_has_key, fault_at_key, fault_of, HasStopped, GivesUnique};
+ghost use Rattle.jiter_value.specs.Words.{WhereUniqueRefused, MayGrowBy};
 
 use crate::stacks::{Open, Stacks, State, take_error, take_root};
 use crate::texts::BorrowingUnique;

@@ -1,6 +1,6 @@
 use Rattle.std.proofs.Common.{refl}
 use Rattle.jiter.specs.Caller.{at_start}
-use Rattle.jiter.proofs.MemberLoops.{seen-refused}
+use Rattle.jiter.proofs.Walking.{seen-refused}
 use Rattle.jiter.proofs.Walking.{moves-on}
 use Rattle.filter.proofs.Walk.{all-first, all-more, fails-so, finished, less-left, one-key-fails}
 use Rattle.filter.proofs.Walk.{one-value-fails}

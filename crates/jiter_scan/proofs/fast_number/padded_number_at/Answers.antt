@@ -1,11 +1,12 @@
-use Rattle.jiter_scan.proofs.Words.{◌+◌, inl, inr, get_or, sym, ap, ◌∙◌, arith, slice_get-get_or, false≢true}
+use Rattle.jiter_scan.proofs.Words.{◌+◌, inl, inr, get_or, length, subst, sym, ap, ◌∙◌, arith, slice_get-get_or, false≢true}
 use Rattle.jiter_scan.proofs.Words.{decimal_of, is_digit, is_float_sign}
 use Rattle.jiter_scan.proofs.Runs.{run_end-passes}
 use Rattle.jiter_scan.proofs.Magnitudes.{decimal_of-few, magnitude_of-short}
 use Rattle.jiter_scan.proofs.NumberExtents.{decimal_at-tail}
 use Rattle.jiter_scan.proofs.NumberValues.{number_value-tail}
 use Rattle.jiter_scan.proofs.FastNumbers.{digits-counted, digits-of_chunk, int_part_at-counted, some-counted}
-use Rattle.jiter_scan.proofs.FastNumbers.{decimal_at-int_part, first-alone, tail-place}
+use Rattle.jiter_scan.proofs.FastNumbers.{decimal_at-int_part, first-alone, tail-past}
+use Rattle.jiter_scan.proofs.NumberSound.{IsPast}
 use Rattle.jiter_scan.proofs.fast_number.padded_number_at.Goals as goal
 
 pub returns-then-not-goes_on-clause-number : goal.returns-then-not-goes_on-clause-number
@@ -58,8 +59,9 @@ returns-in-Some-clause-number c =
     int_part_at-counted t chunk.result i n c.digit_count-count.ensures (omega arith) (omega arith) chunk.ensures some
     (c.may_lead.ensures.zero c.if-not-may_lead.false) in
     let end = c.in-Some.after in
-    let place = tail-place t (i + n) end (get_or t (i + n) 0) (slice_get-get_or t (i + n) 0 (omega arith))
-    (sym c.goes_on.ensures ∙ c.if-not-goes_on.false) c.in-Some.ensures in
+    let place = subst (IsPast (i + n + 1) (length t)) c.in-Some.ensures
+    (tail-past t (i + n) (get_or t (i + n) 0) (slice_get-get_or t (i + n) 0 (omega arith))
+    (sym c.goes_on.ensures ∙ c.if-not-goes_on.false)) in
     record {
       decimal = decimal_at-tail t i (i + n) end int_part c.in-Some.ensures;
       value = λ j le.

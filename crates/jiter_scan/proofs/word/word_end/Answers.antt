@@ -5,16 +5,18 @@ use Rattle.jiter_scan.proofs.word.word_end.Goals as goal
 pub returns-in-None-clause-value : goal.returns-in-None-clause-value
 returns-in-None-clause-value c =
     let l = c.loop-expected in
-    l.invariant.same
+    rw c.fault_at.ensures
+    (l.invariant.same
     ∙ word_at-cut c.args.bytes.now c.args.word.now l.expected-index l.index c.loop-expected-test.true
-    (sym c.byte_at.ensures.value ∙ c.in-None.is)
+    (sym c.byte_at.ensures.value ∙ c.in-None.is))
 
-pub returns-then-byte-expected-clause-value : goal.returns-then-byte-expected-clause-value
-returns-then-byte-expected-clause-value c =
+pub returns-in-Some-clause-value : goal.returns-in-Some-clause-value
+returns-in-Some-clause-value c =
     let l = c.loop-expected in
-    l.invariant.same
+    rw c.fault_at-in-Some.ensures
+    (l.invariant.same
     ∙ word_at-other c.args.bytes.now c.args.word.now l.expected-index l.index c.in-Some.byte
-    c.loop-expected-test.true (sym c.byte_at.ensures.value ∙ c.in-Some.is) c.if-byte-expected.true
+    c.loop-expected-test.true (sym c.byte_at.ensures.value ∙ c.in-Some.is) c.if-byte-expected.true)
 
 pub loop-expected-preserved : goal.loop-expected-preserved
 loop-expected-preserved c =

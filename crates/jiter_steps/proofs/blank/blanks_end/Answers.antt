@@ -1,5 +1,6 @@
 use Rattle.jiter_steps.proofs.Words.{◌+◌, ◌∙◌, sym, ap, arith, count_trailing_zeros}
-use Rattle.jiter_steps.proofs.Grammar.Blanks.{past_blanks-blank, past_blanks-other, past_blanks-above}
+use Rattle.std.proofs.lemmas.Grind.{common_steps}
+use Rattle.jiter_steps.proofs.Grammar.Blanks.{past_blanks-blank, past_blanks-other, past_blanks-above, past_blanks-end}
 use Rattle.jiter_steps.proofs.Grammar.Blanks.{past_blanks-bound, past_blanks-through, past_blanks-inside}
 use Rattle.jiter_steps.proofs.blank.blanks_end.Goals.{then-is_blank, else-is_blank}
 use Rattle.jiter_steps.proofs.blank.blanks_end.Goals as goal
@@ -22,20 +23,29 @@ returns-then-bytes-from-gt32-clause-value c =
 pub returns-then-others-ne0-clause-value : goal.returns-then-others-ne0-clause-value
 returns-then-others-ne0-clause-value c =
     let others = c.no_blanks-others in
-    let run = past_blanks-inside c.args.bytes.now c.loop-at.at (omega arith) (omega (arith, others.ensures)) in
+    let run = past_blanks-inside c.args.bytes.now c.chunks.at (omega arith) (omega (arith, others.ensures)) in
     let count = ap (count_trailing_zeros 64) others.ensures in
     omega arith
 
 pub returns-then-others-ne0-clause-bound : goal.returns-then-others-ne0-clause-bound
 returns-then-others-ne0-clause-bound c =
     let others = c.no_blanks-others in
-    let run = past_blanks-inside c.args.bytes.now c.loop-at.at (omega arith) (omega (arith, others.ensures)) in
+    let run = past_blanks-inside c.args.bytes.now c.chunks.at (omega arith) (omega (arith, others.ensures)) in
     let count = ap (count_trailing_zeros 64) others.ensures in
-    let bound = past_blanks-bound c.args.bytes.now c.loop-at.at c.loop-at.invariant.within in
+    let bound = past_blanks-bound c.args.bytes.now c.chunks.at c.chunks.invariant.within in
     omega arith
 
-pub loop-at-preserved : goal.loop-at-preserved
-loop-at-preserved c =
-    let run = past_blanks-through c.args.bytes.now c.loop-at.at (omega arith)
+pub chunks-preserved : goal.chunks-preserved
+chunks-preserved c =
+    let run = past_blanks-through c.args.bytes.now c.chunks.at (omega arith)
     (omega (arith, c.no_blanks-others.ensures)) in
     record { above = omega arith; within = omega arith; run = omega arith }
+
+pub bytes-preserved : goal.bytes-preserved
+bytes-preserved c = grind (arith, common_steps, past_blanks-blank c.args.bytes.now c.bytes.at)
+
+pub returns-else-is_blank-2-clause-value : goal.returns-else-is_blank-2-clause-value
+returns-else-is_blank-2-clause-value c = grind (arith, common_steps, past_blanks-other c.args.bytes.now c.bytes.at)
+
+pub returns-after-bytes-clause-value : goal.returns-after-bytes-clause-value
+returns-after-bytes-clause-value c = grind (arith, common_steps, past_blanks-end c.args.bytes.now c.bytes.at)

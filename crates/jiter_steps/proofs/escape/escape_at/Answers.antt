@@ -18,4 +18,5 @@ returns c =
     let i = c.args.at in
     let backslash = slice_get-get_or t i 0 (omega arith) ∙ ap Some c.if-bytes-at-ne92.false in
     let letter = slice_get-get_or t (i + 1) 0 (omega arith) in
-    sym (decode-letter t i backslash _ c.in_ok-c-2.c letter c.if-letter-eq117.false (sym c.in_ok-c-2.ensures.value))
+    let sign = c.simple_escape_of-sign in
+    sym (decode-letter t i backslash _ sign.result letter c.if-letter-eq117.false (sign.ensures.some c.if-sign-eq0.false))

@@ -1,4 +1,4 @@
-use Rattle.jiter_steps.proofs.Words.{◌∙◌, ap, sym, arith, only_ends, value_from, done, frame_of, open_frames}
+use Rattle.jiter_steps.proofs.Words.{◌∙◌, ap, sym, arith, inside, only_ends, value_from, done, frame_of, open_frames}
 use Rattle.jiter_steps.proofs.Calls.Skipping.{first_inside-is, value_from-limit, length-open_frames, open_frames-opens}
 use Rattle.jiter_steps.proofs.skip.begin.Goals as goal
 
@@ -6,23 +6,24 @@ pub returns-then-nest-eq-NESTING_LIMIT-clause-value : goal.returns-then-nest-eq-
 returns-then-nest-eq-NESTING_LIMIT-clause-value c = λ names.
     let p = c.args.parser.now in
     let n = c.args.nest.now in
-    let m = c.first_inside.new.parser.index in
-    first_inside-is names p.bytes.now c.args.shape n.kinds n.depth p.index _ (omega arith) c.requires.within
-    c.requires.bracket (c.in-Ok-true.ensures.value ∙ ap (λ more. done more m) c.in-Ok-true.field-0-test)
+    let m = c.inside.new.parser.index in
+    rw c.fault_at.ensures
+    (first_inside-is names p.bytes.now c.args.shape n.kinds n.depth p.index _ (omega arith) c.requires.within
+    c.requires.bracket (ap (inside c.args.shape p.bytes.now) c.first.ensures.is ∙ c.in-Ok-true.ensures.value ∙ ap (λ more. done more m) c.in-Ok-true.field-0-test)
     ∙ value_from-limit names p.bytes.now (frame_of c.args.shape) (open_frames n.kinds n.depth) m
-    (length-open_frames n.kinds n.depth ∙ c.if-nest-eq-NESTING_LIMIT.true)
+    (length-open_frames n.kinds n.depth ∙ c.if-nest-eq-NESTING_LIMIT.true))
 
 pub returns-else-nest-eq-NESTING_LIMIT-clause-value : goal.returns-else-nest-eq-NESTING_LIMIT-clause-value
 returns-else-nest-eq-NESTING_LIMIT-clause-value c = λ names.
     let p = c.args.parser.now in
     let n = c.args.nest.now in
-    let m = c.first_inside.new.parser.index in
-    let inside = c.in-Ok-true.ensures.inside c.in-Ok-true.field-0-test in (
+    let m = c.inside.new.parser.index in
+    let within = c.in-Ok-true.ensures.inside c.in-Ok-true.field-0-test in (
       first_inside-is names p.bytes.now c.args.shape n.kinds n.depth p.index _ (omega arith) c.requires.within
-          c.requires.bracket (c.in-Ok-true.ensures.value ∙ ap (λ more. done more m) c.in-Ok-true.field-0-test)
+          c.requires.bracket (ap (inside c.args.shape p.bytes.now) c.first.ensures.is ∙ c.in-Ok-true.ensures.value ∙ ap (λ more. done more m) c.in-Ok-true.field-0-test)
           ∙ ap (λ fs. value_from (only_ends names) p.bytes.now fs m)
           (sym (open_frames-opens n.kinds n.depth c.args.shape (omega (arith, n.within)))),
-      inside,
+      within,
     )
 
 pub returns-in-Ok-false-clause-value : goal.returns-in-Ok-false-clause-value
@@ -31,11 +32,11 @@ returns-in-Ok-false-clause-value c = λ names.
     let n = c.args.nest.now in
     first_inside-is names p.bytes.now c.args.shape n.kinds n.depth p.index _ (omega arith) c.requires.within
     c.requires.bracket
-    (c.in-Ok-false.ensures.value ∙ ap (λ more. done more c.first_inside.new.parser.index) c.in-Ok-false.field-0-test)
+    (ap (inside c.args.shape p.bytes.now) c.first.ensures.is ∙ c.in-Ok-false.ensures.value ∙ ap (λ more. done more c.inside.new.parser.index) c.in-Ok-false.field-0-test)
 
 pub returns-in-Err-clause-value : goal.returns-in-Err-clause-value
 returns-in-Err-clause-value c = λ names.
     let p = c.args.parser.now in
     let n = c.args.nest.now in
     first_inside-is names p.bytes.now c.args.shape n.kinds n.depth p.index _ (omega arith) c.requires.within
-    c.requires.bracket c.in-Err.ensures.value
+    c.requires.bracket (ap (inside c.args.shape p.bytes.now) c.first.ensures.is ∙ c.in-Err.ensures.value)

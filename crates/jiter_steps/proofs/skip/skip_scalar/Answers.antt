@@ -13,7 +13,7 @@ pub returns-in_err-parser-in-Number-clause-value : goal.returns-in_err-parser-in
 returns-in_err-parser-in-Number-clause-value c = λ levels.
     let p = c.args.parser.now in
     let begins = sym c.start_of.ensures ∙ c.in-Number.is in
-    let e = err_from_is_err_and c.from_residual.result c.from_residual.ensures.1 in
+    let e = err_from_is_err_and c.from_residual-in_err-parser-in-Number.result c.from_residual-in_err-parser-in-Number.ensures.1 in
     rw (e.1, e.2)
     (number-value c.args.allow_inf_nan p.bytes.now levels p.index begins
     ∙ ap (scalar_at p.index) c.in_err-parser-in-Number.ensures.value)

@@ -27,10 +27,15 @@ returns-in_err-position-in-Refused-clause-part g c =
     if-err c.from_residual-in_err-position-in-Refused.result
     (λ i at starts. wrote-nothing (g.C.Convert.becomes c.args.converter.now) c.args.name.now at _ _ _ _)
 
+pub returns-in_err-kept-in-Refused-clause-part : goal.returns-in_err-kept-in-Refused-clause-part
+returns-in_err-kept-in-Refused-clause-part g c =
+    if-err c.from_residual-in_err-kept-in-Refused.result
+    (λ i at starts. wrote-nothing (g.C.Convert.becomes c.args.converter.now) c.args.name.now at _ _ _ _)
+
 pub returns-in_err-write_report-in-Refused-clause-part : goal.returns-in_err-write_report-in-Refused-clause-part
 returns-in_err-write_report-in-Refused-clause-part g c =
     let right = rw c.in-Refused.is at c.in_ok-text.ensures in
-    let part = rw c.as_str.ensures.value at c.in_err-write_report-in-Refused.ensures.part in
+    let part = rw c.in_ok-kept-in-Refused.ensures at (rw c.as_slice-in-Refused.ensures.value at (rw c.as_str.ensures.value at c.in_err-write_report-in-Refused.ensures.part)) in
     if-err c.from_residual-in_err-write_report-in-Refused.result (λ i at starts.
     let report = error-report at i c.args.position.now c.args.name.now c.args.bytes.now c.in-Refused.column c.min-before.result (string_bytes c.in-Refused.cause)
     c.in_ok-position-in-Refused.position starts (omega (arith, c.min-before.ensures, c.saturating_sub.ensures)) c.in_ok-position-in-Refused.ensures in
@@ -48,7 +53,7 @@ returns-in_ok-write_line-in-Text-clause-all g c i at starts =
 pub returns-in_ok-write_report-in-Refused-clause-all : goal.returns-in_ok-write_report-in-Refused-clause-all
 returns-in_ok-write_report-in-Refused-clause-all g c i at starts =
     let right = rw c.in-Refused.is at c.in_ok-text.ensures in
-    let whole = rw c.as_str.ensures.value at c.in_ok-write_report-in-Refused.ensures.whole in
+    let whole = rw c.in_ok-kept-in-Refused.ensures at (rw c.as_slice-in-Refused.ensures.value at (rw c.as_str.ensures.value at c.in_ok-write_report-in-Refused.ensures.whole)) in
     let report = error-report at i c.args.position.now c.args.name.now c.args.bytes.now c.in-Refused.column c.min-before.result (string_bytes c.in-Refused.cause)
     c.in_ok-position-in-Refused.position starts (omega (arith, c.min-before.ensures, c.saturating_sub.ensures)) c.in_ok-position-in-Refused.ensures in
     wrote-one (g.C.Convert.becomes c.args.converter.now) c.args.name.now at (item i c.args.bytes.now)

@@ -10,6 +10,10 @@ pub returns-in_err-end-clause-part : goal.returns-in_err-end-clause-part
 returns-in_err-end-clause-part g c =
     if-err c.from_residual.result (λ i at starts. wrote-nothing (g.C.Convert.becomes c.args.converter.now) c.args.name.now at _ _ _ _)
 
+pub returns-in_err-kept-clause-part : goal.returns-in_err-kept-clause-part
+returns-in_err-kept-clause-part g c =
+    if-err c.from_residual-in_err-kept.result (λ i at starts. wrote-nothing (g.C.Convert.becomes c.args.converter.now) c.args.name.now at _ _ _ _)
+
 pub returns-in_err-write_report-clause-part : goal.returns-in_err-write_report-clause-part
 returns-in_err-write_report-clause-part g c =
     let bs = c.args.piece.now in
@@ -17,7 +21,7 @@ returns-in_err-write_report-clause-part g c =
     let start = c.blanks-start.result in
     let bytes = c.trim_end-item.ensures ∙ ap trim_end (rest-is start bs) in
     let kept = is-kept 0 bs start c.trim_end-item.result.now c.blanks-start.ensures.value bytes in
-    let part = rw kept at c.in_err-write_report.ensures.part in
+    let part = rw kept at (rw c.in_ok-kept.ensures at (rw c.as_slice.ensures.value at c.in_err-write_report.ensures.part)) in
     if-err c.from_residual-in_err-write_report.result (λ i at starts.
     partly-as (g.C.Convert.becomes c.args.converter.now) c.args.name.now at _ _ (sym (piece-wrong i bs c.args.ended c.args.is_first c.in-Some.cause.now is))
     (wrote-wrong-partly (g.C.Convert.becomes c.args.converter.now) c.args.name.now at _ c.in-Some.cause.now _ c.in_ok-end.end
@@ -30,7 +34,7 @@ returns-in-Some-clause-all g c i at starts =
     let start = c.blanks-start.result in
     let bytes = c.trim_end-item.ensures ∙ ap trim_end (rest-is start bs) in
     let kept = is-kept i bs start c.trim_end-item.result.now c.blanks-start.ensures.value bytes in
-    let whole = rw kept at c.in_ok-write_report.ensures.whole in
+    let whole = rw kept at (rw c.in_ok-kept.ensures at (rw c.as_slice.ensures.value at c.in_ok-write_report.ensures.whole)) in
     parts-as (g.C.Convert.becomes c.args.converter.now) c.args.name.now at _ _ (sym (piece-wrong i bs c.args.ended c.args.is_first c.in-Some.cause.now is))
     (wrote-wrong (g.C.Convert.becomes c.args.converter.now) c.args.name.now at _ c.in-Some.cause.now _ c.in_ok-end.end
     (c.in_ok-end.ensures ∙ sym (starts-end at i c.args.position.now bs starts)) _ _ _ _ _ _ refl refl whole.0 whole.1)

@@ -7,7 +7,17 @@ use Rattle.json_lines.proofs.Batch.{flushed, grows-by, grows-more, grows-not, he
 use Rattle.json_lines.proofs.Known.{if-err, known-begun, known-end, known-more, known-part, known-stopped, no-part, not-so}
 use Rattle.json_lines.proofs.log.convert_lines.Goals as goal
 use Rattle.json_lines.proofs.log.convert_lines.Goals.{in-Text+in_ok-extend_from_slice-in-Text}
-use Rattle.json_lines.proofs.log.convert_lines.Goals.{in-Refused+in_ok-write_batch-in-Refused+in_ok-write_refused-in-Refused}
+use Rattle.json_lines.proofs.log.convert_lines.Goals.{in-Refused+in_ok-write_batch-in-Refused+in_ok-line-in-Refused+in_ok-write_report-in-Refused}
+
+pub returns-in_err-buffer-clause-part : goal.returns-in_err-buffer-clause-part
+returns-in_err-buffer-clause-part g c =
+    if-err c.from_residual.result
+    (known-stopped (g.C.Convert.becomes c.args.converter.now) c.args.origin.now.name.now c.args.origin.now.first_line _ _ _ _ _ _ _ _ _ _
+    (known-kept (g.C.Convert.becomes c.args.converter.now) c.args.origin.now.name.now c.args.origin.now.first_line _ _ _ _ _ _ _ _ _ _ _
+    (known-begun (g.C.Convert.becomes c.args.converter.now) c.args.origin.now.name.now c.args.origin.now.first_line _ _ _ _ (record { texts = 0; refused = 0 }) refl refl) (held-none _ _ c.requires)))
+
+pub returns-in_err-buffer-clause-grows : goal.returns-in_err-buffer-clause-grows
+returns-in_err-buffer-clause-grows g c = grows-not _
 
 pub loop-line-init : goal.loop-line-init
 loop-line-init g c =
@@ -16,7 +26,7 @@ loop-line-init g c =
 pub returns-in_err-write_due-clause-part : goal.returns-in_err-write_due-clause-part
 returns-in_err-write_due-clause-part g c =
     let part = c.in_err-write_due.ensures.part in
-    if-err c.from_residual.result
+    if-err c.from_residual-in_err-write_due.result
     (part-held (g.C.Convert.becomes c.args.converter.now) c.args.origin.now.name.now c.args.origin.now.first_line _ _ _ _ _ _ _ _ part.1
     (part-torn (g.C.Convert.becomes c.args.converter.now) c.args.origin.now.name.now c.args.origin.now.first_line _ _ _ _ _ _ _ _ _ (known-stopped (g.C.Convert.becomes c.args.converter.now) c.args.origin.now.name.now c.args.origin.now.first_line _ _ _ _ _ _ _ _ _ _ c.loop-line.invariant.1) c.loop-line.invariant.2 part.0))
 
@@ -91,8 +101,20 @@ returns-in_err-write_batch-in-Refused-clause-grows g c =
     let grown = grows-more _ _ _ c.loop-line.invariant.2 c.write_due.ensures.grows in
     grows-more _ _ _ grown (grows-by _ _ _ c.write_batch.ensures.part)
 
-pub returns-in_err-write_refused-in-Refused-clause-part : goal.returns-in_err-write_refused-in-Refused-clause-part
-returns-in_err-write_refused-in-Refused-clause-part g c =
+pub returns-in_err-line-in-Refused-clause-part : goal.returns-in_err-line-in-Refused-clause-part
+returns-in_err-line-in-Refused-clause-part g c =
+    let due = known-kept (g.C.Convert.becomes c.args.converter.now) c.args.origin.now.name.now c.args.origin.now.first_line _ _ _ _ _ _ _ _ _ _ _ c.loop-line.invariant.1 c.in_ok-write_due.ensures.kept in
+    let flush = known-kept (g.C.Convert.becomes c.args.converter.now) c.args.origin.now.name.now c.args.origin.now.first_line _ _ _ _ _ _ _ _ _ _ _ due
+    (flushed _ _ _ _ c.in_ok-write_batch-in-Refused.ensures.whole c.write_batch.ensures.none) in
+    if-err c.from_residual-in_err-line-in-Refused.result (known-stopped (g.C.Convert.becomes c.args.converter.now) c.args.origin.now.name.now c.args.origin.now.first_line _ _ _ _ _ _ _ _ _ _ flush)
+
+pub returns-in_err-line-in-Refused-clause-grows : goal.returns-in_err-line-in-Refused-clause-grows
+returns-in_err-line-in-Refused-clause-grows g c =
+    let grown = grows-more _ _ _ c.loop-line.invariant.2 c.write_due.ensures.grows in
+    grows-more _ _ _ grown (grows-by _ _ _ c.write_batch.ensures.part)
+
+pub returns-in_err-write_report-in-Refused-clause-part : goal.returns-in_err-write_report-in-Refused-clause-part
+returns-in_err-write_report-in-Refused-clause-part g c =
     let due = known-kept (g.C.Convert.becomes c.args.converter.now) c.args.origin.now.name.now c.args.origin.now.first_line _ _ _ _ _ _ _ _ _ _ _ c.loop-line.invariant.1 c.in_ok-write_due.ensures.kept in
     let line = c.read_line.new.line in
     let some : (length line.items ≡ 0) → ⊥ = λ e. omega (arith, e, line.ok.0, c.in_ok-read_line.ensures.ok, c.clear.ensures.len, c.if-branch-eq0.false) in
@@ -100,16 +122,16 @@ returns-in_err-write_refused-in-Refused-clause-part g c =
     let blank = rw c.as_slice.ensures.value at (rw c.without_end-bytes.ensures at c.is_blank.ensures) in
     let plain = not-so c.is_blank.result blank c.if-is_blank.false in
     let right = rw c.in-Refused.is at (rw c.as_slice.ensures.value at (rw c.without_end-bytes.ensures at c.in_ok-text.ensures)) in
-    let part = rw c.as_slice-line.ensures.value at (rw c.as_str-cause.ensures.value at c.in_err-write_refused-in-Refused.ensures.part) in
+    let part = rw c.as_slice.ensures.value at (rw c.without_end-bytes.ensures at (rw c.as_slice-in-Refused.ensures.value at (rw c.in_ok-line-in-Refused.ensures at (rw c.as_slice-kept.ensures.value at (rw c.as_str-cause.ensures.value at c.in_err-write_report-in-Refused.ensures.part))))) in
     let written = known-kept (g.C.Convert.becomes c.args.converter.now) c.args.origin.now.name.now c.args.origin.now.first_line _ _ _ _ _ _ _ _ _ _ _ due
     (flushed _ _ _ _ c.in_ok-write_batch-in-Refused.ensures.whole c.write_batch.ensures.none) in
-    if-err c.from_residual-in_err-write_refused-in-Refused.result
+    if-err c.from_residual-in_err-write_report-in-Refused.result
     (known-part (g.C.Convert.becomes c.args.converter.now) c.args.origin.now.name.now c.args.origin.now.first_line _ _ _ _ _ _ _ _ _ _ written
     line.items read some (Some (refused c.in-Refused.column (string_bytes c.in-Refused.cause))) (plain, right) _ _ _
     (no-part _ _) part.0 part.1)
 
-pub returns-in_err-write_refused-in-Refused-clause-grows : goal.returns-in_err-write_refused-in-Refused-clause-grows
-returns-in_err-write_refused-in-Refused-clause-grows g c =
+pub returns-in_err-write_report-in-Refused-clause-grows : goal.returns-in_err-write_report-in-Refused-clause-grows
+returns-in_err-write_report-in-Refused-clause-grows g c =
     let grown = grows-more _ _ _ c.loop-line.invariant.2 c.write_due.ensures.grows in
     grows-more _ _ _ grown (grows-by _ _ _ c.write_batch.ensures.part)
 
@@ -125,7 +147,7 @@ loop-line-preserved g c =
     let outcome-right = rw c.as_slice.ensures.value at (rw c.without_end-bytes.ensures at c.in_ok-text.ensures) in
     let rest = c.in_ok-read_line.ensures.rest in
     let is = c.loop-line.invariant.0 in
-    elim c.match-branch-4.branch [
+    elim c.match-branch-5.branch [
       | in-Text+in_ok-extend_from_slice-in-Text w ↦
           let right = rw w.in-Text.is at outcome-right in
           let more = rw w.as_slice-in-Text.ensures.value at w.in_ok-extend_from_slice-in-Text.ensures.items in
@@ -138,9 +160,9 @@ loop-line-preserved g c =
                 _ _ _ _ (pushed _ _ _ _ more) (Appends-nil _) (Appends-nil _) (omega (arith, texts)) (omega (arith, refusals)),
             grown,
           )
-      | in-Refused+in_ok-write_batch-in-Refused+in_ok-write_refused-in-Refused w ↦
+      | in-Refused+in_ok-write_batch-in-Refused+in_ok-line-in-Refused+in_ok-write_report-in-Refused w ↦
           let right = rw w.in-Refused.is at outcome-right in
-          let whole = rw w.as_slice-line.ensures.value at (rw w.as_str-cause.ensures.value at w.in_ok-write_refused-in-Refused.ensures.whole) in
+          let whole = rw c.as_slice.ensures.value at (rw c.without_end-bytes.ensures at (rw w.as_slice-in-Refused.ensures.value at (rw w.in_ok-line-in-Refused.ensures at (rw w.as_slice-kept.ensures.value at (rw w.as_str-cause.ensures.value at w.in_ok-write_report-in-Refused.ensures.whole))))) in
           let flush = known-kept (g.C.Convert.becomes c.args.converter.now) c.args.origin.now.name.now c.args.origin.now.first_line _ _ _ _ _ _ _ _ _ _ _ due
           (flushed _ _ _ _ w.in_ok-write_batch-in-Refused.ensures.whole w.write_batch.ensures.none) in
           let texts = ap (λ (x : Counts). x.texts) w.counts-is in

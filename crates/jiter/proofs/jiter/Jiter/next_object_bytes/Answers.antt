@@ -1,8 +1,8 @@
-use Rattle.jiter.proofs.Words.{err_from_is_err_and, raw, never}
+use Rattle.jiter.proofs.Words.{err_from_is_err_and, raw}
 use Rattle.jiter.proofs.ReadLaws.{error-same}
 use Rattle.jiter.proofs.jiter.Jiter.next_object_bytes.Goals as goal
 
 pub returns-in_err-first-clause-reads : goal.returns-in_err-first-clause-reads
 returns-in_err-first-clause-reads c =
     let e = err_from_is_err_and c.from_residual.result c.from_residual.ensures.1 in
-    rw (e.1, e.2) (error-same never (c.in_err-first.ensures.refused raw))
+    rw (e.1, e.2) (error-same (c.in_err-first.ensures.refused raw))

@@ -9,17 +9,14 @@ returns-in-Plain-clause-value c =
     let i = c.args.at in
     let to = c.look_at-to.result.0 in
     let found = rw c.in-Plain.is at c.look_at-to.ensures.means in
-    (plain-closed t i to _ (omega (arith, c.look_at-to.ensures.within.0)) (slice_get_within t to 34 found.0)
-    c.ascii_text.ensures (look-plain t i to c.requires c.look_at-to.ensures.stop found)).0
+    plain-closed t i to _ c.ascii_text.ensures (look-plain t i to c.requires c.look_at-to.ensures.stop found)
 
 pub returns-in-Plain-clause-within : goal.returns-in-Plain-clause-within
 returns-in-Plain-clause-within c =
-    let t = c.args.bytes.now in
-    let i = c.args.at in
     let to = c.look_at-to.result.0 in
     let found = rw c.in-Plain.is at c.look_at-to.ensures.means in
-    (plain-closed t i to _ (omega (arith, c.look_at-to.ensures.within.0)) (slice_get_within t to 34 found.0)
-    c.ascii_text.ensures (look-plain t i to c.requires c.look_at-to.ensures.stop found)).1
+    let inside = slice_get_within c.args.bytes.now to 34 found.0 in
+    (omega (arith, c.look_at-to.ensures.within.0), omega (arith, inside))
 
 pub returns-in-Ok-clause-value : goal.returns-in-Ok-clause-value
 returns-in-Ok-clause-value c =
@@ -28,13 +25,11 @@ returns-in-Ok-clause-value c =
     let to = c.look_at-to.result.0 in
     let found = rw c.in-Utf8.is at c.look_at-to.ensures.means in
     let read = look-text t i to c.requires c.look_at-to.ensures.stop found c.in-Ok.text.now c.in-Ok.ensures.value in
-    (plain-closed t i to _ (omega (arith, c.look_at-to.ensures.within.0)) (slice_get_within t to 34 found) read.0 read.1).0
+    plain-closed t i to _ read.0 read.1
 
 pub returns-in-Ok-clause-within : goal.returns-in-Ok-clause-within
 returns-in-Ok-clause-within c =
-    let t = c.args.bytes.now in
-    let i = c.args.at in
     let to = c.look_at-to.result.0 in
     let found = rw c.in-Utf8.is at c.look_at-to.ensures.means in
-    let read = look-text t i to c.requires c.look_at-to.ensures.stop found c.in-Ok.text.now c.in-Ok.ensures.value in
-    (plain-closed t i to _ (omega (arith, c.look_at-to.ensures.within.0)) (slice_get_within t to 34 found) read.0 read.1).1
+    let inside = slice_get_within c.args.bytes.now to 34 found in
+    (omega (arith, c.look_at-to.ensures.within.0), omega (arith, inside))

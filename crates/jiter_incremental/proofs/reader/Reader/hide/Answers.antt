@@ -1,4 +1,5 @@
 use Rattle.jiter_incremental.proofs.Words.{ap, false, subst, sym, view, AsRead, with_shown, Reader}
+use Rattle.std.proofs.lemmas.Result.{on_ok_weaker}
 use Rattle.jiter_incremental.proofs.Showing.{hides-moved, shown-part}
 use Rattle.jiter_incremental.proofs.reader.Reader.hide.Goals as goal
 
@@ -19,3 +20,13 @@ returns-then-self-clause-hides c =
     (sym (ap (λ (r : Reader). with_shown r false m.number m.string r.key) c.give_back.ensures.same))
     (hides-moved level i v w (view c.take_from-value.result) m.number m.string c.take_from-value.new.key c.requires.here
     c.requires.unset c.if-self.true c.take_from-value.ensures.taken c.give_back.ensures.number c.give_back.ensures.text)
+
+pub returns-clause-hides : goal.returns-clause-hides
+returns-clause-hides c =
+    let i = c.args.self.now in
+    subst (λ w. AsRead c.args.level i (view c.args.slot.now) i w) (sym c.reserve_in.ensures.same)
+    (record { goes = λ n t outer at h. h })
+
+pub returns-clause-room : goal.returns-clause-room
+returns-clause-room c =
+    on_ok_weaker c.reserve_in.result (λ room some. room (c.requires.container some)) c.reserve_in.ensures.room

@@ -2,7 +2,7 @@ use Rattle.jiter_incremental.proofs.Words.{◌-◌, subst, sym, text_view, Tree,
 use Rattle.jiter_incremental.proofs.Placing.{scalar-put, word-step}
 use Rattle.jiter_incremental.proofs.Documents.Tokens.{literal-begins}
 use Rattle.jiter_incremental.specs.declared.names.Name.TheVariants as name
-use Rattle.jiter_incremental.proofs.WholeLiterals.{literal-scalar}
+use Rattle.jiter_incremental.proofs.Documents.WholeTokens.{literal-scalar}
 use Rattle.jiter_incremental.proofs.reader.Reader.literal.Goals as goal
 
 pub returns-in-Some : goal.returns-in-Some

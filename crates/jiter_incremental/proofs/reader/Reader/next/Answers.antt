@@ -1,7 +1,6 @@
 use Rattle.jiter_incremental.proofs.Words.{◌-◌, arith, view}
-use Rattle.jiter_incremental.proofs.Arms.{awaits-value}
+use Rattle.jiter_incremental.proofs.Arms.{awaits-value, blanks-step}
 use Rattle.jiter_incremental.proofs.Documents.Blanks.{if-refused, not-passed}
-use Rattle.jiter_incremental.proofs.Passing.{blanks-step}
 use Rattle.jiter_incremental.proofs.reader.Reader.next.Goals as goal
 
 pub returns-then-self-end-clause-steps : goal.returns-then-self-end-clause-steps

@@ -47,8 +47,8 @@ part-requires-clause-ready c =
     let went = c.loop-self.invariant.went in
     ready-then 0 chunk i v j w start went (omega arith)
 
-pub resume-requires-clause-ready : goal.resume-requires-clause-ready
-resume-requires-clause-ready c =
+pub parts-requires-clause-ready : goal.parts-requires-clause-ready
+parts-requires-clause-ready c =
     let chunk = c.args.chunk.now in
     let i = c.args.self.now in
     let v = view c.args.root.now in
@@ -88,34 +88,34 @@ returns-in_err-part-clause-wanted c =
     λ t h.
     if-refused c.from_residual.result (refuses.goes t [] refl (chunk-begun chunk i v t h c.requires.start))
 
-pub returns-in_err-resume-clause-refused : goal.returns-in_err-resume-clause-refused
-returns-in_err-resume-clause-refused c =
+pub returns-in_err-parts-clause-refused : goal.returns-in_err-parts-clause-refused
+returns-in_err-parts-clause-refused c =
     let chunk = c.args.chunk.now in
     let i = c.args.self.now in
     let v = view c.args.root.now in
     let j = c.loop-self.self in
     let w = view c.loop-self.root in
     let went = c.loop-self.invariant.went in
-    let k = c.resume.new.self in
-    let x = view c.resume.new.slot in
-    let all = went-then 0 chunk i v j w k x went (outermost chunk j w k x c.in_err-resume.ensures.went) in
+    let k = c.parts.new.self in
+    let x = view c.parts.new.slot in
+    let all = went-then 0 chunk i v j w k x went (outermost chunk j w k x c.in_err-parts.ensures.went) in
     λ t h.
-    if-refused c.from_residual-in_err-resume.result
-    (arrived-free chunk k x _ (outermost-refuses chunk j w k c.in_err-resume.ensures.wanted).free all.complete (went-from chunk i v k x all c.requires.start t h))
+    if-refused c.from_residual-in_err-parts.result
+    (arrived-free chunk k x _ (outermost-refuses chunk j w k c.in_err-parts.ensures.wanted).free all.complete (went-from chunk i v k x all c.requires.start t h))
 
-pub returns-in_err-resume-clause-wanted : goal.returns-in_err-resume-clause-wanted
-returns-in_err-resume-clause-wanted c =
+pub returns-in_err-parts-clause-wanted : goal.returns-in_err-parts-clause-wanted
+returns-in_err-parts-clause-wanted c =
     let chunk = c.args.chunk.now in
     let i = c.args.self.now in
     let v = view c.args.root.now in
     let j = c.loop-self.self in
     let w = view c.loop-self.root in
     let went = c.loop-self.invariant.went in
-    let k = c.resume.new.self in
-    let x = view c.resume.new.slot in
-    let refuses = refuses-then 0 chunk i v j w k went (outermost-refuses chunk j w k c.in_err-resume.ensures.wanted) in
+    let k = c.parts.new.self in
+    let x = view c.parts.new.slot in
+    let refuses = refuses-then 0 chunk i v j w k went (outermost-refuses chunk j w k c.in_err-parts.ensures.wanted) in
     λ t h.
-    if-refused c.from_residual-in_err-resume.result (refuses.goes t [] refl (chunk-begun chunk i v t h c.requires.start))
+    if-refused c.from_residual-in_err-parts.result (refuses.goes t [] refl (chunk-begun chunk i v t h c.requires.start))
 
 pub returns-clause-taken : goal.returns-clause-taken
 returns-clause-taken c =

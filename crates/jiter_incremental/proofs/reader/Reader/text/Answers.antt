@@ -2,7 +2,7 @@ use Rattle.jiter_incremental.proofs.Words.{◌-◌, ◌∙◌, ap, subst, sym, s
 use Rattle.jiter_incremental.proofs.Words.{with_shown, IsPut, Reader}
 use Rattle.jiter_incremental.specs.declared.reader.Awaits.TheVariants as awaits
 use Rattle.jiter_incremental.proofs.Documents.Blanks.{if-refused}
-use Rattle.jiter_incremental.proofs.Documents.WholeTexts.{text-scalar}
+use Rattle.jiter_incremental.proofs.Documents.WholeTokens.{text-scalar}
 use Rattle.jiter_incremental.proofs.NumberBegins.{stays-so}
 use Rattle.jiter_incremental.proofs.Placing.{scalar-put}
 use Rattle.jiter_incremental.proofs.TextBegins.{tape-steps, text-kept}

@@ -1,0 +1,167 @@
+"""What the scripts of checks/ share: built programs, counts, runs in which a request for memory fails, and words of `rt`."""
+
+import collections
+import concurrent.futures
+import functools
+import glob
+import importlib
+import os
+import shutil
+import subprocess
+import sys
+import tempfile
+
+TOP = os.path.dirname(os.path.dirname(os.path.realpath(__file__)))
+# A folder of programs in place of those that `rt ci` built.
+FOLDER = next((os.path.abspath(it) for it in sys.argv[1:] if os.path.isdir(it)), None)
+SECONDS = 300
+
+
+def read(path, default=""):
+    if not os.path.isfile(path):
+        return default
+    with open(path, encoding="utf-8", errors="replace") as file:
+        return file.read()
+
+
+def processors():
+    return len(os.sched_getaffinity(0))
+
+
+def side_by_side(call, some):
+    """Returns what a call returns for each of these, in order; as many run at once as there are processors."""
+    with concurrent.futures.ThreadPoolExecutor(processors()) as pool:
+        return list(pool.map(call, some))
+
+
+# ---- Counts ----
+
+
+class Counts:
+    """Counts the checks of a script, and says which fail."""
+
+    def __init__(self):
+        self.name, self.passed, self.failed = os.path.basename(sys.argv[0]), 0, 0
+
+    def check(self, what, is_right, told=""):
+        self.passed, self.failed = self.passed + bool(is_right), self.failed + (not is_right)
+        if not is_right:
+            print(f"{self.name}: {what}: {told}"[:2000], flush=True)
+
+    def end(self):
+        """Prints the last line, and returns the status. ./check compares it with checks/floors."""
+        print(f"{self.name}: {self.passed} passed, {self.failed} failed")
+        return 1 if self.failed or not self.passed else 0
+
+
+def give_up(why):
+    """Ends a script that can't begin."""
+    print(f"{os.path.basename(sys.argv[0])}: {why}\n{os.path.basename(sys.argv[0])}: 0 passed, 1 failed")
+    sys.exit(1)
+
+
+def install(**packages):
+    """Installs Debian's packages for each command that isn't there, if it can."""
+    missing = [it for command, names in packages.items() if not shutil.which(command) for it in names.split()]
+    if missing and os.getuid() == 0:
+        for words in (["update"], ["install", "-y", "--no-install-recommends", *missing]):
+            subprocess.run(["apt-get", "-q", *words], env=os.environ | {"DEBIAN_FRONTEND": "noninteractive"}, stdout=subprocess.DEVNULL, stderr=subprocess.DEVNULL)
+
+
+# ---- Built programs ----
+
+
+def builds(name):
+    """Returns the builds of a program: two where `rt ci` built it, one in a folder that was named."""
+    places = [f"{FOLDER}/{name}", f"{FOLDER}/{name}-unproved"] if FOLDER else [f"{TOP}/crates/{name}/out/{name}{it}" for it in ("", ".by-rattle")]
+    return [it for it in places if os.access(it, os.X_OK)] or give_up(f"there is no {places[0]}: run rt ci first")
+
+
+def program(name):
+    return builds(name)[0]
+
+
+Ran = collections.namedtuple("Ran", "status out err")
+
+
+def run(words, given=b"", **how):
+    """Runs a program, and returns its status and both outputs."""
+    ran = subprocess.run(words, input=given, capture_output=True, timeout=SECONDS, **how)
+    return Ran(ran.returncode, ran.stdout, ran.stderr)
+
+
+# ---- Requests for memory ----
+
+# Requests, the bytes that they ask for, and how many more blocks are held at the end than at the beginning.
+Section = collections.namedtuple("Section", "requests asked kept")
+# A run under refuse.c: what lies between its marks, the bytes that it asked for, the blocks that it did not free, and how many
+# marks there were before a request was refused (None if none was).
+Counted = collections.namedtuple("Counted", "status out err sections asked left marks")
+
+
+@functools.lru_cache(maxsize=None)
+def counting_library():
+    """Compiles refuse.c, once for a run of a script."""
+    install(gcc="gcc libc6-dev")
+    folder = subprocess.run(["mktemp", "-d"], stdout=subprocess.PIPE, text=True, check=True).stdout.strip()
+    subprocess.run(["gcc", "-O1", "-shared", "-fPIC", "-o", f"{folder}/refuse.so", f"{TOP}/checks/refuse.c"], check=True)
+    return f"{folder}/refuse.so"
+
+
+def open_counts(library):
+    """Begins a process that counts: its descriptor 3, on which refuse.c writes, is a file of its own."""
+    with tempfile.TemporaryFile() as counts:
+        file = os.dup(counts.fileno())
+    os.dup2(file, 3)
+    os.environ |= {"COUNTED": library}
+
+
+def counted(words, given, refuse=0):
+    """Runs a program with the request of this number refused, or none. Its document is a text."""
+    os.ftruncate(3, 0)
+    os.lseek(3, 0, os.SEEK_SET)
+    env = os.environ | {"LD_PRELOAD": os.environ["COUNTED"], "REFUSE": str(refuse)}
+    ran = subprocess.run(words, input=given.encode(errors="surrogateescape"), capture_output=True, pass_fds=(3,), env=env)
+    lines = os.pread(3, 1 << 20, 0).decode().splitlines()
+    marks = lines.index("refused") if "refused" in lines else None
+    *counts, end = [[*map(int, it.split())] for it in lines if it != "refused"] or [[0, 0, None]]
+    sections = [Section(*(after - before for before, after in zip(*ends))) for ends in zip(counts[::2], counts[1::2])]
+    out, err = (it.decode(errors="surrogateescape").rstrip("\n") for it in (ran.stdout, ran.stderr))
+    return Counted(ran.returncode, out, err, sections, end[1], end[2], marks)
+
+
+def each_counted(call, rows):
+    """Yields what a call returns for each row, in processes of their own."""
+    # So that no pipe of the pool has that descriptor.
+    os.dup2(os.open(os.devnull, os.O_RDONLY), 3)
+    library = counting_library()
+    try:
+        with concurrent.futures.ProcessPoolExecutor(processors(), initializer=open_counts, initargs=(library,)) as pool:
+            yield from pool.map(call, rows, chunksize=4)
+    finally:
+        subprocess.run(["rm", "-r", os.path.dirname(library)])
+
+
+# ---- The command `rt` ----
+
+
+@functools.lru_cache(maxsize=None)
+def rtlib():
+    """Returns the library of `rt`, which knows the toolchain's words of a check."""
+    doc = subprocess.run(["rt", "doc"], stdout=subprocess.PIPE, text=True, check=True).stdout
+    sys.path.insert(0, f"{os.path.dirname(doc.strip())}/bin")
+    return importlib.import_module("rtlib")
+
+
+def crates():
+    """Returns the crates of crates.txt, and what rt knows of each, lowest first."""
+    return rtlib().crates_below(TOP)
+
+
+def is_of_rt_ci(crate):
+    """Returns whether `rt ci` made the library in out/rlib, and no file of the crate is newer. It alone writes no stamp."""
+    made = f"{crate.folder}/out/rlib"
+    if os.path.exists(f"{made}/stamp") or not os.path.isfile(f"{crate.rlib}/format"):
+        return False
+    files = [it for part in ("src", "specs", "proofs") for it in glob.glob(f"{crate.folder}/{part}/**", recursive=True)]
+    return all(os.path.getmtime(it) <= os.path.getmtime(made) for it in files if os.path.isfile(it))

@@ -1,9 +1,0 @@
-use Rattle.jiter_steps.proofs.Words.{length, ◌-◌, ◌≡◌, ◌≤◌, past_blanks}
-use Rattle.jiter_steps.proofs.blank.blank_bytes_end.Given as goal
-
-abbrev pub invariant-loop-at : goal.invariant-loop-at
-invariant-loop-at l =
-    (past_blanks l.bytes l.from ≡ past_blanks l.bytes l.at) × (l.at ≤ length l.bytes) × (l.from ≤ l.at)
-
-abbrev pub decreases-loop-at : goal.decreases-loop-at
-decreases-loop-at l = length l.bytes - l.at
