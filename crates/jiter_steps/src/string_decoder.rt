@@ -265,6 +265,41 @@ fn decode_text<'j>(
     Ok((CowStr::Owned(own), end))
 }
 
+/// Does what [`string_at`] does, after a look at the string: `found` is what [`look_at`] returned for `at + 1`.
+///
+/// # Requires
+///
+/// - `found` is what [`look_at`] returns for `at + 1`.
+#[inline(always)]
+pub fn string_from<'j>(
+    alloc: Global,
+    tape: &mut Vec<u8>,
+    bytes: &'j [u8],
+    at: usize,
+    found: (usize, Look),
+    keep: bool,
+) -> Result<(CowStr<'j>, usize), ReadError>
+    requires within { at < length bytes.now }
+    requires stop { found.0 ≡ scan_stop bytes.now (at + 1) }
+    requires found { IsLook bytes.now (at + 1) found.0 found.1 }
+    ensures value { UnlessRefused result (λ r. Scans (with_end text_view) r
+        (string_at (text_form keep) bytes.now at)) }
+    ensures advances { IfOk result (λ x. (at < x.1) × (x.1 ≤ length bytes.now)) }
+    ensures memory { WhereRefused result (WantsMemory bytes.now at) }
+{
+    match found {
+        (to, Look::Plain) => Ok((CowStr::Borrowed(utf8_text(&bytes[at + 1..to])), to + 1)),
+        (to, Look::Utf8) => borrow_text(bytes, at + 1, to, to + 1, keep),
+        (stop, Look::Escaped(ascii)) => decode_text(alloc, tape, bytes, at, stop, ascii, keep),
+        (to, Look::Fault(kind)) => {
+            if keep && to == bytes.len() {
+                return borrow_text(bytes, at + 1, to, to, keep);
+            }
+            Err(ReadError::Fault(fault_at(kind, to)))
+        }
+    }
+}
+
 /// Returns the string whose opening quote is at `at`, and the index after its closing quote (RFC 8259, 7 and 8.1). A
 /// string without a backslash is borrowed from the input. Any other is decoded on the tape and copied.
 ///
@@ -291,15 +326,5 @@ pub fn string_at<'j>(
     ensures advances { IfOk result (λ x. (at < x.1) × (x.1 ≤ length bytes.now)) }
     ensures memory { WhereRefused result (WantsMemory bytes.now at) }
 {
-    match look_at(bytes, at + 1) {
-        (to, Look::Plain) => Ok((CowStr::Borrowed(utf8_text(&bytes[at + 1..to])), to + 1)),
-        (to, Look::Utf8) => borrow_text(bytes, at + 1, to, to + 1, keep),
-        (stop, Look::Escaped(ascii)) => decode_text(alloc, tape, bytes, at, stop, ascii, keep),
-        (to, Look::Fault(kind)) => {
-            if keep && to == bytes.len() {
-                return borrow_text(bytes, at + 1, to, to, keep);
-            }
-            Err(ReadError::Fault(fault_at(kind, to)))
-        }
-    }
+    string_from(alloc, tape, bytes, at, look_at(bytes, at + 1), keep)
 }

@@ -1,11 +1,12 @@
 //! The stacks of items and of members that all open containers share.
-ghost use Rattle.std.specs.Prelude.{◌≡◌, ℕ, List, ◌+◌, ◌≤◌, ◌<◌, ◌∷◌, ◌++◌, [], IfOk, IsTrue, OnOk, length};
+ghost use Rattle.std.specs.Prelude.{◌≡◌, ℕ, ℤ, List, ◌+◌, ◌≤◌, ◌<◌, ◌∷◌, ◌++◌, [], IfOk, IsTrue, OnOk, length};
 ghost use Rattle.std.specs.Prelude.{take, drop, false, map, true, vec_len};
 ghost use Rattle.jiter_value.specs.Words.{Global, CowStrView, done, object, members_of, view, size};
 ghost use Rattle.jiter_value.specs.Words.{value_size, inside_size, after_size, Keeping, HoldsNothing};
 ghost use Rattle.jiter_value.specs.Words.{IsCleared, Member, member_view, resume_with, after, container_ends};
 ghost use Rattle.jiter_value.specs.Words.{Stands, StandsInside, HasRoom, HasRoomIn, HoldsSame, LeavesKeys};
 ghost use Rattle.jiter_value.specs.Words.{without_root, SettingsView, JsonValueView};
+ghost use Rattle.jiter_value.specs.declared.value.JsonValue.TheVariants.{Int};
 ghost use Rattle.jiter_steps.specs.declared.read_error.ReadError.TheVariants as error;
 
 use crate::value::{JsonObject, JsonValue};
@@ -77,13 +78,22 @@ pub struct Stacks<'j> {
     pub reused: bool,
 }
 
-// The placeholder of a key is an integer, which has nothing to free. Any other value is dropped.
+// Replaces an integer without dropping it: an integer has nothing to free.
+#[inline(always)]
+fn replace_int<'j>(place: &mut JsonValue<'j>, value: JsonValue<'j>)
+    requires { (number : ℤ) × (place.old ≡ Int number) }
+    ensures { place.new ≡ value.entry }
+{
+    mem::forget(mem::replace(place, value));
+}
+
+// The placeholder of a key is an integer. Any other value is dropped.
 #[inline(always)]
 fn replace_placeholder<'j>(place: &mut JsonValue<'j>, value: JsonValue<'j>)
     ensures { place.new ≡ value.entry }
 {
     if let JsonValue::Int(_) = place {
-        mem::forget(mem::replace(place, value));
+        replace_int(place, value);
     } else {
         *place = value;
     }

@@ -259,30 +259,6 @@ fn empty<'s, T: StringStorage<'s>>(
     after_value::<T>(reading, bytes, end, slot)
 }
 
-// Whether a further array would exceed the nesting limit. An object's limit is tested after its first key and colon.
-#[inline(always)]
-fn is_full(stacks: &Stacks<'_>, shape: ContainerKind) -> bool
-    ensures full { result ≡ true
-        → (shape ≡ ContainerKind.Array) × (length stacks.now.nest.items ≡ nesting_limit) }
-    ensures few { result ≡ false → shape ≡ ContainerKind.Array
-        → length stacks.now.nest.items ≢ nesting_limit }
-{
-    match shape {
-        ContainerKind::Array => stacks.nest.len() == NESTING_LIMIT,
-        ContainerKind::Object => false,
-    }
-}
-
-#[inline(always)]
-fn base_of(stacks: &Stacks<'_>, shape: ContainerKind) -> usize
-    ensures { result ≡ base_of shape stacks.now }
-{
-    match shape {
-        ContainerKind::Array => stacks.items.len(),
-        ContainerKind::Object => stacks.members.len(),
-    }
-}
-
 // Opens the container whose bracket is at `at` and whose first part begins at `next`.
 #[inline(always)]
 fn open<'s, T: StringStorage<'s>>(
@@ -300,10 +276,14 @@ fn open<'s, T: StringStorage<'s>>(
     requires part { step bytes.now (container_first shape) (at + 1) ≡ more next }
     ensures { Turned T.made T.wants bytes.now at slot reading.old reading.new result }
 {
-    if is_full(&reading.stacks, shape) {
-        return too_deep(&mut reading.stacks, next);
-    }
-    let base = base_of(&reading.stacks, shape);
+    let base = match shape {
+        // An object's limit is tested after its first key and colon.
+        ContainerKind::Array if reading.stacks.nest.len() == NESTING_LIMIT => {
+            return too_deep(&mut reading.stacks, next);
+        }
+        ContainerKind::Array => reading.stacks.items.len(),
+        ContainerKind::Object => reading.stacks.members.len(),
+    };
     let container = Open { outer: slot, base };
     match push_small(&mut reading.stacks.nest, container) {
         Ok(()) => to_part(&mut reading.stacks, next, shape),

@@ -3,7 +3,7 @@ ghost use Rattle.std.specs.Prelude.{◌≡◌, ◌+◌, ◌≤◌, ◌<◌, ◌+
 ghost use Rattle.std.specs.Prelude.{vec_capacity, vec_len};
 ghost use Rattle.jiter_value.specs.Words.{taken, nesting_limit, fault, text_view, string_at, whole};
 ghost use Rattle.jiter_value.specs.Words.{StandsAtKey, HasRoomIn, HaveKeys, IsLentAt, HasTakenKey, IsAtKey};
-ghost use Rattle.jiter_value.specs.Words.{IsKeyRead, Int};
+ghost use Rattle.jiter_value.specs.Words.{IsKeyRead, Int, IsLook, scan_stop};
 
 use crate::stacks::{Stacks, State, no_memory, too_deep};
 use crate::texts::StringStorage;
@@ -15,7 +15,7 @@ use jiter_scan::text::utf8_text;
 use jiter_steps::parse::{ContainerKind, NESTING_LIMIT};
 use jiter_steps::read_error::ReadError;
 use jiter_steps::step::{colon, value_first};
-use jiter_steps::string_decoder::string_at;
+use jiter_steps::string_decoder::string_from;
 use std::borrow::CowStr;
 
 // Pushes a key, whose stack has room, with the integer 0 as a placeholder for its value. All bytes of the placeholder
@@ -121,7 +121,7 @@ fn read_key<'s, T: StringStorage<'s>, K: Keys<'s>>(
     }
 }
 
-// Any key, and its errors.
+// Any key, and its errors. `found` is what a look at the key found.
 #[inline(never)]
 fn slow_key_turn<'s, T: StringStorage<'s>, K: Keys<'s>>(
     reading: &mut Reading<'s>,
@@ -129,18 +129,21 @@ fn slow_key_turn<'s, T: StringStorage<'s>, K: Keys<'s>>(
     keys: &mut K,
     bytes: &[u8],
     at: usize,
+    found: (usize, Look),
 ) -> (usize, State)
     requires texts { T.of texts bytes.now }
     requires serves { K.serves keys.old T.made }
     requires going { K.stopped keys.old ≡ false }
     requires known { (ks : List (List ℕ)) × K.knows keys.old ks × HaveKeys ks reading.old.stacks.members.items }
     requires at_key { IsAtKey bytes.now reading.old.stacks at }
+    requires stop { found.0 ≡ scan_stop bytes.now (at + 1) }
+    requires found { IsLook bytes.now (at + 1) found.0 found.1 }
     ensures turned { HasTakenKey T.made reading.old.settings bytes.now at reading.old.stacks reading.new.stacks result
         (K.stopped keys.new) (K.knows keys.new) (K.refuses keys.new bytes.now reading.old.stacks at) }
     ensures serves { K.serves keys.new T.made }
     ensures settings { reading.new.settings ≡ reading.old.settings }
 {
-    match string_at(reading.alloc, &mut reading.tape, bytes, at, false) {
+    match string_from(reading.alloc, &mut reading.tape, bytes, at, found, false) {
         Ok((key, end)) => read_key(reading, texts, keys, bytes, at, end, key),
         Err(ReadError::Fault(fault)) => {
             fault_inside::<T>(
@@ -181,6 +184,6 @@ pub fn key_turn<'s, T: StringStorage<'s>, K: Keys<'s>>(
             let key = CowStr::Borrowed(utf8_text(&bytes[at + 1..to]));
             read_key(reading, texts, keys, bytes, at, to + 1, key)
         }
-        _ => slow_key_turn(reading, texts, keys, bytes, at),
+        _ => slow_key_turn(reading, texts, keys, bytes, at, (to, look)),
     }
 }

@@ -23,7 +23,7 @@ use jiter_scan::{NumberAny, NumberInt};
 use jiter_steps::fast::fast_literal_end;
 use jiter_steps::parse::{ContainerKind, Literal, Start, literal_end, start_of};
 use jiter_steps::read_error::ReadError;
-use jiter_steps::string_decoder::{checked_text, decode_inline, string_at};
+use jiter_steps::string_decoder::{checked_text, decode_inline, string_from};
 use std::borrow::CowStr;
 
 #[inline(always)]
@@ -84,34 +84,6 @@ fn put_and_go_on<'s, T: StringStorage<'s>>(
 {
     put_reserved(&mut reading.stacks, slot, value);
     after_value::<T>(reading, bytes, end, slot)
-}
-
-// Any string, and its errors.
-#[cold]
-#[inline(never)]
-fn slow_text_turn<'s, T: StringStorage<'s>>(
-    reading: &mut Reading<'s>,
-    texts: T,
-    bytes: &[u8],
-    at: usize,
-    slot: Slot,
-) -> (usize, State)
-    requires texts { T.of texts bytes.now }
-    requires at_value { IsAtValue bytes.now reading.old.stacks slot at }
-    requires begins { start_of (slice_index bytes.now at) ≡ Start.String }
-    ensures { Turned T.made T.wants bytes.now at slot reading.old reading.new result }
-{
-    let keep = reading.settings.mode.allow_trailing_str();
-    match string_at(reading.alloc, &mut reading.tape, bytes, at, keep) {
-        Ok((text, end)) => match texts.keep(bytes, at + 1, text) {
-            Ok(kept) => { put_and_go_on::<T>(reading, bytes, at, end, slot, JsonValue::Str(kept)) }
-            Err(refused) => no_memory(&mut reading.stacks, refused, end),
-        },
-        Err(ReadError::Fault(fault)) => {
-            fault_in_value::<T>(reading, bytes, at, fault.index, fault.kind, slot)
-        }
-        Err(ReadError::Memory(refused)) => no_memory(&mut reading.stacks, refused, at),
-    }
 }
 
 // The string at `at`, whose closing quote is at `to`, if its bytes are UTF-8. They are not all below 80 hex.
@@ -187,7 +159,7 @@ fn escaped_turn<'s, T: StringStorage<'s>>(
     }
 }
 
-// The string at `at` has an error at `index`, or the input ends there.
+// The string at `at` has an error at `index`, or the input ends there, which may be forgiven.
 #[cold]
 #[inline(never)]
 fn faulty_text_turn<'s, T: StringStorage<'s>>(
@@ -206,10 +178,18 @@ fn faulty_text_turn<'s, T: StringStorage<'s>>(
     requires found { IsLook bytes.now (at + 1) index (Look.Fault kind) }
     ensures { Turned T.made T.wants bytes.now at slot reading.old reading.new result }
 {
-    if reading.settings.mode.allow_trailing_str() {
-        return slow_text_turn(reading, texts, bytes, at, slot);
+    let keep = reading.settings.mode.allow_trailing_str();
+    let found = (index, Look::Fault(kind));
+    match string_from(reading.alloc, &mut reading.tape, bytes, at, found, keep) {
+        Ok((text, end)) => match texts.keep(bytes, at + 1, text) {
+            Ok(kept) => { put_and_go_on::<T>(reading, bytes, at, end, slot, JsonValue::Str(kept)) }
+            Err(refused) => no_memory(&mut reading.stacks, refused, end),
+        },
+        Err(ReadError::Fault(fault)) => {
+            fault_in_value::<T>(reading, bytes, at, fault.index, fault.kind, slot)
+        }
+        Err(ReadError::Memory(refused)) => no_memory(&mut reading.stacks, refused, at),
     }
-    fault_in_value::<T>(reading, bytes, at, index, kind, slot)
 }
 
 #[inline(always)]
@@ -411,7 +391,7 @@ fn literal_turn<'s, T: StringStorage<'s>>(
     put_and_go_on::<T>(reading, bytes, at, end, slot, value)
 }
 
-// Any scalar, as `NaN` and `Infinity`, or none.
+// Any scalar but a string, as `NaN` and `Infinity`, or none.
 #[cold]
 #[inline(never)]
 fn other_turn<'s, T: StringStorage<'s>>(
@@ -425,17 +405,18 @@ fn other_turn<'s, T: StringStorage<'s>>(
     requires at_value { IsAtValue bytes.now reading.old.stacks slot at }
     requires array { start_of (slice_index bytes.now at) ≢ Start.Array }
     requires object { start_of (slice_index bytes.now at) ≢ Start.Object }
+    requires string { start_of (slice_index bytes.now at) ≢ Start.String }
     ensures { Turned T.made T.wants bytes.now at slot reading.old reading.new result }
 {
     match start_of(bytes[at]) {
         Start::Literal(literal) => slow_literal_turn::<T>(reading, bytes, at, slot, literal),
         Start::Number => slow_number_turn(reading, texts, bytes, at, slot),
-        Start::String => slow_text_turn(reading, texts, bytes, at, slot),
         Start::Nothing => {
             fault_in_value::<T>(reading, bytes, at, at, FaultKind::ExpectedSomeValue, slot)
         }
         Start::Array => unreachable!(),
         Start::Object => unreachable!(),
+        Start::String => unreachable!(),
     }
 }
 

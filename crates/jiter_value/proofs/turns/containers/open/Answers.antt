@@ -1,14 +1,18 @@
-use Rattle.jiter_value.proofs.Words.{refl, arith, inl}
+use Rattle.jiter_value.proofs.Words.{◌≡◌, ◌≢◌, ◌∙◌, refl, arith, inl, length, sym}
+use Rattle.jiter_value.specs.Stacks.{base_of}
+use Rattle.jiter_steps.specs.declared.parse.ContainerKind.TheVariants as shape
 use Rattle.jiter_value.proofs.KeptKeys.{leaves-all}
 use Rattle.jiter_value.proofs.Shapes.{begins-grows, shape-opens, array-too-deep, ready-keys, with_nest}
 use Rattle.jiter_value.proofs.TurnOutcomes.{fault-grows, refused-turned}
 use Rattle.jiter_value.proofs.Turning.{grows-any}
 use Rattle.jiter_value.proofs.turns.containers.open.Goals as goal
+use Rattle.jiter_value.proofs.turns.containers.open.Goals.{in-Array-2, in-Object}
 
-pub returns-then-is_full : goal.returns-then-is_full
-returns-then-is_full g c =
+pub returns-in-Array : goal.returns-in-Array
+returns-in-Array g c =
     let a = c.args in
-    let full = c.if-is_full.ensures.full refl in
+    let array = c.in-Array.is in
+    let full = sym c.len.ensures.value ∙ c.if-len-eq-NESTING_LIMIT.true in
     rw c.too_deep.ensures.place
     (record {
       leads = record {
@@ -16,7 +20,7 @@ returns-then-is_full g c =
         reaches = rw c.too_deep.ensures.error
             (array-too-deep g.T.StringStorage.made a.reading.now.settings a.bytes.now a.reading.now.stacks a.slot c.requires.stands
             c.requires.levels a.at a.next
-            full.1 c.requires.within.1 (rw full.0 at c.requires.bracket) (rw full.0 at c.requires.part));
+            full c.requires.within.1 (rw array at c.requires.bracket) (rw array at c.requires.part));
         left = tt;
         held = tt;
       };
@@ -32,11 +36,19 @@ returns-in-Ok g c =
     let mid = with_nest s c.push_small.new.items in
     let new = c.to_part.new.stacks in
     let r = c.to_part.result in
+    let base : c.match-shape.base ≡ base_of a.shape s = elim c.match-shape.branch [
+      in-Array-2 w ↦ rw w.in-Array-2.is (omega (arith, w.base-is, w.len-base.ensures, s.items.ok.0))
+      | in-Object w ↦ rw w.in-Object.is (omega (arith, w.base-is, w.len-base-in-Object.ensures, s.members.ok.0))
+    ] in
+    let few : a.shape ≡ shape.Array → length s.nest.items ≢ 200 = elim c.match-shape.branch [
+      in-Array-2 w ↦ λ array full. w.if-len-eq-NESTING_LIMIT.false (w.len.ensures.value ∙ full)
+      | in-Object w ↦ λ array full. cc
+    ] in
     record {
       leads = shape-opens g.T.StringStorage.made a.reading.now.settings a.bytes.now s a.slot c.requires.stands
           c.requires.levels a.at a.shape a.next c.push_small.new.items
-          (rw c.base_of-base.ensures at c.in-Ok.ensures.ok) c.requires.within.0 c.requires.within.1
-          c.requires.bracket c.requires.part (c.if-is_full.ensures.few refl) new r c.to_part.ensures;
+          (rw base at c.in-Ok.ensures.ok) c.requires.within.0 c.requires.within.1
+          c.requires.bracket c.requires.part few new r c.to_part.ensures;
       memory = λ root. grows-any _ _ (inl (begins-grows a.bytes.now a.at a.shape a.next c.requires.bracket c.requires.part));
       keys = ready-keys a.shape mid new a.next r s.members.items c.to_part.ensures (leaves-all s.members.items);
       settings = refl;
