@@ -46,15 +46,20 @@ fn inside(
         → parser.new.index < length parser.old.bytes.now) }
     ensures ahead { OnOk result (found.0 ≤ parser.new.index) }
 {
-    if !parser.step(found)? {
-        return Ok(false);
-    }
-    match shape {
-        ContainerKind::Array => Ok(true),
-        ContainerKind::Object => {
-            parser.index = string_end(parser.bytes, parser.index)?;
-            parser.go(member_value(parser.bytes, parser.index))?;
-            Ok(true)
+    let (at, step) = found;
+    parser.index = at;
+    match (step, shape) {
+        (Step::Fault(kind), _) => Err(fault_at(kind, at)),
+        (Step::End, _) => Ok(false),
+        (Step::Part, ContainerKind::Array) => Ok(true),
+        (Step::Part, ContainerKind::Object) => {
+            let end = string_end(parser.bytes, at)?;
+            let (value, fault) = member_value(parser.bytes, end);
+            parser.index = value;
+            match fault {
+                None => Ok(true),
+                Some(kind) => Err(fault_at(kind, value)),
+            }
         }
     }
 }

@@ -14,7 +14,7 @@ use crate::read_error::ReadError;
 use jiter_scan::errors::{Fault, FaultKind, fault_at};
 use jiter_scan::memory::{AllocFailed, copy_text};
 use jiter_scan::short_scan::{Look, look_at};
-use jiter_scan::simd::{both, copy_plain};
+use jiter_scan::simd::copy_plain;
 use jiter_scan::tape::{put_char, put_first};
 use jiter_scan::text::utf8_text;
 use std::alloc::Global;
@@ -76,7 +76,7 @@ fn decode_on(
                 let (next, filled, low) = copy_plain(tape, count, bytes, at)?;
                 stop = next;
                 end = filled;
-                known = both(known, low);
+                known &= low;
             }
             Err(ending) => return Ok((end, known, ending)),
         }

@@ -1,4 +1,4 @@
-use Rattle.jiter_steps.proofs.Words.{◌++◌, ◌∙◌, ap, arith, subst, sym, IsUtf8, is_plain, run_end-ahead, stop_view, Body}
+use Rattle.jiter_steps.proofs.Words.{◌++◌, ◌∙◌, ap, arith, refl, subst, sym, IsUtf8, is_plain, run_end-ahead, stop_view, Body}
 use Rattle.jiter_steps.proofs.Words.{body_at}
 use Rattle.jiter_steps.proofs.Calls.DecodeSteps.{copied-decoded, copied-known, copied-within, decode-more, decode-over}
 use Rattle.jiter_steps.proofs.Calls.DecodeSteps.{known-escape}
@@ -61,8 +61,8 @@ loop-at-preserved c =
       stops = plain_stop t at next e.stop;
       room = e.room;
       utf8 = copied-known t put items at count filled next m.2 e.stop e.text l.known c.in_ok-next-in-Ok.low
-          c.both-known.result (λ known. known-escape t _ _ p.bytes l.stop at (l.invariant.utf8 known) p.is p.put)
-          e.ascii.0 c.both-known.ensures;
+          _ (λ known. known-escape t _ _ p.bytes l.stop at (l.invariant.utf8 known) p.is p.put)
+          e.ascii.0 refl;
     }
 
 pub returns-in-Err-clause-text : goal.returns-in-Err-clause-text
