@@ -2,7 +2,7 @@
 pub use Rattle.jiter_scan.specs.Digits.{decimal_of, digit_run_end, is_digit}
 pub use Rattle.jiter_scan.specs.FastNumber.{IsFastNumber, IsIntAlone, IsPlainInteger}
 pub use Rattle.jiter_scan.specs.Kind.{fault_kind, is_memory, kind_of, kind_text}
-pub use Rattle.jiter_scan.specs.Number.{big, integer, is_float_byte, minus_of, negative_value, number_value, positive_value}
+pub use Rattle.jiter_scan.specs.Number.{big, integer, is_float_byte, minus_of, number_value}
 pub use Rattle.jiter_scan.specs.NumberDecoder.{EndsWithin, IsMinusTo, int_view, integer_view, magnitude_of, number_view}
 pub use Rattle.jiter_scan.specs.NumberExtent.{IsDecimalFrom, IsExtent, IsNameFrom, extent_end, minus_end, name_extent}
 pub use Rattle.jiter_scan.specs.NumberReading.{after_minus, after_zero, begins_number, decimal_at, digits_from, exponent_at, extent_then, fraction_at, int_alone, int_at, int_part_at, integer_after, integer_after_minus, is_float_sign, name_at, number_alone, number_at, number_extent, power_from, with_value, within_limit}
