@@ -110,17 +110,6 @@ fn eight_digits(word: u64) -> u64
     first.wrapping_add(second) >> 32
 }
 
-// A digit less 30 hex is its value.
-#[inline(always)]
-fn halves(bytes: [u8; 16]) -> (u64, u64)
-    ensures low { result.0 ≡ number_l 256 (take 8 (map less_zero bytes)) }
-    ensures high { result.1 ≡ number_l 256 (drop 8 (map less_zero bytes)) }
-{
-    let digits = u8x16::from_array(bytes) - u8x16::splat(b'0');
-    let lanes = u64x2::from_le_bytes(digits).to_array();
-    (lanes[0], lanes[1])
-}
-
 // The shift puts zeros before the digits, so that there are eight.
 #[inline(always)]
 fn first_digits(word: u64, count: usize) -> u64
@@ -169,7 +158,9 @@ pub fn digit_word(chunk: [u8; 16], count: usize) -> u64
     requires digits { count ≤ digit_run_end chunk 0 }
     ensures { result ≡ decimal_of (take count chunk) }
 {
-    let (low, high) = halves(chunk);
+    // A digit less 30 hex is its value.
+    let digits = u8x16::from_array(chunk) - u8x16::splat(b'0');
+    let [low, high] = u64x2::from_le_bytes(digits).to_array();
     if count <= 8 {
         first_digits(low, count)
     } else {

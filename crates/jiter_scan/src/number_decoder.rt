@@ -1,13 +1,12 @@
 //! Numbers (RFC 8259, 6): integers that an `i64` holds, and the source text of all others.
 ghost use Rattle.std.specs.Prelude.{◌≡◌, ◌+◌, ◌<◌, ◌≤◌, ◌==◌, ◌||◌, IfOk, min, length, slice_get};
-ghost use Rattle.std.specs.Prelude.{slice_index, slice_range, Some, true, IsAscii};
+ghost use Rattle.std.specs.Prelude.{slice_index, slice_range, Some, true};
 ghost use Rattle.jiter_scan.specs.Words.{Scans, with_end, whole_text, AnswersAlone, taken, word_at};
-ghost use Rattle.jiter_scan.specs.Words.{digit_run_end, decimal_of, is_float_byte, positive_value};
-ghost use Rattle.jiter_scan.specs.Words.{negative_value, number_value, int_part_at, decimal_at};
+ghost use Rattle.jiter_scan.specs.Words.{digit_run_end, decimal_of, is_float_byte, number_value};
 ghost use Rattle.jiter_scan.specs.Words.{is_float_sign, after_minus, name_at, with_value, number_at, int_at};
 ghost use Rattle.jiter_scan.specs.Words.{integer_after, integer_after_minus, begins_number, number_alone};
 ghost use Rattle.jiter_scan.specs.Words.{int_alone, int_view, number_view, integer_view, EndsWithin};
-ghost use Rattle.jiter_scan.specs.Words.{magnitude_of, IsMinusTo};
+ghost use Rattle.jiter_scan.specs.Words.{magnitude_of, IsMinusTo, int_part_at, decimal_at};
 ghost use Rattle.jiter_scan.specs.Ascii as ascii;
 
 use crate::decimal::{chunk_at, digit_run_end, digit_word, joined};
@@ -169,31 +168,6 @@ pub(crate) fn digits_magnitude(bytes: &[u8], at: usize, end: usize) -> u64
     joined(first, back, count - 16)
 }
 
-fn positive_int<'j>(text: &'j [u8], magnitude: u64) -> NumberInt<'j>
-    requires { IsAscii text.now }
-    ensures { int_view result ≡ positive_value text.now magnitude }
-{
-    if magnitude < INT_LIMIT {
-        NumberInt::Int(magnitude as i64)
-    } else {
-        NumberInt::BigInt(ascii_text(text))
-    }
-}
-
-// 2^63 is no `i64`, but its negative is one. So 1 is subtracted before the conversion.
-fn negative_int<'j>(text: &'j [u8], magnitude: u64) -> NumberInt<'j>
-    requires { IsAscii text.now }
-    ensures { int_view result ≡ negative_value text.now magnitude }
-{
-    if magnitude == 0 {
-        NumberInt::Int(0)
-    } else if magnitude <= INT_LIMIT {
-        NumberInt::Int(-1 - (magnitude - 1) as i64)
-    } else {
-        NumberInt::BigInt(ascii_text(text))
-    }
-}
-
 // Here and below, a number begins at `from`, and its digits at `at`: after its minus, if it has one.
 fn integer_of<'j>(
     bytes: &'j [u8],
@@ -208,12 +182,17 @@ fn integer_of<'j>(
     requires magnitude { magnitude ≡ magnitude_of (slice_range bytes.now at end) }
     ensures { int_view result ≡ number_value (slice_range bytes.now from end) }
 {
-    let text = &bytes[from..end];
     if from == at {
-        positive_int(text, magnitude)
-    } else {
-        negative_int(text, magnitude)
+        if magnitude < INT_LIMIT {
+            return NumberInt::Int(magnitude as i64);
+        }
+    } else if magnitude == 0 {
+        return NumberInt::Int(0);
+    } else if magnitude <= INT_LIMIT {
+        // 2^63 is no `i64`, but its negative is one. So 1 is subtracted before the conversion.
+        return NumberInt::Int(-1 - (magnitude - 1) as i64);
     }
+    NumberInt::BigInt(ascii_text(&bytes[from..end]))
 }
 
 // The magnitude of a leading zero is 0: no digit follows it.

@@ -64,6 +64,7 @@ fn name_end(
 }
 
 // The slow path goes through the stages of the number.
+#[inline(never)]
 #[tactic(auto, using(crate::proofs::NumberStarts::found_extent, crate::proofs::NumberStarts::found_int))]
 pub(crate) fn number_extent(bytes: &[u8], at: usize, allow_inf_nan: bool) -> Result<Extent, Fault>
     requires { at < length bytes.now }
@@ -79,19 +80,6 @@ pub(crate) fn number_extent(bytes: &[u8], at: usize, allow_inf_nan: bool) -> Res
     match ended {
         Ok(()) if is_int_stage(stage) => Ok(Extent::Int(from, end)),
         Ok(()) => Ok(Extent::Float(end)),
-        Err(fault) => Err(fault),
-    }
-}
-
-#[inline(never)]
-fn slow_number_end(bytes: &[u8], at: usize, allow_inf_nan: bool) -> Result<usize, Fault>
-    requires { at < length bytes.now }
-    ensures value { Scans (taken tt) result (number_extent allow_inf_nan bytes.now at) }
-    ensures place { IfOk result (λ e. (at < e) × (e ≤ length bytes.now)) }
-{
-    match number_extent(bytes, at, allow_inf_nan) {
-        Ok(Extent::Int(_, end)) => Ok(end),
-        Ok(Extent::Float(end)) => Ok(end),
         Err(fault) => Err(fault),
     }
 }
@@ -145,8 +133,10 @@ pub fn number_end(bytes: &[u8], at: usize, allow_inf_nan: bool) -> Result<usize,
     ensures value { Scans (taken tt) result (number_extent allow_inf_nan bytes.now at) }
     ensures advances { IfOk result (λ e. (at < e) × (e ≤ length bytes.now)) }
 {
-    match fast_number_end(bytes, at) {
-        Some(end) => Ok(end),
-        None => slow_number_end(bytes, at, allow_inf_nan),
+    if let Some(end) = fast_number_end(bytes, at) {
+        return Ok(end);
+    }
+    match number_extent(bytes, at, allow_inf_nan)? {
+        Extent::Int(_, end) | Extent::Float(end) => Ok(end),
     }
 }

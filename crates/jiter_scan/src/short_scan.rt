@@ -20,39 +20,6 @@ pub enum Look {
     Fault(FaultKind),
 }
 
-// What the byte at `to`, the first one that is not plain, means to a string. `ascii` says whether all bytes before it
-// are below 80 hex.
-#[inline(always)]
-fn look_of(bytes: &[u8], to: usize, ascii: bool) -> Look
-    ensures { (i : ℕ) → to ≡ scan_stop bytes.now i → (IsTrue ascii → IsAsciiTo bytes.now i to)
-        → IsLook bytes.now i to result }
-{
-    match byte_at(bytes, to) {
-        None => Look::Fault(FaultKind::EofWhileParsingString),
-        Some(stop) => {
-            if stop == b'"' {
-                if ascii { Look::Plain } else { Look::Utf8 }
-            } else if stop == b'\\' {
-                Look::Escaped(ascii)
-            } else {
-                Look::Fault(FaultKind::ControlCharacterWhileParsingString)
-            }
-        }
-    }
-}
-
-// The slow path: fewer than sixteen bytes are left after `from`, or the string doesn't end within sixteen.
-#[inline(always)]
-fn far_look(bytes: &[u8], from: usize) -> (usize, Look)
-    requires { from ≤ length bytes.now }
-    ensures stop { result.0 ≡ scan_stop bytes.now from }
-    ensures within { (from ≤ result.0) × (result.0 ≤ length bytes.now) }
-    ensures means { IsLook bytes.now from result.0 result.1 }
-{
-    let (to, ascii) = scan_string(bytes, from);
-    (to, look_of(bytes, to, ascii))
-}
-
 /// Looks at the string whose first byte after the opening quote is at `from` (RFC 8259, 7).
 ///
 /// Returns the index of the first byte that is not plain, or the length, and what is there. Fastest if that is a quote
@@ -68,21 +35,31 @@ pub fn look_at(bytes: &[u8], from: usize) -> (usize, Look)
     ensures within { (from ≤ result.0) × (result.0 ≤ length bytes.now) }
     ensures means { IsLook bytes.now from result.0 result.1 }
 {
-    if bytes.len() - from < 16 {
-        return far_look(bytes, from);
-    }
-    let found = ascii_stops(u8x16::from_slice(&bytes[from..]));
-    if found == 0 {
-        return far_look(bytes, from + 16);
-    }
-    let to = from + found.trailing_zeros() as usize;
-    let byte = bytes[to];
-    if byte == b'"' {
-        return (to, Look::Plain);
-    }
-    if byte >= 0x80 {
-        let stop = string_stop(bytes, to);
-        return (stop, look_of(bytes, stop, false));
-    }
-    (to, look_of(bytes, to, true))
+    let (to, ascii) = if bytes.len() - from < 16 {
+        scan_string(bytes, from)
+    } else {
+        let found = ascii_stops(u8x16::from_slice(&bytes[from..]));
+        if found == 0 {
+            scan_string(bytes, from + 16)
+        } else {
+            let to = from + found.trailing_zeros() as usize;
+            let byte = bytes[to];
+            if byte == b'"' {
+                return (to, Look::Plain);
+            }
+            if byte >= 0x80 {
+                (string_stop(bytes, to), false)
+            } else {
+                (to, true)
+            }
+        }
+    };
+    let look = match byte_at(bytes, to) {
+        None => Look::Fault(FaultKind::EofWhileParsingString),
+        Some(b'"') if ascii => Look::Plain,
+        Some(b'"') => Look::Utf8,
+        Some(b'\\') => Look::Escaped(ascii),
+        Some(_) => Look::Fault(FaultKind::ControlCharacterWhileParsingString),
+    };
+    (to, look)
 }

@@ -1,98 +1,204 @@
-use Rattle.jiter_scan.proofs.Words.{◌≡◌, ℕ, ◌+◌, ◌<◌, ◌≤◌, ◌∙◌, ap, false, refl, sym, arith, get_or, length, List}
-use Rattle.jiter_scan.proofs.Words.{IsTrue, Some, slice_get, slice_get-get_or, count_trailing_zeros, chunk, is_plain}
-use Rattle.jiter_scan.proofs.Words.{is_plain_ascii, run_end, scan_stop, IsAsciiTo, failing}
-use Rattle.jiter_scan.specs.Scan.{IsLook}
-use Rattle.jiter_scan.specs.declared.short_scan.Look.{Look}
-use Rattle.jiter_scan.specs.declared.short_scan.Look.TheVariants as look
+use Rattle.jiter_scan.proofs.Words.{◌≡◌, ◌≢◌, ℕ, Bool, ◌+◌, ◌-◌, ◌<◌, ◌≤◌, ◌∙◌, ap, true, false, refl, sym, arith, subst}
+use Rattle.jiter_scan.proofs.Words.{get_or, length, List, IsTrue, Some, slice_get, slice_get-get_or}
+use Rattle.jiter_scan.proofs.Words.{count_trailing_zeros, chunk, nat_tests, is_plain, is_plain_ascii, run_end, scan_stop}
+use Rattle.jiter_scan.proofs.Words.{IsAsciiTo, failing}
+use Rattle.std.specs.Prelude.{◌↔◌}
+use Rattle.jiter_scan.specs.Scan.{IsFaultOf}
+use Rattle.jiter_scan.specs.declared.errors.FaultKind.TheVariants as fault
 use Rattle.jiter_scan.proofs.AsciiRuns.{ascii-again, ascii-before, ascii-stops, ascii-through, low-stops, text-through}
 use Rattle.jiter_scan.proofs.Chunks.{run_end-near, run_end-stopped}
+use Rattle.jiter_scan.proofs.Runs.{run_end-stops}
 use Rattle.jiter_scan.proofs.short_scan.look_at.Goals as goal
+use Rattle.jiter_scan.proofs.short_scan.look_at.Goals.{then-bytes-from-lt16, else-bytes-from-lt16+then-found-eq0}
+use Rattle.jiter_scan.proofs.short_scan.look_at.Goals.{else-bytes-from-lt16+else-found-eq0+else-byte-eq34+then-byte-ge128}
+use Rattle.jiter_scan.proofs.short_scan.look_at.Goals.{else-bytes-from-lt16+else-found-eq0+else-byte-eq34+else-byte-ge128}
 
--- what a look from k on found, one from i on finds
-from-before : (t : List ℕ) (i k j : ℕ) → (IsAsciiTo t k j → IsAsciiTo t i j) → (l : Look) → IsLook t k j l → IsLook t i j l
-from-before t i k j ascii look.Plain means = (means.0, ascii means.1)
-from-before t i k j ascii look.Utf8 means = means
-from-before t i k j ascii (look.Escaped a) means = (means.0, λ known. ascii (means.1 known))
-from-before t i k j ascii (look.Fault kind) means = means
+module _ (t : List ℕ) (i : ℕ) (inside : i ≤ length t) where
+  -- the first byte that is not plain, and whether those before it are known to be ASCII
+  abbrev Stop : ℕ × Bool → Type 0
+  Stop to = record {
+    stop : to.0 ≡ scan_stop t i;
+    within : (i ≤ to.0) × (to.0 ≤ length t);
+    ascii : IsTrue to.1 → IsAsciiTo t i to.0;
+  }
 
-pub returns-then-found-eq0 : goal.returns-then-found-eq0
-returns-then-found-eq0 c =
-    let t = c.args.bytes.now in
-    let i = c.args.from in
-    let far = c.far_look-then-found-eq0 in
-    let long : i + 16 ≤ length t = omega arith in
-    let none : failing is_plain_ascii (chunk i 16 t) ≡ 0 = sym c.ascii_stops-found.ensures ∙ c.if-found-eq0.true in
-    record {
-      stop = far.ensures.stop ∙ sym (text-through t i long none);
-      within = (omega (arith, far.ensures.within.0), far.ensures.within.1);
-      means = from-before t i (i + 16) far.result.0 (ascii-through t i long none far.result.0 far.ensures.stop)
-          far.result.1 far.ensures.means;
-    }
+  -- what a scan from k on ensures
+  abbrev Scanned : ℕ → ℕ × Bool → Type 0
+  Scanned k to = record {
+    stop : to.0 ≡ scan_stop t k;
+    within : (k ≤ to.0) × (to.0 ≤ length t);
+    ascii : IsTrue to.1 ↔ IsAsciiTo t k to.0;
+  }
 
--- the first byte of a chunk that is a stop or above 7f hex
-module _ (t : List ℕ) (i found : ℕ) (reach : i + 16 ≤ length t)
-    (is : found ≡ failing is_plain_ascii (chunk i 16 t)) (some : 0 < found) where
-  abbrev to : ℕ
-  to = i + count_trailing_zeros 64 found
+  scanned : {to found : ℕ × Bool} → to ≡ found → Scanned i found → Stop to
+  scanned same s = subst Stop (sym same) (record { stop = s.stop; within = s.within; ascii = s.ascii.0 })
 
-  run : run_end is_plain_ascii t i ≡ to
-  run = run_end-stopped is_plain_ascii t i 16 found is reach (omega arith) some
+  -- the byte at that stop, below 20 hex where it is neither a quote nor a backslash
+  control : (to b : ℕ) → to ≡ scan_stop t i → slice_get t to ≡ Some b → b ≢ 34 → b ≢ 92
+      → IsFaultOf (slice_get t to) fault.ControlCharacterWhileParsingString
+  control to b stop here quote backslash =
+      let stops = run_end-stops is_plain t i b (subst (λ j. slice_get t j ≡ Some b) stop here) in
+      let low : b < 32 = grind (arith, nat_tests, stops, quote, backslash) in
+      subst (λ o. IsFaultOf o fault.ControlCharacterWhileParsingString) (sym here) (low, refl)
 
-  before : to < length t
-  before = omega (arith, run, run_end-near is_plain_ascii t i 16 found is reach some)
+  -- by the bits of the first sixteen bytes that are no plain ASCII
+  module _ (mask : ℕ) (long : 16 ≤ length t - i) (is : mask ≡ failing is_plain_ascii (chunk i 16 t)) where
+    reach : i + 16 ≤ length t
+    reach = omega arith
 
-  byte-there : (b : ℕ) → get_or t to 0 ≡ b → slice_get t to ≡ Some b
-  byte-there b e = slice_get-get_or t to 0 before ∙ ap Some e
+    after : {to found : ℕ × Bool} → to ≡ found → mask ≡ 0 → Scanned (i + 16) found → Stop to
+    after {found} same none s =
+        let clear = sym is ∙ none in
+        subst Stop (sym same)
+        (record {
+          stop = s.stop ∙ sym (text-through t i reach clear);
+          within = (omega (arith, s.within.0), s.within.1);
+          ascii = λ known. ascii-through t i reach clear found.0 s.stop (s.ascii.0 known);
+        })
 
-  low-there : get_or t to 0 < 128 → is_plain (get_or t to 0) ≡ false
-  low-there low = low-stops t i (get_or t to 0) (ap (slice_get t) run ∙ byte-there (get_or t to 0) refl) low
+    module _ (some : mask ≢ 0) where
+      abbrev first : ℕ
+      first = i + count_trailing_zeros 64 mask
+
+      run : run_end is_plain_ascii t i ≡ first
+      run = run_end-stopped is_plain_ascii t i 16 mask is reach (omega arith) (omega arith)
+
+      before : first < length t
+      before = omega (arith, run, run_end-near is_plain_ascii t i 16 mask is reach (omega arith))
+
+      here : slice_get t first ≡ Some (get_or t first 0)
+      here = slice_get-get_or t first 0 before
+
+      near : is_plain (get_or t first 0) ≡ false → Stop (first, true)
+      near stops =
+          record {
+            stop = ascii-stops t i first _ run here stops;
+            within = (omega arith, omega (arith, before));
+            ascii = λ known. ascii-before t i first _ run here stops;
+          }
+
+      low : {to : ℕ × Bool} → to ≡ (first, true) → get_or t first 0 < 128 → Stop to
+      low same small = subst Stop (sym same) (near (low-stops t i _ (ap (slice_get t) run ∙ here) small))
+
+      high : {to : ℕ × Bool} (e : ℕ) → to ≡ (e, false)
+          → record { stop : e ≡ scan_stop t first; within : (first ≤ e) × (e ≤ length t) } → Stop to
+      high e same s =
+          subst Stop (sym same)
+          (record {
+            stop = s.stop ∙ sym (ascii-again t i first inside run);
+            within = (omega (arith, s.within.0), s.within.1);
+            ascii = λ (no : IsTrue false). absurd (cc);
+          })
 
 pub bounds-bytes-to : goal.bounds-bytes-to
 bounds-bytes-to c =
     let found = c.ascii_stops-found in
-    before c.args.bytes.now c.args.from found.result (omega arith) found.ensures (omega arith)
+    before c.args.bytes.now c.args.from c.requires found.result c.if-bytes-from-lt16.false found.ensures
+    c.if-found-eq0.false
 
 pub returns-then-byte-eq34 : goal.returns-then-byte-eq34
 returns-then-byte-eq34 c =
     let t = c.args.bytes.now in
     let i = c.args.from in
-    let n = c.ascii_stops-found.result in
-    let is = c.ascii_stops-found.ensures in
-    let quote = byte-there t i n (omega arith) is (omega arith) 34 c.if-byte-eq34.true in
-    let end = run t i n (omega arith) is (omega arith) in
-    record {
-      stop = ascii-stops t i _ 34 end quote refl;
-      within = (omega arith, omega (arith, before t i n (omega arith) is (omega arith)));
-      means = (quote, ascii-before t i _ 34 end quote refl);
-    }
+    let found = c.ascii_stops-found in
+    let long = c.if-bytes-from-lt16.false in
+    let end = near t i c.requires found.result long found.ensures c.if-found-eq0.false (ap is_plain c.if-byte-eq34.true) in
+    let quote = here t i c.requires found.result long found.ensures c.if-found-eq0.false ∙ ap Some c.if-byte-eq34.true in
+    record { stop = end.stop; within = end.within; means = (quote, end.ascii refl) }
 
-pub returns-then-byte-ge128 : goal.returns-then-byte-ge128
-returns-then-byte-ge128 c =
+pub returns-in-None : goal.returns-in-None
+returns-in-None c =
     let t = c.args.bytes.now in
     let i = c.args.from in
-    let n = c.ascii_stops-found.result in
-    let is = c.ascii_stops-found.ensures in
-    let stop = c.string_stop-stop in
-    let at : stop.result ≡ scan_stop t i =
-    stop.ensures.stop ∙ sym (ascii-again t i _ c.requires (run t i n (omega arith) is (omega arith))) in
-    record {
-      stop = at;
-      within = (omega (arith, stop.ensures.within.0), stop.ensures.within.1);
-      means = c.look_of.ensures i at (λ (no : IsTrue false). absurd (cc));
-    }
+    let end : Stop t i c.requires c.if-bytes-from-lt16.to = elim c.if-bytes-from-lt16.branch [
+      | then-bytes-from-lt16 w ↦ scanned t i c.requires w.to-is w.scan_string.ensures
+      | else-bytes-from-lt16+then-found-eq0 w ↦ after t i c.requires w.ascii_stops-found.result
+          w.if-bytes-from-lt16.false w.ascii_stops-found.ensures w.to-is w.if-found-eq0.true
+          w.scan_string-then-found-eq0.ensures
+      | else-bytes-from-lt16+else-found-eq0+else-byte-eq34+then-byte-ge128 w ↦ high t i c.requires
+          w.ascii_stops-found.result w.if-bytes-from-lt16.false w.ascii_stops-found.ensures w.if-found-eq0.false
+          w.string_stop.result w.to-is w.string_stop.ensures
+      | else-bytes-from-lt16+else-found-eq0+else-byte-eq34+else-byte-ge128 w ↦ low t i c.requires
+          w.ascii_stops-found.result w.if-bytes-from-lt16.false w.ascii_stops-found.ensures w.if-found-eq0.false
+          w.to-is w.if-byte-ge128.false
+    ] in
+    let means = subst (λ o. IsFaultOf o fault.EofWhileParsingString) (sym c.in-None.is ∙ c.byte_at.ensures.value) refl in
+    record { stop = end.stop; within = end.within; means = means }
 
-pub returns : goal.returns
-returns c =
+pub returns-in-Some-eq34 : goal.returns-in-Some-eq34
+returns-in-Some-eq34 c =
     let t = c.args.bytes.now in
     let i = c.args.from in
-    let n = c.ascii_stops-found.result in
-    let is = c.ascii_stops-found.ensures in
-    let here = byte-there t i n (omega arith) is (omega arith) _ refl in
-    let end = run t i n (omega arith) is (omega arith) in
-    let stops = low-there t i n (omega arith) is (omega arith) (omega (arith, c.if-byte-ge128.false)) in
-    let stop = ascii-stops t i _ _ end here stops in
-    record {
-      stop = stop;
-      within = (omega arith, omega (arith, before t i n (omega arith) is (omega arith)));
-      means = c.look_of-2.ensures i stop (λ known. ascii-before t i _ _ end here stops);
-    }
+    let end : Stop t i c.requires c.if-bytes-from-lt16.to = elim c.if-bytes-from-lt16.branch [
+      | then-bytes-from-lt16 w ↦ scanned t i c.requires w.to-is w.scan_string.ensures
+      | else-bytes-from-lt16+then-found-eq0 w ↦ after t i c.requires w.ascii_stops-found.result
+          w.if-bytes-from-lt16.false w.ascii_stops-found.ensures w.to-is w.if-found-eq0.true
+          w.scan_string-then-found-eq0.ensures
+      | else-bytes-from-lt16+else-found-eq0+else-byte-eq34+then-byte-ge128 w ↦ high t i c.requires
+          w.ascii_stops-found.result w.if-bytes-from-lt16.false w.ascii_stops-found.ensures w.if-found-eq0.false
+          w.string_stop.result w.to-is w.string_stop.ensures
+      | else-bytes-from-lt16+else-found-eq0+else-byte-eq34+else-byte-ge128 w ↦ low t i c.requires
+          w.ascii_stops-found.result w.if-bytes-from-lt16.false w.ascii_stops-found.ensures w.if-found-eq0.false
+          w.to-is w.if-byte-ge128.false
+    ] in
+    let quote = sym c.byte_at.ensures.value ∙ c.in-Some-eq34.is ∙ ap Some c.in-Some-eq34.field-0-test in
+    record { stop = end.stop; within = end.within; means = (quote, end.ascii c.if-ascii.true) }
+
+pub returns-in-Some-eq34-2 : goal.returns-in-Some-eq34-2
+returns-in-Some-eq34-2 c =
+    let t = c.args.bytes.now in
+    let i = c.args.from in
+    let end : Stop t i c.requires c.if-bytes-from-lt16.to = elim c.if-bytes-from-lt16.branch [
+      | then-bytes-from-lt16 w ↦ scanned t i c.requires w.to-is w.scan_string.ensures
+      | else-bytes-from-lt16+then-found-eq0 w ↦ after t i c.requires w.ascii_stops-found.result
+          w.if-bytes-from-lt16.false w.ascii_stops-found.ensures w.to-is w.if-found-eq0.true
+          w.scan_string-then-found-eq0.ensures
+      | else-bytes-from-lt16+else-found-eq0+else-byte-eq34+then-byte-ge128 w ↦ high t i c.requires
+          w.ascii_stops-found.result w.if-bytes-from-lt16.false w.ascii_stops-found.ensures w.if-found-eq0.false
+          w.string_stop.result w.to-is w.string_stop.ensures
+      | else-bytes-from-lt16+else-found-eq0+else-byte-eq34+else-byte-ge128 w ↦ low t i c.requires
+          w.ascii_stops-found.result w.if-bytes-from-lt16.false w.ascii_stops-found.ensures w.if-found-eq0.false
+          w.to-is w.if-byte-ge128.false
+    ] in
+    let quote = sym c.byte_at.ensures.value ∙ c.in-Some-eq34.is ∙ ap Some c.in-Some-eq34.field-0-test in
+    record { stop = end.stop; within = end.within; means = quote }
+
+pub returns-in-Some-eq92 : goal.returns-in-Some-eq92
+returns-in-Some-eq92 c =
+    let t = c.args.bytes.now in
+    let i = c.args.from in
+    let end : Stop t i c.requires c.if-bytes-from-lt16.to = elim c.if-bytes-from-lt16.branch [
+      | then-bytes-from-lt16 w ↦ scanned t i c.requires w.to-is w.scan_string.ensures
+      | else-bytes-from-lt16+then-found-eq0 w ↦ after t i c.requires w.ascii_stops-found.result
+          w.if-bytes-from-lt16.false w.ascii_stops-found.ensures w.to-is w.if-found-eq0.true
+          w.scan_string-then-found-eq0.ensures
+      | else-bytes-from-lt16+else-found-eq0+else-byte-eq34+then-byte-ge128 w ↦ high t i c.requires
+          w.ascii_stops-found.result w.if-bytes-from-lt16.false w.ascii_stops-found.ensures w.if-found-eq0.false
+          w.string_stop.result w.to-is w.string_stop.ensures
+      | else-bytes-from-lt16+else-found-eq0+else-byte-eq34+else-byte-ge128 w ↦ low t i c.requires
+          w.ascii_stops-found.result w.if-bytes-from-lt16.false w.ascii_stops-found.ensures w.if-found-eq0.false
+          w.to-is w.if-byte-ge128.false
+    ] in
+    let backslash = sym c.byte_at.ensures.value ∙ c.in-Some-eq92.is ∙ ap Some c.in-Some-eq92.field-0-test in
+    record { stop = end.stop; within = end.within; means = (backslash, end.ascii) }
+
+pub returns-in-Some : goal.returns-in-Some
+returns-in-Some c =
+    let t = c.args.bytes.now in
+    let i = c.args.from in
+    let end : Stop t i c.requires c.if-bytes-from-lt16.to = elim c.if-bytes-from-lt16.branch [
+      | then-bytes-from-lt16 w ↦ scanned t i c.requires w.to-is w.scan_string.ensures
+      | else-bytes-from-lt16+then-found-eq0 w ↦ after t i c.requires w.ascii_stops-found.result
+          w.if-bytes-from-lt16.false w.ascii_stops-found.ensures w.to-is w.if-found-eq0.true
+          w.scan_string-then-found-eq0.ensures
+      | else-bytes-from-lt16+else-found-eq0+else-byte-eq34+then-byte-ge128 w ↦ high t i c.requires
+          w.ascii_stops-found.result w.if-bytes-from-lt16.false w.ascii_stops-found.ensures w.if-found-eq0.false
+          w.string_stop.result w.to-is w.string_stop.ensures
+      | else-bytes-from-lt16+else-found-eq0+else-byte-eq34+else-byte-ge128 w ↦ low t i c.requires
+          w.ascii_stops-found.result w.if-bytes-from-lt16.false w.ascii_stops-found.ensures w.if-found-eq0.false
+          w.to-is w.if-byte-ge128.false
+    ] in
+    let test = c.in-Some.field-0-test in
+    let means = control t i c.requires c.if-bytes-from-lt16.to.0 c.in-Some.field-0 end.stop
+    (sym c.byte_at.ensures.value ∙ c.in-Some.is) test.0.1 test.1 in
+    record { stop = end.stop; within = end.within; means = means }

@@ -53,7 +53,7 @@ loop-left-preserved c =
       text = copied-on t c.args.buffer.now.items l.buffer.items p.new.tape.items c.args.from l.i c.args.count l.end 16
           v.above (omega arith) (omega arith) v.text p.ensures.text;
       stop = omega (arith, v.stop, run);
-      ascii = still-ascii _ l.clean (eqb p.result.1 0) _ _ _ v.ascii low c.both-clean.ensures;
+      ascii = still-ascii _ l.clean (eqb p.result.1 0) _ _ _ v.ascii low refl;
       above = omega arith;
       within = omega arith;
       room = omega arith;

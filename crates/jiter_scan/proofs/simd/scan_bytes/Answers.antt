@@ -1,6 +1,7 @@
-use Rattle.jiter_scan.proofs.Words.{◌&&◌, get_or, not, ap, sym, ◌∙◌, arith, is_plain, is_ascii}
+use Rattle.jiter_scan.proofs.Words.{◌≡◌, ◌&&◌, false, get_or, not, ap, refl, sym, ◌∙◌, arith, nat_tests, is_plain, is_ascii}
+use Rattle.jiter_scan.specs.Scan.{is_stop}
 use Rattle.std.proofs.Math.Bool.{and-true}
-use Rattle.jiter_scan.proofs.Runs.{run_end-passing, run_end-stopping, run_end-past}
+use Rattle.jiter_scan.proofs.Runs.{run_end-passing, run_end-past}
 use Rattle.jiter_scan.proofs.PlainRuns.{ascii_from-byte, ascii_from-stop, still-ascii}
 use Rattle.jiter_scan.proofs.simd.scan_bytes.Goals as goal
 
@@ -8,27 +9,15 @@ pub loop-i-preserved : goal.loop-i-preserved
 loop-i-preserved c =
     let t = c.args.bytes.now in
     let i = c.loop-i.i in
-    let goes = sym c.is_stop.ensures ∙ c.if-is_stop.false in
+    let goes : is_stop (get_or t i 0) ≡ false =
+    grind (arith, nat_tests, c.if-byte-eq34.false, c.if-byte-eq92.false, c.if-byte-lt32.false) in
     let run = run_end-passing is_plain t i c.loop-i-test.true (ap not goes) in
     record {
       stop = omega arith;
       ascii = still-ascii _ c.loop-i.clean (is_ascii (get_or t i 0)) _ _ _ c.loop-i.invariant.ascii
-          (ascii_from-byte t i c.loop-i-test.true goes) c.both-clean.ensures;
+          (ascii_from-byte t i c.loop-i-test.true goes) refl;
       within = omega arith;
     }
-
-pub returns-then-is_stop-clause-stop : goal.returns-then-is_stop-clause-stop
-returns-then-is_stop-clause-stop c =
-    let here = run_end-stopping is_plain c.args.bytes.now c.loop-i.i c.loop-i-test.true
-    (ap not (sym c.is_stop.ensures ∙ c.if-is_stop.true)) in
-    omega arith
-
-pub returns-then-is_stop-clause-ascii : goal.returns-then-is_stop-clause-ascii
-returns-then-is_stop-clause-ascii c =
-    let here = run_end-stopping is_plain c.args.bytes.now c.loop-i.i c.loop-i-test.true
-    (ap not (sym c.is_stop.ensures ∙ c.if-is_stop.true)) in
-    sym (c.loop-i.invariant.ascii ∙ ap (λ b. c.loop-i.clean && b) (ascii_from-stop c.args.bytes.now c.loop-i.i here)
-    ∙ and-true c.loop-i.clean)
 
 pub returns-clause-stop : goal.returns-clause-stop
 returns-clause-stop c = omega (arith, run_end-past is_plain c.args.bytes.now c.loop-i.i c.loop-i-test.false)

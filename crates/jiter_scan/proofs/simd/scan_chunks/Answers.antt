@@ -1,4 +1,4 @@
-use Rattle.jiter_scan.proofs.Words.{◌&&◌, eqb, ap, sym, ◌∙◌, arith, is_plain}
+use Rattle.jiter_scan.proofs.Words.{refl, ◌&&◌, eqb, ap, sym, ◌∙◌, arith, is_plain}
 use Rattle.jiter_scan.proofs.Chunks.{run_end-clear, run_end-stopped}
 use Rattle.jiter_scan.proofs.Runs.{run_end-within}
 use Rattle.jiter_scan.proofs.PlainRuns.{ascii_from-clear, ascii_from-stopped, still-ascii}
@@ -35,7 +35,7 @@ loop-i-preserved c =
     let low = ascii_from-clear t i 16 found.result high.result found.ensures high.ensures (omega arith) (omega arith) in
     record {
       stop = omega arith;
-      ascii = still-ascii _ c.loop-i.clean (eqb high.result 0) _ _ _ c.loop-i.invariant.ascii low c.both-clean.ensures;
+      ascii = still-ascii _ c.loop-i.clean (eqb high.result 0) _ _ _ c.loop-i.invariant.ascii low refl;
       within = omega arith;
     }
 
@@ -50,7 +50,7 @@ loop-i-preserved-then-i-far c =
     let low = ascii_from-clear t i 16 found.result high.result found.ensures high.ensures (omega arith) (omega arith) in
     record {
       stop = omega (arith, run, wide.stop, c.loop-i.invariant.stop);
-      ascii = still-ascii _ c.loop-i.clean (eqb high.result 0) _ _ _ c.loop-i.invariant.ascii low c.both-clean.ensures
+      ascii = still-ascii _ c.loop-i.clean (eqb high.result 0) _ _ _ c.loop-i.invariant.ascii low refl
           ∙ wide.ascii;
       within = wide.within.1;
     }

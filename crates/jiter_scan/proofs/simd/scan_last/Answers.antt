@@ -63,6 +63,5 @@ returns-then-found-eq0 c =
     let after = ascii_from-stop t (i + n) (omega (arith, ahead, end)) in
     record {
       stop = omega (arith, run, ahead, end);
-      ascii = c.both.ensures
-          ∙ ap (λ b. c.args.ascii && b) (sym (low ∙ ap (λ b. eqb high 0 && b) after ∙ and-true (eqb high 0)));
+      ascii = ap (λ b. c.args.ascii && b) (sym (low ∙ ap (λ b. eqb high 0 && b) after ∙ and-true (eqb high 0)));
     }

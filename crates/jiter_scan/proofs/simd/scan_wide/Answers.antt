@@ -1,4 +1,4 @@
-use Rattle.jiter_scan.proofs.Words.{◌+◌, ◌&&◌, ap, sym, ◌∙◌, arith, is_plain, ascii_from}
+use Rattle.jiter_scan.proofs.Words.{refl, ◌+◌, ◌&&◌, ap, sym, ◌∙◌, arith, is_plain, ascii_from}
 use Rattle.jiter_scan.proofs.Chunks.{prefix_len-through}
 use Rattle.jiter_scan.proofs.PlainRuns.{ascii_from-through, still-ascii}
 use Rattle.jiter_scan.proofs.simd.scan_wide.Goals as goal
@@ -14,7 +14,7 @@ loop-i-preserved c =
     ∙ ap (λ b. b && ascii_from t (i + 64)) (sym found.ensures.ascii) in
     record {
       stop = omega arith;
-      ascii = still-ascii _ c.loop-i.clean found.result.1 _ _ _ c.loop-i.invariant.ascii low c.both-clean.ensures;
+      ascii = still-ascii _ c.loop-i.clean found.result.1 _ _ _ c.loop-i.invariant.ascii low refl;
       above = omega arith;
       within = omega arith;
     }
