@@ -1,6 +1,6 @@
 -- What the calls of the pull reader return, and where they leave it.
 use Rattle.std.specs.Prelude.{◌≡◌, ◌≢◌, ◌<◌, ◌≤◌, ◌+◌, ℕ, false, List, length, Result, Ok, Err, IfOk, IfErr, IfSome}
-use Rattle.std.specs.Prelude.{slice_get, slice_index, Bool, Option, Some, None, option_map}
+use Rattle.std.specs.Prelude.{slice_get, slice_index, Bool, Option, Some, option_map}
 use Rattle.std.specs.Cow.{cow_str_bytes}
 use Rattle.std.specs.declared.alloc.Global.{Global}
 use Rattle.std.specs.declared.borrow.CowStr.{CowStr}
