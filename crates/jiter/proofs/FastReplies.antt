@@ -4,7 +4,7 @@ use Rattle.jiter.proofs.Words.{Ok, Err, slice_get, slice_index, slice_range, Opt
 use Rattle.jiter.proofs.Words.{get_or_from_slice_get, slice_get-get_or, slice_get_within, ScalarWithin, fault_kind}
 use Rattle.jiter.proofs.Words.{number_at, with_value, Scanned, taken, failed, seen_as, start_of, ReadError, colon, more}
 use Rattle.jiter.proofs.Words.{step, WantsMemory, between, Form, string_at, text_form, whole, Text, past_blanks-after}
-use Rattle.jiter.proofs.Words.{string_at-within, false, ◌-◌, IsErrorAt, MovesOn, key_bytes, reply_seen, text_bytes}
+use Rattle.jiter.proofs.Words.{string_at-within, false, IsErrorAt, MovesOn, key_bytes, reply_seen, text_bytes}
 use Rattle.jiter.proofs.Words.{ReaderState, Refusal, Reply, gave, refused, scalar_reply, colon_reply, key_reply}
 use Rattle.jiter.proofs.Words.{with_position, value_place, next, if_byte, member_reply, number_bytes_read, str_read}
 use Rattle.jiter.proofs.Words.{Reads, never, string_memory, JiterError, option_map}

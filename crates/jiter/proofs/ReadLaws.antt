@@ -2,7 +2,11 @@
 use Rattle.jiter.proofs.Words.{◌≡◌, ◌∙◌, ◌≤◌, Ok, Err, Result, refl, sym, ap, subst, slice_get, length, Some, ℕ}
 use Rattle.jiter.proofs.Words.{start_of, ValueType, IsRefusalOf, refusal_view, MovesOn, Replies, RefusesBytes}
 use Rattle.jiter.proofs.Words.{reply_seen, ReaderState, Reply, refused, refused_as, if_byte, next, value_place}
-use Rattle.jiter.proofs.Words.{Refusal, with_position, Reads, anywhere, never, JiterError}
+use Rattle.jiter.proofs.Words.{Refusal, with_position, Reads, anywhere, never, JiterError, Option, None, Form, Text}
+use Rattle.jiter.proofs.Words.{object, object_read, Start}
+use Rattle.std.proofs.Common.{◌≢◌}
+use Rattle.jiter_steps.proofs.Grammar.Sound.{object-byte}
+use Rattle.jiter_steps.specs.declared.parse.Start.TheVariants as start
 use Rattle.jiter.specs.Reader.{type_refusal}
 use Rattle.jiter.specs.Reads.{Memory, Stops, only_at}
 
@@ -59,12 +63,28 @@ other-refused s w v i c e is place = subst P (sym is) here where
 
 -- The same error, whatever would have been returned.
 pub error-seen : {X Y A B : Type 0} {seen : X → A} {view : Y → B} {e : JiterError} {s0 s : ReaderState} {r : Reply A}
-    (when : Memory) (g : A → B) → Reads when seen r (Err e) s0 s → Reads when view (reply_seen g r) (Err e) s0 s
-error-seen never g h =
+    (g : A → B) → Reads never seen r (Err e) s0 s → Reads never view (reply_seen g r) (Err e) s0 s
+error-seen g h =
     record { moves = h.moves; value = ap (reply_seen g) h.value; index = h.index; memory = h.memory }
-error-seen (only_at At) g h =
-    record { moves = h.moves; value = λ m. ap (reply_seen g) (h.value m); index = h.index; memory = h.memory }
 
-pub error-same : {X Y A : Type 0} {seen : X → A} {view : Y → A} {e : JiterError} {s0 s : ReaderState} {r : Reply A}
-    → Reads never seen r (Err e) s0 s → Reads never view r (Err e) s0 s
-error-same h = record { moves = h.moves; value = h.value; index = h.index; memory = h.memory }
+-- What comes next is no object: the error of the value there.
+pub no-object : {X : Type 0} {view : X → Option Text} (f : Form) (e : JiterError) {s0 s : ReaderState}
+    → slice_get s0.text (value_place s0) ≢ Some 123
+    → Stops {X = Unit {0}} (next s0 (λ i b. refused_as s0 i object b)) (Err e) s0 s
+    → Reads never view (next s0 (object_read f s0)) (Err e) s0 s
+no-object {view = view} f e {s0 = s0} {s = s} other h =
+    record { moves = h.moves; value = by (slice_get s0.text i) other h.value; index = h.index; memory = h.memory } where
+      i : ℕ
+      i = value_place s0
+
+      at : (b : Start) → b ≢ start.Object → Replies {X = Unit {0}} (λ _. tt {0}) (Err e) s (refused_as s0 i object b)
+          → Replies view (Err e) s (object_read f s0 i b)
+      at start.Object apart h = absurd (apart refl)
+      at (start.Literal w) apart h = cc
+      at b apart h = cc
+
+      by : (o : Option ℕ) → o ≢ Some 123
+          → Replies {X = Unit {0}} (λ _. tt {0}) (Err e) s (if_byte i o (λ c. refused_as s0 i object (start_of c)))
+          → Replies view (Err e) s (if_byte i o (λ c. object_read f s0 i (start_of c)))
+      by None other h = cc
+      by (Some c) other h = at (start_of c) (λ is. other (ap Some (object-byte c is))) h

@@ -1,6 +1,6 @@
 -- What the calls of the pull reader return, and where they leave it.
 use Rattle.std.specs.Prelude.{◌≡◌, ◌≢◌, ◌<◌, ◌≤◌, ◌+◌, ℕ, false, List, length, Result, Ok, Err, IfOk, IfErr, IfSome}
-use Rattle.std.specs.Prelude.{slice_get, slice_index, Bool, Option, Some, None, option_map, [], take, Vec}
+use Rattle.std.specs.Prelude.{slice_get, slice_index, Bool, Option, Some, option_map}
 use Rattle.std.specs.Cow.{cow_str_bytes}
 use Rattle.std.specs.declared.alloc.Global.{Global}
 use Rattle.std.specs.declared.borrow.CowStr.{CowStr}
@@ -123,8 +123,3 @@ BeginsAt t i b = start_of (slice_index t i) ≡ b
 pub record BeginsAs (s : ReaderState) (b : Start) : Type 0 where
   pub within : s.position < length s.text
   pub is : b ≡ start_of (slice_index s.text s.position)
-
--- the first so many bytes of a tape, if there is one
-abbrev pub prefix : Option (Vec ℕ Global) → ℕ → List ℕ
-prefix None n = []
-prefix (Some tape) n = take n tape.items

@@ -2,7 +2,7 @@
 pub use Rattle.jiter.specs.Cause.{cause_text, error_description, error_text, is_memory_cause, json_error, type_text, wrong_type}
 pub use Rattle.jiter.specs.Client.{IsTruthOrNothing, OwnedMayGrowAt, built, built_inside, own_text}
 pub use Rattle.jiter.specs.Errors.{cause_of, type_of}
-pub use Rattle.jiter.specs.Jiter.{BeginsAs, EndsWithColon, IsErrorAt, IsEscapedAt, IsMemory, IsRefusalOf, KeyIsAt, MovesOn, RefusesBytes, Replies, StandsAt, StandsBefore, TellsHere, WhereMemory, at_start, byte_of, indexed_key_bytes, key_bytes, prefix, refusal_view, reply_seen, text_bytes}
+pub use Rattle.jiter.specs.Jiter.{BeginsAs, EndsWithColon, IsErrorAt, IsEscapedAt, IsMemory, IsRefusalOf, KeyIsAt, MovesOn, RefusesBytes, Replies, StandsAt, StandsBefore, TellsHere, WhereMemory, at_start, byte_of, indexed_key_bytes, key_bytes, refusal_view, reply_seen, text_bytes}
 pub use Rattle.jiter.specs.Lending.{LeavesReader}
 pub use Rattle.jiter.specs.Prefixes.{IsCleanCut, OneThenOther, ParsesPrefix, PrefixesGrow}
 pub use Rattle.jiter.specs.Reader.{array_read, bool_read, bytes_read, colon_reply, finish, gave, int_read, item_reply, item_step, key_step, known, member_reply, next, null_read, number_bytes_read, number_read, object_read, peek, position_after, refused, refused_as, scalar_reply, skip_read, str_read, type_refusal, value_place, value_read, with_position}

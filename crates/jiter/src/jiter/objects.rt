@@ -1,5 +1,5 @@
 //! The pull reader's steps through objects.
-ghost use Rattle.std.specs.Prelude.{◌≡◌, ◌<◌, ◌≤◌, ◌+◌, Err, IfErr, IfOk, IfSome, None, OnOk, Option, Some};
+ghost use Rattle.std.specs.Prelude.{◌≡◌, ◌≢◌, ◌<◌, ◌≤◌, ◌+◌, IfErr, IfOk, IfSome, None, OnErr, OnOk, Some};
 ghost use Rattle.std.specs.Prelude.{length, option_map, slice_get};
 ghost use Rattle.jiter.specs.Words.{sem, step_of, raw_view, more, step, colon, object_first, object_step};
 ghost use Rattle.jiter.specs.Words.{text_view, Form, whole, raw, Text, value_place, next, known, colon_reply};
@@ -18,22 +18,40 @@ use std::alloc::Global;
 use std::borrow::CowStr;
 
 impl<'j> Jiter<'j> {
-    // Finds the first member of the object that comes next, or its end. Stays where it is.
+    // Finds the first member of the object that comes next, or its end. Returns as the error where another value begins.
     #[inline(always)]
-    fn first_member(&mut self) -> JiterResult<(usize, Step)>
-        ensures same { IfOk result (λ _. self.new ≡ self.old) }
+    fn first_member(&self) -> Result<(usize, Step), usize>
         ensures step { IfOk result
-            (λ found. step self.old.text object_first (value_place self.old + 1) ≡ step_of found.0 found.1) }
-        ensures within { IfOk result (λ found. (self.new.position ≤ found.0) × (found.0 ≤ length self.new.text)) }
-        ensures part { IfOk result (λ found. found.1 ≡ Step.Part → found.0 < length self.new.text) }
-        ensures brace { IfOk result (λ _. slice_get self.old.text (value_place self.old) ≡ Some ascii.left_brace) }
-        ensures refused { IfErr result (λ e. (form : Form) → Reads {X = Option Text} never (λ key. key)
-            (next self.old (object_read form self.old)) (Err e) self.old self.new) }
+            (λ found. step self.now.text object_first (value_place self.now + 1) ≡ step_of found.0 found.1) }
+        ensures within { IfOk result (λ found. (self.now.position ≤ found.0) × (found.0 ≤ length self.now.text)) }
+        ensures part { IfOk result (λ found. found.1 ≡ Step.Part → found.0 < length self.now.text) }
+        ensures brace { OnOk result (slice_get self.now.text (value_place self.now) ≡ Some ascii.left_brace) }
+        ensures place { IfErr result (λ at. at ≡ value_place self.now) }
+        ensures ahead { IfErr result (λ at. (self.now.position ≤ at) × (at ≤ length self.now.text)) }
+        ensures other { OnErr result (slice_get self.now.text (value_place self.now) ≢ Some ascii.left_brace) }
     {
         match peek_for(self.parser.bytes, self.parser.index, b'{') {
             (at, Some(b'{')) => Ok(first(self.parser.bytes, at + 1, ContainerKind::Object)),
-            (at, _) => Err(self.stop_at(JsonType::Object, at)),
+            (at, _) => Err(at),
         }
+    }
+
+    // Fails at `at`, where another value begins. Nothing is assigned: in this form of an error the prover sees that the
+    // reader is lent.
+    #[inline(always)]
+    fn no_object(&mut self, at: usize) -> JiterResult<Option<&str>>
+        requires place { at ≡ value_place self.old }
+        requires within { (self.old.position ≤ at) × (at ≤ length self.old.text) }
+        requires other { slice_get self.old.text (value_place self.old) ≢ Some ascii.left_brace }
+        ensures reads { Lends (first_key_memory self.old.text (value_place self.old)) (option_map (λ x. x.now))
+            (reply_seen key_bytes (next self.old (object_read whole self.old))) result self.old }
+        ensures colon { EndsWithColon result self.old.text
+            (position_after (next self.old (object_read whole self.old))) }
+        ensures* after { sem 𝓛 (LeavesReader (first_key_memory self.old.text (value_place self.old)) (option_map (λ x. x.now))
+            (reply_seen key_bytes (next self.old (object_read whole self.old))) result self.entry) }
+    {
+        self.text = Err(self.stop_at(JsonType::Object, at))?;
+        Ok(Some(self.text.as_str()))
     }
 
     // Moves past the colon and returns `key`. `from` is after the key.
@@ -188,8 +206,10 @@ impl<'j> Jiter<'j> {
             result self.old self.new }
         ensures colon { EndsWithColon result self.old.text self.new.position }
     {
-        let first = self.first_member()?;
-        self.key_bytes(first)
+        match self.first_member() {
+            Ok(first) => self.key_bytes(first),
+            Err(at) => Err(self.stop_at(JsonType::Object, at)),
+        }
     }
 
     /// Moves past the comma after a member and returns the bytes of the next key, or `None` at the object's end
@@ -239,8 +259,10 @@ impl<'j> Jiter<'j> {
         ensures* after { sem 𝓛 (LeavesReader (first_key_memory self.old.text (value_place self.old)) (option_map (λ x. x.now))
             (reply_seen key_bytes (next self.old (object_read whole self.old))) result self.entry) }
     {
-        let first = self.first_member()?;
-        self.key(alloc, first)
+        match self.first_member() {
+            Ok(first) => self.key(alloc, first),
+            Err(at) => self.no_object(at),
+        }
     }
 
     /// Steps into the object that you peeked, as [`Jiter::next_object`] does.
@@ -315,8 +337,10 @@ impl<'j> Jiter<'j> {
         ensures colon { EndsWithColon result self.old.text self.new.position }
         ensures index { KeyIsAt (step self.old.text object_first (value_place self.old + 1)) result }
     {
-        let first = self.first_member()?;
-        self.key_cow(alloc, first)
+        match self.first_member() {
+            Ok(first) => self.key_cow(alloc, first),
+            Err(at) => Err(self.stop_at(JsonType::Object, at)),
+        }
     }
 
     /// Moves past the comma after a member and returns the next key and its index, or `None` at the object's end

@@ -212,8 +212,19 @@ impl<'j> Jiter<'j> {
     pub fn next_int(&mut self) -> JiterResult<NumberInt<'j>>
         ensures reads { Reads never int_view (next self.old (int_read self.old)) result self.old self.new }
     {
-        let peek = self.peek()?;
-        self.known_int(peek)
+        let (at, byte) = peek(self.parser.bytes, self.parser.index);
+        let Some(Start::Number) = byte.map(start_of) else {
+            return Err(self.stop_at(JsonType::Int, at));
+        };
+        self.parser.index = at;
+        match int_at(self.parser.bytes, at) {
+            Ok((Integer::Whole(number), end)) => {
+                self.parser.index = end;
+                Ok(number)
+            }
+            Ok((Integer::FloatSeen, _)) => Err(wrong_type(JsonType::Int, JsonType::Float, at)),
+            Err(fault) => Err(refusal(fault)),
+        }
     }
 
     /// Reads the integer that you peeked, as [`Jiter::next_int`] does.
@@ -229,20 +240,10 @@ impl<'j> Jiter<'j> {
         requires { StandsAt self.old (byte_of peek) }
         ensures reads { Reads never int_view (known self.old (int_read self.old)) result self.old self.new }
     {
-        let index = self.parser.index;
-        let start = start_of(peek.into_inner());
-        match start {
-            Start::Number => match int_at(self.parser.bytes, index) {
-                Ok((Integer::Whole(number), end)) => {
-                    self.parser.index = end;
-                    Ok(number)
-                }
-                Ok((Integer::FloatSeen, _)) => {
-                    Err(wrong_type(JsonType::Int, JsonType::Float, index))
-                }
-                Err(fault) => Err(refusal(fault)),
-            },
-            _ => Err(self.refused_as(JsonType::Int, start)),
+        if peek.into_inner() > b' ' {
+            self.next_int()
+        } else {
+            Err(self.refused_as(JsonType::Int, Start::Nothing))
         }
     }
 

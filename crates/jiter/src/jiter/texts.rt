@@ -1,16 +1,16 @@
 //! The pull reader's calls for strings.
 ghost use Rattle.std.specs.Prelude.{◌≡◌, ◌+◌, ◌<◌, ◌≤◌, Bool, IfErr, IfOk, IfSome, Some, if◌then◌else◌};
-ghost use Rattle.std.specs.Prelude.{length, slice_get, false, true, vec_len, IsUtf8};
+ghost use Rattle.std.specs.Prelude.{length, slice_get, false, true};
 ghost use Rattle.jiter.specs.Words.{sem, taken, raw_view, text_view, string_at, text_form, whole, kept, raw};
 ghost use Rattle.jiter.specs.Words.{raw_kept, value_place, next, known, scalar_reply, str_read, bytes_read};
-ghost use Rattle.jiter.specs.Words.{prefix, reply_seen, text_bytes, IsEscapedAt, StandsAt, Lends, Reads};
+ghost use Rattle.jiter.specs.Words.{reply_seen, text_bytes, IsEscapedAt, StandsAt, Lends, Reads};
 ghost use Rattle.jiter.specs.Words.{never, escape_memory, string_memory, LeavesReader};
 ghost use Rattle.jiter_scan.specs.Ascii as ascii;
 
 use crate::errors::{JiterResult, JsonType};
 use crate::jiter::{Jiter, refusal, refusal_at};
 use jiter_scan::short_scan::{Look, look_at};
-use jiter_scan::text::{ascii_text, utf8_text};
+use jiter_scan::text::utf8_text;
 use jiter_steps::parse::Start;
 use jiter_steps::step::peek_for;
 use jiter_steps::string_decoder::{checked_text, decode};
@@ -32,7 +32,7 @@ pub(super) fn plain_text<'j>(
 {
     let (to, look) = look_at(bytes, at + 1);
     match look {
-        Look::Plain => Ok((ascii_text(&bytes[at + 1..to]), to + 1)),
+        Look::Plain => Ok((utf8_text(&bytes[at + 1..to]), to + 1)),
         Look::Utf8 => match checked_text(bytes, at + 1, to, false) {
             Ok(text) => Ok((text, to + 1)),
             Err(_) => Err(None),
@@ -42,29 +42,7 @@ pub(super) fn plain_text<'j>(
     }
 }
 
-#[inline(always)]
-fn text_on(tape: &Option<Vec<u8>>, count: usize) -> &str
-    requires text { IsUtf8 (prefix tape.now count) }
-    requires room { IfSome tape.now (λ v. count ≤ vec_len v) }
-    ensures { result.now ≡ prefix tape.now count }
-{
-    match tape {
-        Some(tape) => utf8_text(&tape.as_slice()[..count]),
-        None => "",
-    }
-}
-
 impl<'j> Jiter<'j> {
-    // Leaves the reader without a tape until it is put back.
-    fn take_tape(&mut self, alloc: Global) -> Vec<u8>
-        ensures { self.new ≡ self.old }
-    {
-        match self.tape.take() {
-            Some(tape) => tape,
-            None => Vec::new(alloc),
-        }
-    }
-
     // `partial` allows an unterminated string.
     pub(super) fn string(&mut self, alloc: Global, partial: bool) -> JiterResult<CowStr<'j>>
         requires { self.old.position < length self.old.text }
@@ -73,9 +51,8 @@ impl<'j> Jiter<'j> {
             (string_at (if partial then kept else whole) self.old.text self.old.position))
             result self.old self.new }
     {
-        let mut tape = self.take_tape(alloc);
-        let read = self.parser.string(alloc, &mut tape, partial);
-        self.tape = Some(tape);
+        let tape = self.tape.get_or_insert_with(|| Vec::new(alloc));
+        let read = self.parser.string(alloc, tape, partial);
         read.map_err(|error| refusal_at(error, self.parser.index))
     }
 
@@ -114,21 +91,17 @@ impl<'j> Jiter<'j> {
         ensures* after { sem 𝓛 (LeavesReader (string_memory self.old.text (value_place self.old)) (λ x. x.now)
             (reply_seen text_bytes (next self.old (str_read self.old))) result self.entry) }
     {
-        let mut tape = self.take_tape(alloc);
         let (stop, ascii) = escape;
-        let read = decode(
-            &mut tape,
-            self.parser.bytes,
-            at,
-            stop,
-            ascii,
-            self.allow_partial_strings,
-        );
-        self.tape = Some(tape);
+        let partial = self.allow_partial_strings;
+        let tape = self.tape.get_or_insert_with(|| Vec::new(alloc));
+        let read = decode(tape, self.parser.bytes, at, stop, ascii, partial);
         match read {
             Ok((count, end)) => {
                 self.parser.index = end;
-                Ok(text_on(&self.tape, count))
+                match &self.tape {
+                    Some(tape) => Ok(utf8_text(&tape.as_slice()[..count])),
+                    None => Ok(""),
+                }
             }
             Err(error) => {
                 self.parser.index = at;

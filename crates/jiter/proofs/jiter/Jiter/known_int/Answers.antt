@@ -1,17 +1,19 @@
-use Rattle.jiter.proofs.Words.{rules, ◌∙◌, ap, sym, get_or_from_slice_get, start_of, int_read}
-use Rattle.jiter_scan.proofs.NumberLaws.{int_at-within}
+use Rattle.jiter.proofs.Words.{◌<◌, ◌≤◌, arith, rules, int_read}
+use Rattle.jiter.proofs.Peeking.{known-above, known-low}
 use Rattle.jiter.proofs.ReadLaws.{read-bytes}
-use Rattle.jiter.proofs.Refusals.{refusal-failed}
 use Rattle.jiter.proofs.jiter.Jiter.known_int.Goals as goal
 
-pub returns-in-Err : goal.returns-in-Err
-returns-in-Err c =
-    let p = c.self.inside.parser in
+pub returns-then-into_inner-gt32 : goal.returns-then-into_inner-gt32
+returns-then-into_inner-gt32 c =
     let s = c.args.self.now in
-    let begins = ap start_of (get_or_from_slice_get s.text s.position _ 0 c.requires) ∙ ap start_of (sym c.into_inner.ensures)
-    ∙ sym c.start_of-start.ensures ∙ c.in-Number.is in
+    let above : 32 < c.args.peek.0 = omega (arith, c.if-into_inner-gt32.true, c.into_inner.ensures) in
+    record { reads = rw (known-above s (int_read s) c.args.peek.0 c.requires above) c.next_int.ensures.reads }
+
+pub returns-else-into_inner-gt32 : goal.returns-else-into_inner-gt32
+returns-else-into_inner-gt32 c =
+    let s = c.args.self.now in
+    let low : c.args.peek.0 ≤ 32 = omega (arith, c.if-into_inner-gt32.false, c.into_inner.ensures) in
     record {
-      reads = read-bytes (search rules) (ap (int_read s s.position) begins ∙ search rules) (rw (← c.self.view_is)
-          (refusal-failed p.bytes.now _ _ _ c.refusal.ensures.value _ (int_at-within p.bytes.now p.index p.within)
-          c.in-Err.ensures.value));
+      reads = rw (known-low s (int_read s) c.args.peek.0 c.requires low)
+          (read-bytes (search rules) (search rules) c.refused_as.ensures.refusal);
     }

@@ -1,12 +1,14 @@
-use Rattle.jiter.proofs.Words.{refl, byte_of, int_read}
-use Rattle.jiter.proofs.Peeking.{read-peeked}
+use Rattle.jiter.proofs.Words.{rules}
+use Rattle.jiter_scan.proofs.NumberLaws.{int_at-within}
+use Rattle.jiter.proofs.ReadLaws.{read-bytes}
+use Rattle.jiter.proofs.Refusals.{refusal-failed}
 use Rattle.jiter.proofs.jiter.Jiter.next_int.Goals as goal
 
-pub returns : goal.returns
-returns c =
-    let s = c.args.self.now in
-    let p = c.in_ok-peek.ensures in
+pub returns-in-Err : goal.returns-in-Err
+returns-in-Err c =
+    let t = c.self.inside.parser.bytes.now in
+    let within = int_at-within t c.peek-at.result.0 c.peek-at.ensures.within.1 in
     record {
-      reads = read-peeked int_read s c.peek.new.self (byte_of c.in_ok-peek.peek) (λ i. refl) p.reads.moves c.peek.ensures.place p.here
-          c.known_int.ensures.reads;
+      reads = read-bytes (search rules) (search rules)
+          (rw (← c.self.view_is) (refusal-failed t _ _ _ c.refusal.ensures.value _ within c.in-Err.ensures.value));
     }

@@ -1,8 +1,6 @@
-use Rattle.jiter.proofs.Words.{err_from_is_err_and, raw}
-use Rattle.jiter.proofs.ReadLaws.{error-same}
+use Rattle.jiter.proofs.Words.{raw}
+use Rattle.jiter.proofs.ReadLaws.{no-object}
 use Rattle.jiter.proofs.jiter.Jiter.next_object_bytes.Goals as goal
 
-pub returns-in_err-first-clause-reads : goal.returns-in_err-first-clause-reads
-returns-in_err-first-clause-reads c =
-    let e = err_from_is_err_and c.from_residual.result c.from_residual.ensures.1 in
-    rw (e.1, e.2) (error-same (c.in_err-first.ensures.refused raw))
+pub returns-in-Err-clause-reads : goal.returns-in-Err-clause-reads
+returns-in-Err-clause-reads c = no-object raw c.stop_at.result c.in-Err.ensures.other c.stop_at.ensures

@@ -1,11 +1,11 @@
-use Rattle.jiter.proofs.Words.{◌∙◌, sym, subst, rules, string_at-within, text_view}
+use Rattle.jiter.proofs.Words.{sym, subst, rules, string_at-within, text_view}
 use Rattle.jiter.proofs.Refusals.{IsInside, reading-within, index-parser, index-refused}
 use Rattle.jiter.proofs.jiter.Jiter.string.Goals as goal
 
 pub returns : goal.returns
 returns c =
     let p = c.self.inside.parser in
-    let is = c.self.view_is ∙ c.take_tape-tape.ensures in
+    let is = c.self.view_is in
     let inside = subst IsInside (sym is) c.requires in
     let stop = index-parser p c.string-read.new.self c.string-read.ensures.moves in
     record {

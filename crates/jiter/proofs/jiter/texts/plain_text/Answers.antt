@@ -1,7 +1,13 @@
 use Rattle.jiter.proofs.Words.{arith, slice_get_within}
+use Rattle.jiter_steps.proofs.Calls.FastAnswers.{plain-utf8}
 use Rattle.jiter_steps.proofs.Calls.Looks.{look-plain, look-text}
 use Rattle.jiter.proofs.FastReplies.{plain-closed}
 use Rattle.jiter.proofs.jiter.texts.plain_text.Goals as goal
+
+pub utf8_text-requires : goal.utf8_text-requires
+utf8_text-requires c =
+    let found = rw c.in-Plain.is at c.look_at-to.ensures.means in
+    plain-utf8 _ found.1
 
 pub returns-in-Plain-clause-value : goal.returns-in-Plain-clause-value
 returns-in-Plain-clause-value c =
@@ -9,7 +15,7 @@ returns-in-Plain-clause-value c =
     let i = c.args.at in
     let to = c.look_at-to.result.0 in
     let found = rw c.in-Plain.is at c.look_at-to.ensures.means in
-    plain-closed t i to _ c.ascii_text.ensures (look-plain t i to c.requires c.look_at-to.ensures.stop found)
+    plain-closed t i to _ c.utf8_text.ensures (look-plain t i to c.requires c.look_at-to.ensures.stop found)
 
 pub returns-in-Plain-clause-within : goal.returns-in-Plain-clause-within
 returns-in-Plain-clause-within c =
