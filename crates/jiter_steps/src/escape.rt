@@ -199,8 +199,32 @@ pub(crate) fn event_at(bytes: &[u8], at: usize) -> StringEvent
     }
 }
 
-// The closing quote is found first, and with at least six bytes left a short escape, or `\u` with four digits that are no
-// surrogate.
+// The fast path, with at least six bytes left: a short escape, or `\u` with four digits that are no surrogate.
+#[inline(always)]
+#[tactic(auto, unfolding(crate::specs::StringReading::event_at))]
+fn escape_at(bytes: &[u8], at: usize) -> Option<(char, usize)>
+    requires { at ≤ length bytes.now }
+    ensures { IfSome result (λ r. part (encode_utf8 r.0) true r.1 ≡ event_at bytes.now at) }
+{
+    if bytes.len() - at < 6 || bytes[at] != b'\\' {
+        return None;
+    }
+    let letter = bytes[at + 1];
+    if letter == b'u' {
+        let Hex::Number(unit) = hex_at(bytes, at + 2) else {
+            return None;
+        };
+        let c = char::from_u32(unit)?;
+        return Some((c, at + 6));
+    }
+    let sign = simple_escape_of(letter);
+    if sign == 0 {
+        return None;
+    }
+    Some((sign as char, at + 2))
+}
+
+// The closing quote and most escapes are found first.
 #[inline(always)]
 #[tactic(auto, unfolding(crate::specs::StringReading::event_at))]
 pub(crate) fn next_event(bytes: &[u8], at: usize) -> StringEvent
@@ -211,20 +235,10 @@ pub(crate) fn next_event(bytes: &[u8], at: usize) -> StringEvent
     if at < bytes.len() && bytes[at] == b'"' {
         return StringEvent::End(StringEnd::Closed(at + 1));
     }
-    if bytes.len() - at >= 6 && bytes[at] == b'\\' {
-        let letter = bytes[at + 1];
-        if letter != b'u' {
-            let sign = simple_escape_of(letter);
-            if sign != 0 {
-                return StringEvent::Escape(sign as char, at + 2);
-            }
-        } else if let Hex::Number(unit) = hex_at(bytes, at + 2) {
-            if let Some(c) = char::from_u32(unit) {
-                return StringEvent::Escape(c, at + 6);
-            }
-        }
+    match escape_at(bytes, at) {
+        Some((c, end)) => StringEvent::Escape(c, end),
+        None => event_at(bytes, at),
     }
-    event_at(bytes, at)
 }
 
 #[inline(always)]
