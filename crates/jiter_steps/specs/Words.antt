@@ -15,7 +15,7 @@ pub use Rattle.jiter_steps.specs.RawString.{EndsAt, raw_view}
 pub use Rattle.jiter_steps.specs.Read.{done, scalar_at}
 pub use Rattle.jiter_steps.specs.ReadError.{UnlessRefused, WhereRefused}
 pub use Rattle.jiter_steps.specs.Skip.{IsPlainEnd, LeadsAfter, first_inside, next_inside, value_inside}
-pub use Rattle.jiter_steps.specs.Step.{colon, container_first, container_step, object_colon, opening, step, value_first}
+pub use Rattle.jiter_steps.specs.Step.{colon, container_comma, container_first, container_step, object_colon, opening, step, value_first}
 pub use Rattle.jiter_steps.specs.StringDecoder.{Decodes, IfNumber, PutsEscape, WantsMemory, digits_view, event_view, stop_view, text_view}
 pub use Rattle.jiter_steps.specs.StringReading.{Stop, after_backslash, after_high, after_high_backslash, body_at, checked, content_at, cut, hex_digits_at, kept, number, over, part, raw, raw_form, string_at, surrogate_pair, text_form, text_in_form, unicode_escape, unit_then, whole}
 unfoldable pub use Rattle.jiter_steps.specs.StringReading.{event_at}

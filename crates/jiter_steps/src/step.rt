@@ -1,8 +1,8 @@
 //! The steps between the parts of a document (RFC 8259, 4 and 5). Each returns in registers where it ended and what it
 //! found there, the kind of an error included.
-ghost use Rattle.std.specs.Prelude.{◌≡◌, ◌≤◌, ◌<◌, IfSome, None, length, slice_get};
-ghost use Rattle.jiter_steps.specs.Words.{past_blanks, step, container_first, container_step};
-ghost use Rattle.jiter_steps.specs.Words.{colon, value_first, object_colon, Finds, extent_of};
+ghost use Rattle.std.specs.Prelude.{◌≡◌, ◌+◌, ◌≤◌, ◌<◌, IfSome, None, Some, length, slice_get, true};
+ghost use Rattle.jiter_steps.specs.Words.{past_blanks, step, container_first, container_comma};
+ghost use Rattle.jiter_steps.specs.Words.{container_step, colon, value_first, object_colon, Finds, extent_of};
 
 use crate::blank::blanks_end;
 use crate::parse::ContainerKind;
@@ -85,20 +85,13 @@ pub fn first(bytes: &[u8], from: usize, shape: ContainerKind) -> (usize, Step)
     }
 }
 
-/// Returns what [`next`] does. Call it if `shape` is a constant at the call.
+// `from` is after a comma.
 #[inline(always)]
-pub fn known_next(bytes: &[u8], from: usize, shape: ContainerKind) -> (usize, Step)
+fn after_comma(bytes: &[u8], from: usize, shape: ContainerKind) -> (usize, Step)
     requires { from ≤ length bytes.now }
-    ensures { Finds bytes.now from result (step bytes.now (container_step shape bytes.now) from) }
+    ensures { Finds bytes.now from result (step bytes.now (container_comma shape) from) }
 {
-    let (comma, byte) = peek_for(bytes, from, b',');
-    match byte {
-        None => return (comma, fault(shape.end_kind())),
-        Some(b',') => {}
-        Some(byte) if byte == shape.closer() => return (comma + 1, Step::End),
-        Some(_) => return (comma, fault(shape.comma_kind())),
-    }
-    let (at, byte) = peek(bytes, comma + 1);
+    let (at, byte) = peek(bytes, from);
     match byte {
         None => (at, fault(FaultKind::EofWhileParsingValue)),
         Some(byte) => {
@@ -108,6 +101,42 @@ pub fn known_next(bytes: &[u8], from: usize, shape: ContainerKind) -> (usize, St
                 (at, fault(FaultKind::TrailingComma))
             } else {
                 (at, fault(FaultKind::KeyMustBeAString))
+            }
+        }
+    }
+}
+
+// Returns whether `byte`, which is not whitespace, is at `from` and another byte follows.
+#[inline(always)]
+fn is_before_another(bytes: &[u8], from: usize, byte: u8) -> bool
+    requires within { from ≤ length bytes.now }
+    requires byte { 32 < byte }
+    ensures place { result ≡ true → from ≡ past_blanks bytes.now from }
+    ensures byte { result ≡ true → slice_get bytes.now from ≡ Some byte }
+    ensures another { result ≡ true → from + 1 < length bytes.now }
+{
+    from + 1 < bytes.len() && bytes[from] == byte
+}
+
+/// Returns what [`next`] does. Call it if `shape` is a constant at the call.
+#[inline(always)]
+pub fn known_next(bytes: &[u8], from: usize, shape: ContainerKind) -> (usize, Step)
+    requires { from ≤ length bytes.now }
+    ensures { Finds bytes.now from result (step bytes.now (container_step shape bytes.now) from) }
+{
+    if is_before_another(bytes, from, b',') {
+        return after_comma(bytes, from + 1, shape);
+    }
+    let (at, byte) = peek(bytes, from);
+    match byte {
+        None => (at, fault(shape.end_kind())),
+        Some(byte) => {
+            if byte == b',' {
+                after_comma(bytes, at + 1, shape)
+            } else if byte == shape.closer() {
+                (at + 1, Step::End)
+            } else {
+                (at, fault(shape.comma_kind()))
             }
         }
     }
