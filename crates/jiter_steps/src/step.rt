@@ -106,25 +106,14 @@ fn after_comma(bytes: &[u8], from: usize, shape: ContainerKind) -> (usize, Step)
     }
 }
 
-// Returns whether `byte`, which is not whitespace, is at `from` and another byte follows.
-#[inline(always)]
-fn is_before_another(bytes: &[u8], from: usize, byte: u8) -> bool
-    requires within { from ≤ length bytes.now }
-    requires byte { 32 < byte }
-    ensures place { result ≡ true → from ≡ past_blanks bytes.now from }
-    ensures byte { result ≡ true → slice_get bytes.now from ≡ Some byte }
-    ensures another { result ≡ true → from + 1 < length bytes.now }
-{
-    from + 1 < bytes.len() && bytes[from] == byte
-}
-
 /// Returns what [`next`] does. Call it if `shape` is a constant at the call.
 #[inline(always)]
 pub fn known_next(bytes: &[u8], from: usize, shape: ContainerKind) -> (usize, Step)
     requires { from ≤ length bytes.now }
     ensures { Finds bytes.now from result (step bytes.now (container_step shape bytes.now) from) }
 {
-    if is_before_another(bytes, from, b',') {
+    // In the common case a comma comes next, and a byte after it: then the length is not tested again there.
+    if from + 1 < bytes.len() && bytes[from] == b',' {
         return after_comma(bytes, from + 1, shape);
     }
     let (at, byte) = peek(bytes, from);
