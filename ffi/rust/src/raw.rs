@@ -54,9 +54,7 @@ pub struct Node {
     pub kind: u32,
     pub truth: u32,
     pub integer: i64,
-    pub length: usize,
-    pub nodes: usize,
-    pub left: usize,
+    pub next: usize,
     pub text: usize,
     pub key_length: usize,
 }
