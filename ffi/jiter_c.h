@@ -167,9 +167,9 @@ typedef struct {
 /* All values of a document, each before its parts, and their strings, number texts and keys. Initialize it as `{0}`. */
 typedef struct {
   JiterNode *nodes; /* the first one is the document's value */
-  size_t count;
-  const char *texts;
-  size_t length;
+  size_t count;     /* how many nodes it has memory for */
+  char *texts;
+  size_t length; /* how many bytes of texts it has memory for */
 } JiterWalk;
 
 #if defined __STDC_VERSION__ && __STDC_VERSION__ >= 201112L
@@ -413,8 +413,8 @@ bool jiter_document_print(JiterDocument *document, const char *pointer, size_t p
 bool jiter_document_double(JiterDocument *document, const char *pointer, size_t pointer_length, const size_t *steps,
                            size_t depth, double *value, bool *finite, JiterFault *fault);
 
-/* ---- A walk through a document, value by value. jiter_walk_new makes two calls of the library and one of malloc. From
- * then on each step is read from the walk's memory, without a call. It borrows nothing of the document: you may free that
+/* ---- A walk through a document, value by value. jiter_walk_new makes at most three calls of the library and one of malloc.
+ * From then on each step is read from the walk's memory, without a call. It borrows nothing of the document: you may free that
  * first. What the steps return lasts as long as the walk.
  *
  *     static void show(const JiterWalk *walk, const JiterNode *node) {
@@ -436,22 +436,24 @@ static inline void jiter_walk_free(JiterWalk *walk) {
   walk->count = walk->length = 0;
   walk->texts = NULL;
 }
-/* Gives `walk` the values of a document. What it had is freed. If this fails, memory ran out or there is no document, and
- * the walk is as it was. */
+/* Gives `walk` the values of a document, in the memory that it has if that is large enough: to read many documents, keep
+ * one walk. If this fails, memory ran out or there is no document, and the walk is as it was. */
 static inline bool jiter_walk_new(JiterWalk *walk, JiterDocument *document, JiterFault *fault) {
   size_t count = 0, length = 0;
-  bool held = jiter_document_count(document, &count, &length);
-  bool fits = held && count <= (SIZE_MAX - length) / sizeof(JiterNode);
-  JiterNode *nodes = fits ? (JiterNode *)malloc(count * sizeof(JiterNode) + length) : NULL;
+  bool held, fits;
+  JiterNode *nodes;
+  if (walk->nodes && jiter_document_nodes(document, walk->nodes, walk->count, walk->texts, walk->length))
+    return true;
+  held = jiter_document_count(document, &count, &length);
+  fits = held && count <= (SIZE_MAX - length) / sizeof(JiterNode);
+  nodes = fits ? (JiterNode *)malloc(count * sizeof(JiterNode) + length) : NULL;
   if (nodes) {
-    char *texts = (char *)(nodes + count);
-    jiter_document_nodes(document, nodes, count, texts, length);
     jiter_walk_free(walk);
     walk->nodes = nodes;
     walk->count = count;
-    walk->texts = texts;
+    walk->texts = (char *)(nodes + count);
     walk->length = length;
-    return true;
+    return jiter_document_nodes(document, nodes, count, walk->texts, length);
   }
   fault->kind = held ? JITER_OUT_OF_MEMORY : JITER_MISUSE;
   fault->expected = fault->actual = 0;

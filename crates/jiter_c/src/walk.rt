@@ -123,12 +123,13 @@ fn lay_value(
     ensures count { result.0 ≡ length (nodes_of text key_length left (view value.now)) }
     ensures bytes { result.1 ≡ length (texts_of (view value.now)) }
 {
+    let node = node_of(value);
     let (parts, bytes) = lay_parts(value, text, &mut nodes[1..], texts);
     nodes[0] = JiterNode {
         next: if left == 0 { 0 } else { parts + 1 },
         text,
         key_length,
-        ..node_of(value)
+        ..node
     };
     (parts + 1, bytes)
 }
