@@ -158,10 +158,8 @@ typedef struct {
 typedef struct {
   uint32_t kind;     /* a JiterType, never JITER_NUMBER */
   uint32_t truth;    /* 1 if it is `true`, otherwise 0 */
-  int64_t integer;   /* of a JITER_INT */
-  size_t length;     /* items, members, or bytes of the string or number text */
-  size_t nodes;      /* the value and all its parts, and theirs */
-  size_t left;       /* the items or members after it; the next one is `nodes` nodes on */
+  int64_t integer;   /* of a JITER_INT; jiter_value_length returns that of other values */
+  size_t next;       /* how many nodes on the next item or member is; 0 if it is the last one */
   size_t text;       /* where its text begins in the walk's texts */
   size_t key_length; /* bytes of its key, which is before the text; 0 if it is no member */
 } JiterNode;
@@ -169,9 +167,9 @@ typedef struct {
 /* All values of a document, each before its parts, and their strings, number texts and keys. Initialize it as `{0}`. */
 typedef struct {
   JiterNode *nodes; /* the first one is the document's value */
-  size_t count;
-  const char *texts;
-  size_t length;
+  size_t count;     /* how many nodes it has memory for */
+  char *texts;
+  size_t length; /* how many bytes of texts it has memory for */
 } JiterWalk;
 
 #if defined __STDC_VERSION__ && __STDC_VERSION__ >= 201112L
@@ -182,7 +180,7 @@ _Static_assert(sizeof(JiterReader) == 32 && offsetof(JiterReader, allow_inf_nan)
 _Static_assert(sizeof(JiterNumber) == 32 && offsetof(JiterNumber, text) == 16, "JiterNumber");
 _Static_assert(sizeof(JiterPosition) == 16 && sizeof(JiterParser) == 8, "JiterPosition, JiterParser");
 _Static_assert(sizeof(JiterValue) == 24 && offsetof(JiterValue, integer) == 8, "JiterValue");
-_Static_assert(sizeof(JiterNode) == 56 && offsetof(JiterNode, nodes) == 24, "JiterNode");
+_Static_assert(sizeof(JiterNode) == 40 && offsetof(JiterNode, next) == 16, "JiterNode");
 #endif
 
 uint32_t jiter_version(void);
@@ -415,8 +413,8 @@ bool jiter_document_print(JiterDocument *document, const char *pointer, size_t p
 bool jiter_document_double(JiterDocument *document, const char *pointer, size_t pointer_length, const size_t *steps,
                            size_t depth, double *value, bool *finite, JiterFault *fault);
 
-/* ---- A walk through a document, value by value. jiter_walk_new makes two calls of the library and one of malloc. From
- * then on each step is read from the walk's memory, without a call. It borrows nothing of the document: you may free that
+/* ---- A walk through a document, value by value. jiter_walk_new makes at most three calls of the library and one of malloc.
+ * From then on each step is read from the walk's memory, without a call. It borrows nothing of the document: you may free that
  * first. What the steps return lasts as long as the walk.
  *
  *     static void show(const JiterWalk *walk, const JiterNode *node) {
@@ -438,22 +436,24 @@ static inline void jiter_walk_free(JiterWalk *walk) {
   walk->count = walk->length = 0;
   walk->texts = NULL;
 }
-/* Gives `walk` the values of a document. What it had is freed. If this fails, memory ran out or there is no document, and
- * the walk is as it was. */
+/* Gives `walk` the values of a document, in the memory that it has if that is large enough: to read many documents, keep
+ * one walk. If this fails, memory ran out or there is no document, and the walk is as it was. */
 static inline bool jiter_walk_new(JiterWalk *walk, JiterDocument *document, JiterFault *fault) {
   size_t count = 0, length = 0;
-  bool held = jiter_document_count(document, &count, &length);
-  bool fits = held && count <= (SIZE_MAX - length) / sizeof(JiterNode);
-  JiterNode *nodes = fits ? (JiterNode *)malloc(count * sizeof(JiterNode) + length) : NULL;
+  bool held, fits;
+  JiterNode *nodes;
+  if (walk->nodes && jiter_document_nodes(document, walk->nodes, walk->count, walk->texts, walk->length))
+    return true;
+  held = jiter_document_count(document, &count, &length);
+  fits = held && count <= (SIZE_MAX - length) / sizeof(JiterNode);
+  nodes = fits ? (JiterNode *)malloc(count * sizeof(JiterNode) + length) : NULL;
   if (nodes) {
-    char *texts = (char *)(nodes + count);
-    jiter_document_nodes(document, nodes, count, texts, length);
     jiter_walk_free(walk);
     walk->nodes = nodes;
     walk->count = count;
-    walk->texts = texts;
+    walk->texts = (char *)(nodes + count);
     walk->length = length;
-    return true;
+    return jiter_document_nodes(document, nodes, count, walk->texts, length);
   }
   fault->kind = held ? JITER_OUT_OF_MEMORY : JITER_MISUSE;
   fault->expected = fault->actual = 0;
@@ -462,17 +462,21 @@ static inline bool jiter_walk_new(JiterWalk *walk, JiterDocument *document, Jite
 }
 /* The first item or member of a value, and the next one of its array or object; NULL if there is none. */
 static inline const JiterNode *jiter_value_first_child(const JiterNode *node) {
-  return node->nodes > 1 ? node + 1 : NULL;
+  return (node->kind == JITER_ARRAY || node->kind == JITER_OBJECT) && node->integer > 0 ? node + 1 : NULL;
 }
 static inline const JiterNode *jiter_value_next_sibling(const JiterNode *node) {
-  return node->left > 0 ? node + node->nodes : NULL;
+  return node->next > 0 ? node + node->next : NULL;
+}
+/* How many items or members a value has, or how many bytes of text. */
+static inline size_t jiter_value_length(const JiterNode *node) {
+  return node->kind == JITER_INT ? 0 : (size_t)node->integer;
 }
 /* The string of a value, decoded, or the source text of a JITER_BIG_INT or a JITER_FLOAT. It is empty for other values. */
 static inline JiterText jiter_value_text(const JiterWalk *walk, const JiterNode *node) {
   JiterText text;
   bool has = node->kind == JITER_STRING || node->kind == JITER_FLOAT || node->kind == JITER_BIG_INT;
   text.bytes = walk->texts + node->text;
-  text.length = has ? node->length : 0;
+  text.length = has ? (size_t)node->integer : 0;
   return text;
 }
 /* The key of a member, decoded. It is empty if the value is no member. */
@@ -485,7 +489,7 @@ static inline JiterText jiter_value_key(const JiterWalk *walk, const JiterNode *
 /* The double nearest to a number, whichever it is. It fails for other values. */
 static inline bool jiter_value_double(const JiterWalk *walk, const JiterNode *node, double *value, bool *finite) {
   if (node->kind == JITER_FLOAT || node->kind == JITER_BIG_INT)
-    return jiter_double(walk->texts + node->text, node->length, value, finite);
+    return jiter_double(walk->texts + node->text, (size_t)node->integer, value, finite);
   if (node->kind != JITER_INT)
     return false;
   *value = (double)node->integer;

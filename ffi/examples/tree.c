@@ -19,7 +19,7 @@ static void show(const JiterWalk *walk, const JiterNode *node, int depth) {
   if (node->key_length)
     put("", jiter_value_key(walk, node), ": ");
   if (kind == JITER_ARRAY || kind == JITER_OBJECT)
-    printf(kind == JITER_ARRAY ? "array of %zu\n" : "object of %zu\n", node->length);
+    printf(kind == JITER_ARRAY ? "array of %zu\n" : "object of %zu\n", jiter_value_length(node));
   else if (kind == JITER_STRING)
     put("\"", jiter_value_text(walk, node), "\"\n");
   else if (kind == JITER_INT)

@@ -1,11 +1,13 @@
 """Times `safelorim.loads` beside `json.loads`, and beside ujson and rapidjson if they are installed.
 
     race.py [--seconds N] [--text] [FILE..]
+    race.py --write FOLDER
 
 It makes ten documents of 256 KB, and reads each with every parser by turns, in one process. The fastest reading counts, by
 processor time. MB/s is that of safelorim. Below each other parser is how many times as fast safelorim is: 2.00 is twice as
 fast. The last line has the geometric means. Documents are bytes, or with --text str. FILE is a document of your own.
-Compare ratios of one row only: a busy machine slows all parsers.
+Compare ratios of one row only: a busy machine slows all parsers. --write writes the documents for ffi/race.c, with four more of
+small values.
 """
 
 import argparse
@@ -16,14 +18,12 @@ import os
 import random
 import time
 
-import safelorim
-
 SIZE = 256 * 1024
 LATIN = "lorem ipsum dolor sit amet consectetur adipiscing elit sed do eiusmod tempor incididunt ut labore".split()
 OTHERS = "こんにちは 世界 東京 привет мир été naïve Übung 안녕하세요 😀 日本語".split()
 
 
-def documents():
+def documents(small=False):
     """Yields names and documents, the same each time."""
     any_of = random.Random(1)
     words = lambda count, others=0: " ".join(any_of.choice(OTHERS if any_of.random() < others else LATIN) for _ in range(count))
@@ -43,6 +43,8 @@ def documents():
         "plain": (None, lambda: words(2000)),
         "breaks": (None, lambda: words(9) + "\n"),
     }
+    if small:
+        forms |= {"digits": (None, lambda: number(10)), "pairs": (None, lambda: [number(10), number(10)]), "empty": (None, lambda: ""), "flags": (None, lambda: True)}
     for name, (indent, form) in forms.items():
         parts, length = [], 0
         while length < SIZE:
@@ -52,6 +54,8 @@ def documents():
 
 
 def parsers():
+    import safelorim
+
     yield "safelorim", safelorim.loads
     for name in ("json", "ujson", "rapidjson"):
         try:
@@ -77,8 +81,14 @@ def main():
     asked = argparse.ArgumentParser()
     asked.add_argument("--seconds", type=float, default=2, help="for each document")
     asked.add_argument("--text", action="store_true", help="documents are str")
+    asked.add_argument("--write", metavar="FOLDER")
     asked.add_argument("files", nargs="*")
     asked = asked.parse_args()
+    if asked.write:
+        for name, data in documents(small=True):
+            with open(f"{asked.write}/{name}.json", "wb") as file:
+                file.write(data)
+        return
     calls, means = list(parsers()), []
     given = [(os.path.basename(it), open(it, "rb").read()) for it in asked.files] or documents()
     print(f"{'':12}{'MB/s':>8}" + "".join(f"{name:>12}" for name, _ in calls[1:]))

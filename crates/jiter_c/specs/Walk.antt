@@ -1,9 +1,11 @@
 -- The table of a document's values, each before its parts, and the texts that its nodes show, in C's memory.
-use Rattle.std.specs.Prelude.{◌≡◌, ◌⊎◌, ◌≤◌, ◌<◌, ◌-◌, ◌^◌, ℕ, suc, ◌+◌, Bool, true, false, List, [], ◌∷◌, ◌++◌}
-use Rattle.std.specs.Prelude.{drop, if◌then◌else◌, length, min}
+use Rattle.std.specs.Prelude.{◌≡◌, ◌⊎◌, ◌≤◌, ◌<◌, ◌-◌, ◌^◌, ℕ, ℤ, suc, ◌+◌, Bool, true, false, List, [], ◌∷◌, ◌++◌}
+use Rattle.std.specs.Prelude.{drop, if◌then◌else◌, length, min, nat_eq}
+use Rattle.std.specs.Int.{cast_signed, w64}
 use Rattle.jiter_steps.specs.Tree.{Tree, null, boolean, int, big, float, string, array, object}
 use Rattle.jiter_steps.specs.Tree.{Items, no_items, item, Members, no_members, member}
 use Rattle.jiter_c.specs.Values.{count_items, count_members, value_report}
+use Rattle.jiter_c.specs.declared.values.JiterValue.{JiterValue}
 use Rattle.jiter_c.specs.declared.walk.JiterNode.{JiterNode}
 
 -- the texts of a value: of its strings, its numbers that are kept by their text, and its keys, one after another
@@ -27,16 +29,18 @@ abbrev mutual
   member_texts no_members = []
   member_texts (member k v ms) = k.bytes ++ (texts_of v ++ member_texts ms)
 
+-- the integer of an `int`, the length of another value
+abbrev pub number_of : JiterValue → ℤ
+number_of r = if nat_eq r.kind 3 then r.integer else cast_signed w64 r.length
+
 -- The node of a value that has `nodes` nodes with its parts. Its texts begin at `at`, its key before it has `key` bytes,
 -- and `left` items or members follow it.
 abbrev pub node_report : Tree → ℕ → ℕ → ℕ → ℕ → JiterNode
 node_report v nodes left at key = record {
   kind = (value_report v).kind;
   truth = if (value_report v).truth then 1 else 0;
-  integer = (value_report v).integer;
-  length = (value_report v).length;
-  nodes = nodes;
-  left = left;
+  integer = number_of (value_report v);
+  next = if nat_eq left 0 then 0 else nodes;
   text = at;
   key_length = key;
 }

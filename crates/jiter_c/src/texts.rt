@@ -13,6 +13,7 @@ pub struct JiterText<'j> {
 }
 
 // The complete length shows the caller whether `out` was too short.
+#[inline(never)]
 pub fn write_prefix(out: &mut [u8], text: &[u8]) -> usize
     ensures text { out.new ≡ written text.now out.old }
     ensures whole { result ≡ length text.now }

@@ -232,6 +232,7 @@ pub fn placed<'v>(
     }
 }
 
+#[inline(always)]
 fn typed_value(kind: u32, length: usize) -> JiterValue
     ensures { result ≡ record { kind = kind; truth = false; integer = pos 0; length = length } }
 {
@@ -244,6 +245,7 @@ fn typed_value(kind: u32, length: usize) -> JiterValue
 }
 
 /// Returns what is reported of a value.
+#[inline(always)]
 pub fn describe(value: &JsonValue<'static>) -> JiterValue
     ensures { result ≡ value_report (view value.now) }
 {

@@ -20,14 +20,11 @@ pub struct JiterNode {
     pub kind: u32,
     /// 1 if it is `true`; otherwise 0.
     pub truth: u32,
-    /// The integer, if it fits in 64 signed bits; otherwise 0.
+    /// The integer, if it fits in 64 signed bits. For other values the number of items, members, or bytes of the string or
+    /// number text; otherwise 0.
     pub integer: i64,
-    /// The number of items, members, or bytes of the string or number text; otherwise 0.
-    pub length: usize,
-    /// The number of nodes of the value and all its parts. The first part is the next node, if this is more than 1.
-    pub nodes: usize,
-    /// The number of items or members after it, in its array or object. The next one is `nodes` nodes on.
-    pub left: usize,
+    /// How many nodes on the next item or member of its array or object is; 0 if it is the last one.
+    pub next: usize,
     /// Where its text begins in the texts.
     pub text: usize,
     /// The number of bytes of its key, which is before its text; 0 if it is no member.
@@ -84,6 +81,7 @@ fn count_members(members: &JsonObject<'static>) -> (usize, usize)
     (nodes, bytes)
 }
 
+#[inline(always)]
 fn node_of(value: &JsonValue<'static>) -> JiterNode
     ensures { result ≡ node_report (view value.now) 1 0 0 0 }
 {
@@ -96,10 +94,12 @@ fn node_of(value: &JsonValue<'static>) -> JiterNode
     JiterNode {
         kind,
         truth: if truth { 1 } else { 0 },
-        integer,
-        length,
-        nodes: 1,
-        left: 0,
+        integer: if kind == 3 {
+            integer
+        } else {
+            (length as u64).cast_signed()
+        },
+        next: 0,
         text: 0,
         key_length: 0,
     }
@@ -123,13 +123,13 @@ fn lay_value(
     ensures count { result.0 ≡ length (nodes_of text key_length left (view value.now)) }
     ensures bytes { result.1 ≡ length (texts_of (view value.now)) }
 {
+    let node = node_of(value);
     let (parts, bytes) = lay_parts(value, text, &mut nodes[1..], texts);
     nodes[0] = JiterNode {
-        nodes: parts + 1,
-        left,
+        next: if left == 0 { 0 } else { parts + 1 },
         text,
         key_length,
-        ..node_of(value)
+        ..node
     };
     (parts + 1, bytes)
 }

@@ -54,9 +54,7 @@ pub struct Node {
     pub kind: u32,
     pub truth: u32,
     pub integer: i64,
-    pub length: usize,
-    pub nodes: usize,
-    pub left: usize,
+    pub next: usize,
     pub text: usize,
     pub key_length: usize,
 }
@@ -75,7 +73,7 @@ pub type KeyStep = unsafe extern "C" fn(&mut Reader, &mut bool, *mut u8, usize, 
 pub type RawKeyStep = unsafe extern "C" fn(&mut Reader, &mut bool, &mut Text, &mut Fault) -> bool;
 
 #[rustfmt::skip]
-unsafe extern "C" {
+extern "C" {
     pub fn jiter_peek(reader: &mut Reader, start: &mut u32, fault: &mut Fault) -> bool;
     pub fn jiter_next_null(reader: &mut Reader, fault: &mut Fault) -> bool;
     pub fn jiter_next_bool(reader: &mut Reader, value: &mut bool, fault: &mut Fault) -> bool;

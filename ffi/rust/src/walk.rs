@@ -1,5 +1,5 @@
 //! A walk through the values of a document.
-use crate::{double_of, raw, Error, Handle, Result, Type, Value};
+use crate::{double_of, raw, type_of, Error, Handle, Result, Type, Value};
 
 /// The values of a document, one after another. It owns them and their texts: the document may be dropped before.
 ///
@@ -62,7 +62,9 @@ impl<'w> Node<'w> {
     /// # Ok::<(), jiter_c::Error>(())
     /// ```
     pub fn value(&self) -> Value {
-        let &raw::Node { kind, truth, integer, length, .. } = self.raw();
+        let &raw::Node { kind, truth, integer, .. } = self.raw();
+        let is_int = type_of(kind) == Some(Type::Int);
+        let (integer, length) = if is_int { (integer, 0) } else { (0, integer as usize) };
         Value::of(raw::Value { kind, truth: truth == 1, integer, length })
     }
 
@@ -79,8 +81,8 @@ impl<'w> Node<'w> {
 
     /// Returns the string, decoded, or the source text of a number that is no `Int`; `None` for other values.
     pub fn text(&self) -> Option<&'w str> {
-        let &raw::Node { text, length, .. } = self.raw();
-        matches!(self.kind(), Type::String | Type::Float | Type::BigInt).then(|| &self.walk.texts[text..text + length])
+        let (begin, value) = (self.raw().text, self.value());
+        matches!(value.kind, Type::String | Type::Float | Type::BigInt).then(|| &self.walk.texts[begin..begin + value.length])
     }
 
     /// Returns the double nearest to a number, whichever it is; `None` for other values.
@@ -105,12 +107,13 @@ impl<'w> Node<'w> {
 
     /// Returns the first item or member.
     pub fn first_child(&self) -> Option<Node<'w>> {
-        (self.raw().nodes > 1).then(|| self.at(self.index + 1, self.kind() == Type::Object))
+        let Value { kind, length, .. } = self.value();
+        (matches!(kind, Type::Array | Type::Object) && length > 0).then(|| self.at(self.index + 1, kind == Type::Object))
     }
 
     /// Returns the next item or member of the same array or object.
     pub fn next_sibling(&self) -> Option<Node<'w>> {
-        (self.raw().left > 0).then(|| self.at(self.index + self.raw().nodes, self.is_member))
+        (self.raw().next > 0).then(|| self.at(self.index + self.raw().next, self.is_member))
     }
 
     /// Returns the items of an array or the members of an object, in order.

@@ -41,7 +41,7 @@ fn repeated() -> Result<bool, Error> {
 
 fn reader() -> Result<bool, Error> {
     let mut reader = Reader::new(TEXT.as_bytes());
-    let key = reader.object()?.is_some_and(|it| it == "k\"");
+    let key = reader.object()?.as_deref() == Some("k\"");
     let items = reader.array()? && reader.skip().is_ok() && reader.item()?;
     Ok(reader.string()? == "t\n" && key && items)
 }
