@@ -37,11 +37,11 @@ returns-in-Ok g c =
     let new = c.to_part.new.stacks in
     let r = c.to_part.result in
     let base : c.match-shape.base ≡ base_of a.shape s = elim c.match-shape.branch [
-      in-Array-2 w ↦ rw w.in-Array-2.is (omega (arith, w.base-is, w.len-base.ensures, s.items.ok.0))
+      | in-Array-2 w ↦ rw w.in-Array-2.is (omega (arith, w.base-is, w.len-base.ensures, s.items.ok.0))
       | in-Object w ↦ rw w.in-Object.is (omega (arith, w.base-is, w.len-base-in-Object.ensures, s.members.ok.0))
     ] in
     let few : a.shape ≡ shape.Array → length s.nest.items ≢ 200 = elim c.match-shape.branch [
-      in-Array-2 w ↦ λ array full. w.if-len-eq-NESTING_LIMIT.false (w.len.ensures.value ∙ full)
+      | in-Array-2 w ↦ λ array full. w.if-len-eq-NESTING_LIMIT.false (w.len.ensures.value ∙ full)
       | in-Object w ↦ λ array full. cc
     ] in
     record {
