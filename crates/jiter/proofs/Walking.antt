@@ -366,7 +366,7 @@ pub seen-refused : {A B : Type 0} (g : A → B) (r : Reply A) (c : Cause) (x sto
 seen-refused g (gave a i) c x stop h = absurd (gave-refused h)
 seen-refused g (refused d y i) c x stop h = cc
 
--- A key that was lent, and what the caller keeps of it.
+-- A key that was borrowed, and what the caller keeps of it.
 pub key-kept : {B K : Type 0} (bytes : B → List ℕ) (read : List ℕ → K) (key : Option B) (o : Option K)
     (r : Reply (Option Text)) (i : ℕ) → reply_seen key_bytes r ≡ gave (option_map bytes key) i
     → o ≡ option_map (λ x. read (bytes x)) key → reply_seen (option_map (λ x. read x.bytes)) r ≡ gave o i
