@@ -6,6 +6,7 @@ import functools
 import glob
 import importlib
 import os
+import re
 import shutil
 import subprocess
 import sys
@@ -24,8 +25,18 @@ def read(path, default=""):
         return file.read()
 
 
+def write(path, text):
+    with open(path, "w", encoding="utf-8") as file:
+        file.write(text)
+
+
 def processors():
     return len(os.sched_getaffinity(0))
+
+
+def free_memory():
+    """Returns how many bytes are free."""
+    return 1024 * int(re.search(r"MemAvailable:\s+(\d+)", read("/proc/meminfo"))[1])
 
 
 def side_by_side(call, some):
@@ -54,10 +65,17 @@ class Counts:
         return 1 if self.failed or not self.passed else 0
 
 
+def totals(line):
+    """Returns the counts of such a last line, or None."""
+    found = re.search(r"(\d+) passed, (\d+) failed$", line)
+    return found and tuple(map(int, found.groups()))
+
+
 def give_up(why):
     """Ends a script that can't begin."""
-    print(f"{os.path.basename(sys.argv[0])}: {why}\n{os.path.basename(sys.argv[0])}: 0 passed, 1 failed")
-    sys.exit(1)
+    counts = Counts()
+    counts.check("it can't begin", False, why)
+    sys.exit(counts.end())
 
 
 def install(**packages):
@@ -65,7 +83,8 @@ def install(**packages):
     missing = [it for command, names in packages.items() if not shutil.which(command) for it in names.split()]
     if missing and os.getuid() == 0:
         for words in (["update"], ["install", "-y", "--no-install-recommends", *missing]):
-            subprocess.run(["apt-get", "-q", *words], env=os.environ | {"DEBIAN_FRONTEND": "noninteractive"}, stdout=subprocess.DEVNULL, stderr=subprocess.DEVNULL)
+            env = os.environ | {"DEBIAN_FRONTEND": "noninteractive"}
+            subprocess.run(["apt-get", "-q", *words], env=env, capture_output=True)
 
 
 # ---- Built programs ----
@@ -84,9 +103,9 @@ def program(name):
 Ran = collections.namedtuple("Ran", "status out err")
 
 
-def run(words, given=b"", **how):
+def run(words, given=b"", timeout=SECONDS, **how):
     """Runs a program, and returns its status and both outputs."""
-    ran = subprocess.run(words, input=given, capture_output=True, timeout=SECONDS, **how)
+    ran = subprocess.run(words, input=given, capture_output=True, timeout=timeout, **how)
     return Ran(ran.returncode, ran.stdout, ran.stderr)
 
 
@@ -103,9 +122,9 @@ Counted = collections.namedtuple("Counted", "status out err sections asked left 
 def counting_library():
     """Compiles refuse.c, once for a run of a script."""
     install(gcc="gcc libc6-dev")
-    folder = subprocess.run(["mktemp", "-d"], stdout=subprocess.PIPE, text=True, check=True).stdout.strip()
-    subprocess.run(["gcc", "-O1", "-shared", "-fPIC", "-o", f"{folder}/refuse.so", f"{TOP}/checks/refuse.c"], check=True)
-    return f"{folder}/refuse.so"
+    library = f"{tempfile.mkdtemp()}/refuse.so"
+    subprocess.run(["gcc", "-O1", "-shared", "-fPIC", "-o", library, f"{TOP}/checks/refuse.c"], check=True)
+    return library
 
 
 def open_counts(library):
@@ -139,7 +158,7 @@ def each_counted(call, rows):
         with concurrent.futures.ProcessPoolExecutor(processors(), initializer=open_counts, initargs=(library,)) as pool:
             yield from pool.map(call, rows, chunksize=4)
     finally:
-        subprocess.run(["rm", "-r", os.path.dirname(library)])
+        shutil.rmtree(os.path.dirname(library))
 
 
 # ---- The command `rt` ----

@@ -1,4 +1,4 @@
-"""Makes documents for the script beside: random ones, edits of them, and the inputs of the tables crates/*_answers."""
+"""Makes documents for the script beside: random ones, edits of them, and the inputs of the tables crates/test_*."""
 
 import glob
 import re
@@ -103,7 +103,7 @@ def rows(top):
     """Returns the inputs of all tables, and each document that is named above, bare and in an array."""
     found = {spelled(it) for it in NAMED.split()}
     found |= {b"[" + it + b"]" for it in found} | {b'{"k":' + it + b"}" for it in found} | {b" \n" + it + b"\t " for it in found}
-    for path in glob.glob(f"{top}/crates/*_answers/stdin"):
+    for path in glob.glob(f"{top}/crates/test_*/stdin"):
         with open(path, encoding="utf-8") as file:
             lines = [it.rstrip("\n").split(" ", 2) for it in file if it.strip() and it[0] != "#"]
         found |= {spelled(it[2]) for it in lines if len(it) == 3}

@@ -50,14 +50,9 @@ class Function:
     def names_among(self, told):
         """Returns which of the prover's names are this function's, its closures', its cycle's and its impl's laws'."""
         for owner in self.owners:
-            kinds = [
-                rf"{owner}{self.name}(\+\S+)?",
-                rf"fn::{owner}{self.name}::\S+",
-                rf"({owner})?\+{self.cycle or self.name}",
-                owner[:-2],
-            ]
-            pattern = re.compile(f"{self.module}({'|'.join(kinds)})")
-            if found := [it for it in told if pattern.fullmatch(it)]:
+            own, cycle = f"{owner}{self.name}", self.cycle or self.name
+            pattern = rf"{self.module}({own}(\+\S+)?|fn::{own}::\S+|({owner})?\+{cycle}|{owner[:-2]})"
+            if found := [it for it in told if re.fullmatch(pattern, it)]:
                 return found
         return []
 
@@ -161,13 +156,10 @@ class Source:
         return Function(module, owners, name, cycle[1] if cycle else "", tuple(head), tuple(inside), (body, end))
 
     def open_block(self, block):
-        if block["kind"] == "mod":
-            self.blocks = [*self.blocks, (f"{block['name']}::", None)]
-        elif block["kind"] == "trait":
-            self.traits.add(f"{block['name']}::")
-            self.blocks = [*self.blocks, ("", (f"{block['name']}::",))]
-        else:
-            self.blocks = [*self.blocks, ("", owners_of_impl(block["name"] + block["rest"]))]
+        name, is_trait = f"{block['name']}::", block["kind"] == "trait"
+        self.traits |= {name} if is_trait else set()
+        owners = (name,) if is_trait else owners_of_impl(block["name"] + block["rest"])
+        self.blocks = [*self.blocks, (name, None) if block["kind"] == "mod" else ("", owners)]
 
     def is_seen(self, function):
         """Returns whether other crates see a function: it is public, or of a trait."""

@@ -49,7 +49,7 @@ nowhere : {X : Type 0} (r : Result X JiterError) (s : ReaderState) → WhereMemo
 nowhere (Ok x) s h = tt
 nowhere (Err e) s h = λ memory. absurd (h memory)
 
--- A call that takes no memory is one that may run out of it.
+-- A call that doesn't allocate is one that may run out of it.
 pub never-anywhere : {X A : Type 0} (view : X → A) (reply : Reply A) (r : Result X JiterError) (s s1 : ReaderState)
     → Reads never view reply r s s1 → Reads anywhere view reply r s s1
 never-anywhere view reply r s s1 h = record {

@@ -27,7 +27,7 @@ module _ (name line : List ℕ) where
   abbrev pub s0 : ReaderState
   s0 = at_start line
 
-  -- The reader passed members, and stands here.
+  -- The reader passed members, and is here.
   pub record Here (s : ReaderState) (key : Option Bool) (found : Option (List ℕ)) : Type 0 where
     pub moves : MovesOn s0 s
     pub passed : Passed name s0 key found s.position
@@ -102,7 +102,7 @@ told-is : (name : List ℕ) (key : Option Told) (r : Reply (Option Text)) (i : �
 told-is name key r i h = key-kept indexed_key_bytes (λ k. bytes_eq k name) key (told_named name key) r i h refl
 
 module _ (members : List Member) (line : List ℕ) where
-  -- The reader stands here for each member.
+  -- The reader is here for each member.
   abbrev pub AllHere : ReaderState → Option Told → List (Option (Bor (List ℕ))) → Type 0
   AllHere s key sources = (k : ℕ) (m : Member) → k < length members
       → Here (name_at members k m) line s (told_named (name_at members k m) key) (found_at sources k)

@@ -1,4 +1,4 @@
--- A member of an object, as it stands in its text.
+-- A member of an object, as it is in its text.
 use Rattle.std.specs.Prelude.{◌≡◌, ℕ, Bool, if◌then◌else◌, List, Option, Some, None, option_map, slice_range}
 use Rattle.std.specs.Str.{bytes_eq}
 use Rattle.jiter.specs.Caller.{Cause, Key, Node, NodeMembers, ReaderState, Reply, Start, Text, ValueType, at_start, begin}

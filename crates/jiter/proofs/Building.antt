@@ -2,7 +2,7 @@
 use Rattle.jiter.proofs.Words.{◌≡◌, ◌∙◌, refl, sym, ap, ℕ, ◌+◌, ◌<◌, Bool, true, false, List, [], ◌∷◌, ◌++◌, length}
 use Rattle.jiter.proofs.Words.{arith, slice_get, slice_index, Option, Some, None, option_map, IfSome}
 use Rattle.jiter.proofs.Words.{get_or_from_slice_get, slice_get-get_or, slice_get_within, none-some, Scanned, taken}
-use Rattle.jiter.proofs.Words.{failed, Extent, number_at, extent_then, number_at-within, past_blanks, literal_at}
+use Rattle.jiter.proofs.Words.{failed, Span, number_at, span_then, number_at-within, past_blanks, literal_at}
 use Rattle.jiter.proofs.Words.{start_of, whole, string_at, Text, Tree, Step, more, closed, stuck, step, colon, Reading}
 use Rattle.jiter.proofs.Words.{done, fault, scalar_at, inside_at, seen_as, Start, past_blanks-after, Ahead, Within}
 use Rattle.jiter.proofs.Words.{literal_at-within, string_at-within, owned_text, owned_trees, built, StandsAt}
@@ -41,7 +41,7 @@ module _ (names : Bool) (t : List ℕ) where
   pub built_inside-within : (levels : ℕ) → AllWithin t (inside_at (owned_trees names) t levels)
   built_inside-within levels = inside_at-within (owned_trees names) t owned-advances levels
 
--- How the client goes through a container: what it is told where a part begins, which byte stands there then, the call
+-- How the client goes through a container: what it is told where a part begins, which byte is there then, the call
 -- for the part's value, the part that this makes, and the call after a part.
 pub record Walk (K P : Type 0) : Type 0 where
   pub container : Container P Tree
@@ -78,7 +78,7 @@ module _ {K P : Type 0} (s0 : ReaderState) (w : Walk K P) where
   left None parts i = gave (w.container.build i parts) i
   left (Some k) parts i = after parts (rest k i)
 
-  -- the byte that was told stands at i
+  -- the byte that was told is at i
   abbrev pub ToldAt : Option K → ℕ → Type 0
   ToldAt o i = IfSome o (λ k. IfSome (w.byte k) (λ c. slice_get s0.text i ≡ Some c))
 
@@ -143,7 +143,7 @@ module _ (s0 : ReaderState) (levels : ℕ) where
   abbrev inner : ℕ → Reading Tree
   inner = inside_at (owned_trees s0.names) s0.text levels
 
-  -- The array whose bracket stands at s0: its items' first bytes are told.
+  -- The array whose bracket is at s0: its items' first bytes are told.
   abbrev pub items : Walk ℕ Tree
   items = record {
     container = array_of (owned_trees s0.names) inner s0.text s0.position;
@@ -166,7 +166,7 @@ module _ (s0 : ReaderState) (levels : ℕ) where
         (built_inside-within s0.names s0.text levels i (slice_get_within s0.text i k at)) v e h;
   }
 
-  -- The object whose bracket stands at s0: its members' keys are told, their colons consumed.
+  -- The object whose bracket is at s0: its members' keys are told, their colons consumed.
   abbrev pub members : Walk Text (Text × Tree)
   members = record {
     container = object_of (owned_trees s0.names) inner s0.text s0.position;
@@ -188,8 +188,8 @@ module _ (s0 : ReaderState) (levels : ℕ) where
   value-begins key p None = refl
   value-begins key p (Some c) = keyed-value key (inner p)
 
-  colon-begins : (key : Text) (x : Extent)
-      → Begins s0 members (value_reply (after_colon (owned_text key) inner (extent_then x (step s0.text value_first))))
+  colon-begins : (key : Text) (x : Span)
+      → Begins s0 members (value_reply (after_colon (owned_text key) inner (span_then x (step s0.text value_first))))
       (reply_seen (option_map owned_text) (colon_reply key x))
   colon-begins key (taken u j) =
       (value-begins (owned_text key) (past_blanks s0.text j) (slice_get s0.text (past_blanks s0.text j)), tt)
@@ -227,7 +227,7 @@ module _ (s0 : ReaderState) (levels : ℕ) where
   }
 
 -- a literal that is a truth value
-truth-built : (i : ℕ) (l : Literal) (b : Bool) (x : Extent) → literal_tree l ≡ tree.boolean b
+truth-built : (i : ℕ) (l : Literal) (b : Bool) (x : Span) → literal_tree l ≡ tree.boolean b
     → reply_seen tree.boolean (scalar_reply i (seen_as (λ u e. b) x))
     ≡ value_reply (scalar_at i (seen_as (λ u e. literal_tree l) x))
 truth-built i l b (taken u e) is = ap (λ v. gave v e) (sym is)
@@ -245,6 +245,6 @@ bool-built s start.Object is = absurd is
 bool-built s start.String is = absurd is
 bool-built s start.Number is = absurd is
 
--- where a byte stands, a value begins as it says
+-- where a byte is, a value begins as it says
 pub known-first : (s : ReaderState) (c : ℕ) → StandsAt s c → start_of (slice_index s.text s.position) ≡ start_of c
 known-first s c h = ap start_of (get_or_from_slice_get s.text s.position c 0 h)

@@ -23,7 +23,7 @@ passed-on (Ok x) is h = absurd is
 passed-on {view = view} {s0 = s0} {s = s} {r = r} (Err d) is h =
     subst (λ d. Reads anywhere view r (Err d) s0 s) (sym is) h
 
--- a refusal, whatever would have been seen of the reply
+-- an error, whatever would have been seen of the reply
 refusal-seen : {A B C : Type 0} (f : A → B) (g : A → C) (r : Reply A) (c : Cause) (x stop : ℕ)
     → reply_seen f r ≡ refused c x stop → reply_seen g r ≡ refused c x stop
 refusal-seen f g (gave a i) c x stop h = absurd (cc)
@@ -39,7 +39,7 @@ refused-seen {e = e} {s = s} f g r h = record {
   memory = h.memory;
 }
 
--- Of the container whose bracket stands at s0 these parts were built, and the reader stands where the next one was told
+-- Of the container whose bracket is at s0 these parts were built, and the reader is where the next one was told
 -- of, or after the container.
 pub record In {K P : Type 0} (s0 s : ReaderState) (w : Walk K P) (next : Option K) (parts : List P) : Type 0 where
   pub moves : MovesOn s0 s
@@ -160,7 +160,7 @@ module _ {K P : Type 0} {s0 : ReaderState} {w : Walk K P} (laws : WalkLaws s0 w)
           let moves = moves-on s0 s1 s2 after-moves m2 in
           omega (arith, ahead, m2.forward, moves.within)
 
-      -- no part goes on, and no closer stands
+      -- no part goes on, and no closer is
       pub stuck-after : {Y : Type 0} {keys : Y → Option K} {e : JiterError} {s2 : ReaderState}
           → Reads anywhere keys (w.stepped s1) (Err e) s1 s2 → Reads anywhere view (all s0 w) (Err e) s0 s2
       stuck-after {s2 = s2} stepped = record {

@@ -11,10 +11,10 @@ use Rattle.jiter.proofs.Words.{Reads, never, string_memory, JiterError, option_m
 use Rattle.std.proofs.Common.{Bor}
 use Rattle.std.specs.Prelude.{IfOk}
 use Rattle.jiter_scan.proofs.NumberBytes.{number-begins}
-use Rattle.jiter_scan.proofs.NumberSound.{number_extent-sound}
+use Rattle.jiter_scan.proofs.NumberSound.{number_span-sound}
 use Rattle.jiter_scan.proofs.Standing.{slice-stands, stands-slice}
 use Rattle.jiter_scan.specs.Number.{IsNumberText}
-use Rattle.jiter_scan.specs.NumberReading.{begins_number, number_extent}
+use Rattle.jiter_scan.specs.NumberReading.{begins_number, number_span}
 use Rattle.jiter_scan.specs.Scanned.{Scans}
 use Rattle.jiter_steps.specs.declared.parse.Start.TheVariants as start
 use Rattle.jiter_steps.specs.declared.read_error.ReadError.TheVariants as error
@@ -23,7 +23,7 @@ use Rattle.jiter.specs.Jiter.{BeginsAt}
 use Rattle.jiter.proofs.Refusals.{refusal-failed, scalar-within}
 
 -- a number's bytes, by its end
-pub number-bytes : (names : Bool) (t : List ℕ) (i e : ℕ) → number_extent names t i ≡ taken tt e
+pub number-bytes : (names : Bool) (t : List ℕ) (i e : ℕ) → number_span names t i ≡ taken tt e
     → scalar_reply i (seen_as (λ n e. slice_range t i e) (number_at names t i)) ≡ gave (slice_range t i e) e
 unfolding number_at
 number-bytes names t i e h = ap (λ x. scalar_reply i (seen_as (λ n e. slice_range t i e) (with_value t i x))) h
@@ -128,20 +128,20 @@ number-start c e = grind (arith, nat_tests, e)
 
 -- what ends as a number begins as one
 pub number-starts : (names : Bool) (t : List ℕ) (i e : ℕ) → i < e → e ≤ length t
-    → number_extent names t i ≡ taken tt e → start_of (slice_index t i) ≡ start.Number
+    → number_span names t i ≡ taken tt e → start_of (slice_index t i) ≡ start.Number
 number-starts names t i e some within h =
-    let text = subst (IsNumberText names) (slice-first t i e some within) (number_extent-sound t names i e h) in
+    let text = subst (IsNumberText names) (slice-first t i e some within) (number_span-sound t names i e h) in
     number-start (slice_index t i) (number-begins names (slice_index t i) (slice_range t (i + 1) e) text)
 
 -- The next value is the number from i to e.
 pub number-read : (v s : ReaderState) (i e b : ℕ) (bytes : Bor (List ℕ)) → v ≡ s → i ≡ value_place v
-    → slice_get v.text i ≡ Some b → i < e → e ≤ length v.text → number_extent v.names v.text i ≡ taken tt e
+    → slice_get v.text i ≡ Some b → i < e → e ≤ length v.text → number_span v.names v.text i ≡ taken tt e
     → bytes.now ≡ slice_range v.text i e
     → Reads never (λ (x : Bor (List ℕ)). x.now) (next s (number_bytes_read s)) (Ok bytes) s (with_position v e)
 number-read v s i e b bytes is = subst P (sym is) here where
   P : ReaderState → Type 0
   P v = i ≡ value_place v → slice_get v.text i ≡ Some b → i < e → e ≤ length v.text
-      → number_extent v.names v.text i ≡ taken tt e → bytes.now ≡ slice_range v.text i e
+      → number_span v.names v.text i ≡ taken tt e → bytes.now ≡ slice_range v.text i e
       → Reads never (λ (x : Bor (List ℕ)). x.now) (next s (number_bytes_read s)) (Ok bytes) s (with_position v e)
 
   here : P s
@@ -273,7 +273,7 @@ number-given view a reply v s i j e is here start some within value = subst P is
 
 -- The text of a string whose closing quote is at e, as it is in the document.
 pub plain-closed : (t : List ℕ) (i e : ℕ) (text : List ℕ) → text ≡ slice_range t (i + 1) e
-    → ((keep : Bool) → string_at (text_form keep) t i ≡ taken (between t (i + 1) e) (e + 1)) → (keep : Bool)
-    → string_at (text_form keep) t i ≡ taken (record { owned = false; bytes = text }) (e + 1)
-plain-closed t i e text is read keep =
-    read keep ∙ ap (λ (w : List ℕ). taken (record { owned = false; bytes = w }) (e + 1)) (sym is)
+    → ((partial : Bool) → string_at (text_form partial) t i ≡ taken (between t (i + 1) e) (e + 1)) → (partial : Bool)
+    → string_at (text_form partial) t i ≡ taken (record { owned = false; bytes = text }) (e + 1)
+plain-closed t i e text is read partial =
+    read partial ∙ ap (λ (w : List ℕ). taken (record { owned = false; bytes = w }) (e + 1)) (sym is)

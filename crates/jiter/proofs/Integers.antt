@@ -2,8 +2,8 @@
 use Rattle.jiter.proofs.Words.{◌≡◌, ◌∙◌, inl, inr, ℕ, ◌+◌, ◌<◌, ◌≤◌, ◌==◌, Bool, true, false, List, length, refl, sym}
 use Rattle.jiter.proofs.Words.{ap, subst, arith, slice_get, slice_range, Option, Some, None, codes, if◌then◌else◌, pos}
 use Rattle.jiter.proofs.Words.{nat_tests, slice_get_within, Kind, Number, integer, big, float, number_value, Integer}
-use Rattle.jiter.proofs.Words.{int_seen, float_seen, int_at, extent_then, with_value, number_at, Scanned, taken, failed}
-use Rattle.jiter.proofs.Words.{Extent}
+use Rattle.jiter.proofs.Words.{int_seen, float_seen, int_at, span_then, with_value, number_at, Scanned, taken, failed}
+use Rattle.jiter.proofs.Words.{Span}
 use Rattle.std.proofs.Common.{◌≢◌, ◌||◌}
 use Rattle.std.specs.Prelude.{nat_lt, nat_le, ◌^◌}
 use Rattle.jiter_scan.specs.Number.{positive_value, negative_value}
@@ -13,10 +13,10 @@ use Rattle.jiter_scan.specs.NumberReading.{integer_or_float, integer_after}
 use Rattle.jiter_scan.specs.NumberReading.{integer_from}
 use Rattle.jiter_scan.specs.NumberReading.{integer_after_minus, is_float_sign, fraction_at}
 use Rattle.jiter_scan.specs.NumberReading.{fraction_from, exponent_at, exponent_from, decimal_at, int_part_at}
-use Rattle.jiter_scan.specs.NumberReading.{extent_from, after_minus}
+use Rattle.jiter_scan.specs.NumberReading.{span_from, after_minus}
 use Rattle.jiter_scan.specs.Stands.{Stands}
 use Rattle.jiter_scan.specs.Word.{word_at}
-use Rattle.jiter_scan.proofs.Choices.{if_case, if_both, if-true, if-false, extent_then-taken}
+use Rattle.jiter_scan.proofs.Choices.{if_case, if_both, if-true, if-false, span_then-taken}
 use Rattle.jiter_scan.proofs.NumberBytes.{IsMinusTo-le}
 use Rattle.jiter_scan.proofs.NumberSound.{int_part_at-sound, digits-sound, power-sound, exponent_at-sound}
 use Rattle.jiter_scan.proofs.NumberValues.{number_value-tail, number_value-name, integer_value-positive}
@@ -35,7 +35,7 @@ IsFloat (float w) = Unit {0}
 IsFloat n = ⊥
 
 -- An integer that is read is the number that is read, and is whole; where a float shows, a number that is read is a
--- float; the faults are the same.
+-- float; the errors are the same.
 abbrev pub AgreeAsInteger : Scanned Integer → Scanned Number → Type 0
 AgreeAsInteger (taken (int_seen n) e) y = (y ≡ taken n e) × IsWhole n
 AgreeAsInteger (taken float_seen j) (taken n e) = IsFloat n
@@ -74,9 +74,9 @@ module _ (t : List ℕ) (i : ℕ) where
 
   -- a fraction or an exponent that is read is some bytes long
   point-long : (f e : ℕ) (c : ℕ) → slice_get t f ≡ Some c → is_float_sign c ≡ true
-      → extent_then (fraction_at t f) (exponent_at t) ≡ taken tt e → f < e
+      → span_then (fraction_at t f) (exponent_at t) ≡ taken tt e → f < e
   point-long f e c here sign h =
-      let b = extent_then-taken _ _ _ _ h in
+      let b = span_then-taken _ _ _ _ h in
       by b.0 b.1 b.2 (c == 46) refl where
         fraction-is : fraction_at t f ≡ fraction_from t f (Some c)
         fraction-is = ap (fraction_from t f) here
@@ -103,34 +103,34 @@ module _ (t : List ℕ) (i : ℕ) where
   -- after the integer part
   later : (j f : ℕ) → IsMinusTo t i j → f ≤ length t → i ≤ f → int_part_at t j ≡ taken tt f → (o : Option ℕ)
       → slice_get t f ≡ o
-      → AgreeAsInteger (integer_or_float t i f o) (with_value t i (extent_then (fraction_at t f) (exponent_at t)))
+      → AgreeAsInteger (integer_or_float t i f o) (with_value t i (span_then (fraction_at t f) (exponent_at t)))
   later j f minus within low int_part None here =
       (rw here (rw here refl), whole-number j f minus int_part)
   later j f minus within low int_part (Some c) here =
-      if_case (λ x. AgreeAsInteger x (with_value t i (extent_then (fraction_at t f) (exponent_at t)))) (is_float_sign c)
+      if_case (λ x. AgreeAsInteger x (with_value t i (span_then (fraction_at t f) (exponent_at t)))) (is_float_sign c)
       (taken float_seen f) (taken (int_seen (number_value (slice_range t i f))) f)
-      (λ sign. float (extent_then (fraction_at t f) (exponent_at t)) refl sign)
+      (λ sign. float (span_then (fraction_at t f) (exponent_at t)) refl sign)
       (λ none. let apart = no_point c none in
       (rw (here, apart.0) (rw (here, apart.1) refl), whole-number j f minus int_part)) where
-        float : (x : Extent) → extent_then (fraction_at t f) (exponent_at t) ≡ x → is_float_sign c ≡ true
+        float : (x : Span) → span_then (fraction_at t f) (exponent_at t) ≡ x → is_float_sign c ≡ true
             → AgreeAsInteger (taken float_seen f) (with_value t i x)
         float (taken u e) h sign =
             float-is _ _ (number_value-tail t i f e low (point-long f e c here sign h) within h)
         float (failed k x) h sign = tt
 
-  after : (j : ℕ) → IsMinusTo t i j → i ≤ length t → (x : Extent) → int_part_at t j ≡ x
+  after : (j : ℕ) → IsMinusTo t i j → i ≤ length t → (x : Span) → int_part_at t j ≡ x
       → AgreeAsInteger (integer_after t i x) (with_value t i (decimal_at t j))
   after j minus within (failed k x) h = rw h refl
   after j minus within (taken u f) h =
       let part = int_part_at-sound t j f h in
       let long = stands-length t j f part.0 part.1 in
       let start = IsMinusTo-le t i j minus in
-      rw h (later j f minus (extent-within j f minus within part.0 part.1) (omega (arith, long, start)) h
+      rw h (later j f minus (span-within j f minus within part.0 part.1) (omega (arith, long, start)) h
       (slice_get t f)
       refl) where
-        extent-within : (j f : ℕ) → IsMinusTo t i j → i ≤ length t → (w : List ℕ) → Stands t j f w → f ≤ length t
-        extent-within j f (inl none) le w s = stands-within t j f w (omega (arith, none)) s
-        extent-within j f (inr m) le w s =
+        span-within : (j f : ℕ) → IsMinusTo t i j → i ≤ length t → (w : List ℕ) → Stands t j f w → f ≤ length t
+        span-within j f (inl none) le w s = stands-within t j f w (omega (arith, none)) s
+        span-within j f (inr m) le w s =
             stands-within t j f w (omega (arith, m.0, slice_get_within t i 45 m.1)) s
 
   -- a name
@@ -139,7 +139,7 @@ module _ (t : List ℕ) (i : ℕ) where
       → AgreeAsInteger (taken float_seen at) (with_value t i (if names then word_at t w j else failed k j))
   named false w j at k low within some first = tt
   named true w j at k low within some first = by (word_at t w j) refl where
-    by : (x : Extent) → word_at t w j ≡ x → AgreeAsInteger (taken float_seen at) (with_value t i x)
+    by : (x : Span) → word_at t w j ≡ x → AgreeAsInteger (taken float_seen at) (with_value t i x)
     by (taken u e) h = float-is _ _ (number_value-name t w i j e low within h some first)
     by (failed k x) h = tt
 
@@ -158,10 +158,10 @@ module _ (t : List ℕ) (i : ℕ) where
       (λ other. after (i + 1) (inr (refl, sign)) within (int_part_at t (i + 1)) refl)
 
   from : (names : Bool) → i ≤ length t → (o : Option ℕ) → slice_get t i ≡ o
-      → AgreeAsInteger (integer_from t i o) (with_value t i (extent_from names t i o))
+      → AgreeAsInteger (integer_from t i o) (with_value t i (span_from names t i o))
   from names within None here = refl
   from names within (Some c) here =
-      let R : Scanned Integer → Extent → Type 0 = λ x y. AgreeAsInteger x (with_value t i y) in
+      let R : Scanned Integer → Span → Type 0 = λ x y. AgreeAsInteger x (with_value t i y) in
       if_both R (c == 45) _ _ _ _
       (λ is. minus names within (sign is) (slice_get t (i + 1)) refl)
       (λ other. three R (c == 78) (c == 73) _ _ _ _ _

@@ -28,7 +28,7 @@ module _ (names : Bool) (t : List ℕ) where
       (skip_at-law names t (begin n)) in
       law.1
 
-  -- It begins after blanks.
+  -- It begins after whitespace.
   pub place-after : (n : Node) → Spells names t n → (i : ℕ) → IsBlank t i (begin n) → past_blanks t i ≡ begin n
   place-after n h i blanks =
       let first = begins-value names t n h in

@@ -15,7 +15,7 @@ use Rattle.jiter_steps.specs.declared.parse.Literal.TheVariants as literal
 use Rattle.jiter_steps.specs.declared.parse.Start.TheVariants as start
 use Rattle.jiter.specs.Reader.{StaysAt, position_after}
 
--- blanks are passed once
+-- whitespace is passed once
 pub past_blanks-again : (t : List ℕ) (i : ℕ) → past_blanks t (past_blanks t i) ≡ past_blanks t i
 unfolding past_blanks
 past_blanks-again t i = run_end-here is_blank t (past_blanks t i) _ refl (no_blank-after t i _ refl)
@@ -82,7 +82,7 @@ next-stays s read stays = by (slice_get s.text (value_place s)) where
   by None = refl
   by (Some c) = stays (start_of c)
 
--- A refused read of a scalar leaves the reader at the value's first byte, or at the end where only blanks are left.
+-- A refused read of a scalar leaves the reader at the value's first byte, or at the end where only whitespace is left.
 pub scalars-stay : (s : ReaderState)
     → StaysAt (value_place s) (next s (null_read s))
     × StaysAt (value_place s) (next s (bool_read s))
@@ -109,7 +109,7 @@ known-peeked s read c e =
     let b : slice_index s.text (value_place s) ≡ c = get_or_from_slice_get s.text (value_place s) c 0 e in
     rw (e, b) refl
 
--- The same of the reader that such a peek left after; what is read does not rest on where it stands.
+-- The same of the reader that such a peek left after; what is read does not rest on where it is.
 pub known-after_peek : {A : Type 0} (read : ReaderState → ℕ → Start → Reply A) (s0 s1 : ReaderState) (c : ℕ)
     → ((i : ℕ) → read (with_position s0 i) ≡ read s0) → MovesOn s0 s1 → s1.position ≡ value_place s0 → StandsAt s1 c
     → known s1 (read s1) ≡ next s0 (read s0)
@@ -119,7 +119,7 @@ known-after_peek read s0 s1 c same m place here =
     (ap (known (with_position s0 (value_place s0))) (same (value_place s0))
     ∙ known-peeked s0 (read s0) c (subst (λ (v : ReaderState). StandsAt v c) is here))
 
--- Where a byte stands that is no blank, a known_ call replies as the next_ call.
+-- Where a byte is that is not whitespace, a known_ call replies as the next_ call.
 pub known-next : {A : Type 0} (s : ReaderState) (read : ℕ → Start → Reply A) (c : ℕ)
     → StandsAt s c → is_blank c ≡ false → known s read ≡ next s read
 unfolding past_blanks
@@ -128,12 +128,12 @@ known-next s read c e other =
     let peeked = known-peeked s read c (subst (λ i. slice_get s.text i ≡ Some c) (sym here) e) in
     subst (λ i. known (with_position s i) read ≡ next s read) here peeked
 
--- where such a byte stands above the blank
+-- where such a byte is above the space
 pub known-above : {A : Type 0} (s : ReaderState) (read : ℕ → Start → Reply A) (c : ℕ)
     → StandsAt s c → 32 < c → known s read ≡ next s read
 known-above s read c here above = known-next s read c here (grind (arith, nat_tests, above))
 
--- A read after such a peek that takes no memory, as one from before it.
+-- A read after such a peek that doesn't allocate, as one from before it.
 pub read-peeked : {X A : Type 0} {view : X → A} {x : Result X JiterError} {s2 : ReaderState}
     (read : ReaderState → ℕ → Start → Reply A) (s0 s1 : ReaderState) (c : ℕ) → ((i : ℕ) → read (with_position s0 i) ≡ read s0)
     → MovesOn s0 s1 → s1.position ≡ value_place s0 → StandsAt s1 c → Reads never view (known s1 (read s1)) x s1 s2
@@ -155,7 +155,7 @@ read-peeked {view = view} {x = x} {s2 = s2} read s0 s1 c same m place here h =
 low-begins : (c : ℕ) → c ≤ 32 → start_of c ≡ start.Nothing
 low-begins c low = grind (arith, nat_tests, low)
 
--- Where a byte stands that is no higher, no value begins.
+-- Where a byte is that is no higher, no value begins.
 pub known-low : {A : Type 0} (s : ReaderState) (read : ℕ → Start → Reply A) (c : ℕ)
     → StandsAt s c → c ≤ 32 → known s read ≡ read s.position start.Nothing
 known-low s read c here low =

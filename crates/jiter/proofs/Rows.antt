@@ -5,5 +5,5 @@ mod NumberBytes
 mod Containers
 mod WholeValues
 mod APerson
-mod StringStorage
+mod CauseTexts
 mod Lending

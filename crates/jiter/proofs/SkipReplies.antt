@@ -1,4 +1,4 @@
--- The skip law of the pull reader: a skip replies what reading the value replies, but for the value and UTF-8.
+-- The skip law of the pull reader: a skip replies what reading the value replies, except the value and UTF-8.
 use Rattle.jiter.proofs.Words.{ℕ, ap, subst, Result, Option, Some, None, slice_get, slice_index, read_at, skip_at}
 use Rattle.jiter.proofs.Words.{start_of, Reading, done, fault, Tree, Start, EndsAlike, skip_at-law, json_error}
 use Rattle.jiter.proofs.Words.{ReaderState, Reply, value_place, if_byte, next, known, value_reply, value_read}

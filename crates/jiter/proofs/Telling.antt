@@ -13,10 +13,13 @@ use Rattle.jiter_steps.specs.Node as grammar
 use Rattle.jiter_steps.specs.StringReading as form
 use Rattle.jiter_steps.specs.declared.parse.Literal.TheVariants as literal
 use Rattle.jiter_steps.specs.declared.parse.Start.TheVariants as start
-use Rattle.jiter_steps.proofs.Grammar.ScalarLaws.{scalar-laws}
+use Rattle.jiter_scan.proofs.NumberLaws.{number_at-complete}
+use Rattle.jiter_scan.proofs.WordLaws.{word_at-complete}
+use Rattle.jiter_steps.specs.Literal.{word_of}
+use Rattle.jiter_steps.proofs.Grammar.StringLaws.{string_at-complete}
 use Rattle.jiter.specs.Reader.{number_type, number_refusal}
-use Rattle.jiter.specs.Telling.{tree_start, tree_type, other_type, str_told, bool_told, int_told, null_told, number_told}
-use Rattle.jiter.specs.Telling.{number_bytes_told, Tells}
+use Rattle.jiter.specs.Telling.{tree_start, tree_type, other_type, str_told, bool_told, int_told, null_told}
+use Rattle.jiter.specs.Telling.{number_told, number_bytes_told, Tells}
 use Rattle.jiter.proofs.Integers.{AgreeAsInteger, IsWhole, int_at-number}
 use Rattle.jiter.proofs.Members.{read-spelled}
 use Rattle.jiter.proofs.Walking.{ComesNext, IsNoArray, IsNoObject, gave-refused, next-reads, skip-passes}
@@ -83,7 +86,8 @@ module _ (s : ReaderState) where
   number-read : (b e : ℕ) → ComesNext s (grammar.number b e)
       → number_at s.names s.text b ≡ taken (number_value (slice_range s.text b e)) e
   number-read b e h =
-      (scalar-laws s.names s.text).number-complete b e h.stands.spelled.ordered h.stands.spelled.within h.stands.spelled.text h.quiet
+      let spelled = h.stands.spelled in
+      number_at-complete s.names s.text b e spelled.ordered spelled.within spelled.text h.quiet
 
   -- another type was wanted
   refusal-told : {A : Type 0} (wanted : ValueType) (n : Node) → ComesNext s n
@@ -102,7 +106,7 @@ module _ (s : ReaderState) where
       → string_read f s (begin n) (start_is n) ≡ str_told (value_of s.text n) (begin n) (end n)
   string-told f whole (grammar.string ps b e) h =
       ap (λ g. scalar_reply b (string_at g s.text b)) whole
-      ∙ ap (scalar_reply b) ((scalar-laws s.names s.text).string-complete b e ps h.stands.spelled)
+      ∙ ap (scalar_reply b) (string_at-complete s.text b e ps h.stands.spelled)
   string-told f whole (grammar.literal literal.Null b e) h = refl
   string-told f whole (grammar.literal literal.True b e) h = refl
   string-told f whole (grammar.literal literal.False b e) h = refl
@@ -116,10 +120,10 @@ module _ (s : ReaderState) where
   truth-told (grammar.literal literal.Null b e) h = refl
   truth-told (grammar.literal literal.True b e) h =
       ap (λ x. scalar_reply b (seen_as (λ u e. true) x))
-      ((scalar-laws s.names s.text).literal-complete literal.True b e h.stands.spelled)
+      (word_at-complete s.text (word_of literal.True) b e h.stands.spelled)
   truth-told (grammar.literal literal.False b e) h =
       ap (λ x. scalar_reply b (seen_as (λ u e. false) x))
-      ((scalar-laws s.names s.text).literal-complete literal.False b e h.stands.spelled)
+      (word_at-complete s.text (word_of literal.False) b e h.stands.spelled)
   truth-told (grammar.number b e) h =
       refusal-told bool (grammar.number b e) h ∙ sym (no_truth (number_value (slice_range s.text b e)) b e)
   truth-told (grammar.string ps b e) h = refl
@@ -142,7 +146,7 @@ module _ (s : ReaderState) where
   null-told : (n : Node) → ComesNext s n
       → null_read s (begin n) (start_is n) ≡ null_told (value_of s.text n) (begin n) (end n)
   null-told (grammar.literal literal.Null b e) h =
-      ap (scalar_reply b) ((scalar-laws s.names s.text).literal-complete literal.Null b e h.stands.spelled)
+      ap (scalar_reply b) (word_at-complete s.text (word_of literal.Null) b e h.stands.spelled)
   null-told (grammar.literal literal.True b e) h = refl
   null-told (grammar.literal literal.False b e) h = refl
   null-told (grammar.number b e) h =

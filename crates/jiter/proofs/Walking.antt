@@ -2,7 +2,7 @@
 -- grammar's words.
 use Rattle.jiter.proofs.Words.{◌≡◌, ◌∙◌, ℕ, ◌+◌, ◌-◌, ◌<◌, ◌≤◌, ◌==◌, Bool, List, [], ◌∷◌, length, refl, sym, ap, subst}
 use Rattle.jiter.proofs.Words.{arith, slice_get, slice_index, Option, Some, None, none-some, slice_get_within, Scanned}
-use Rattle.jiter.proofs.Words.{taken, failed, Extent, ScalarWithin, skip_at, IsBlank, past_blanks, start_of, Key, Node}
+use Rattle.jiter.proofs.Words.{taken, failed, Span, ScalarWithin, skip_at, IsBlank, past_blanks, start_of, Key, Node}
 use Rattle.jiter.proofs.Words.{begin, end, Spells, SpellsKey, nesting, nesting_limit, Reading, done, fault, Step, more}
 use Rattle.jiter.proofs.Words.{closed, stuck, step, colon, Form, whole, raw, string_at, between, Text}
 use Rattle.jiter.proofs.Words.{past_blanks-after, EndsNumber, begins-value, start_is, members_list, string_at-within}
@@ -22,7 +22,7 @@ use Rattle.jiter_steps.proofs.Grammar.RowSteps.{PartAt, delimits}
 use Rattle.jiter_steps.proofs.Grammar.SpelledParts.{IsItem, IsMember, ends-end, items-parts}
 use Rattle.jiter_steps.proofs.Grammar.SpelledParts.{members-parts, nodes_list}
 use Rattle.jiter_steps.proofs.Grammar.StringLaws.{string_at-complete, raw-whole}
-use Rattle.jiter_steps.proofs.Reading.Bounds.{ExtentAhead, container_step-ahead, colon-ahead, either}
+use Rattle.jiter_steps.proofs.Reading.Bounds.{SpanAhead, container_step-ahead, colon-ahead, either}
 use Rattle.jiter_steps.proofs.Reading.Parts.{MoreParts, PartThen, Parts}
 use Rattle.jiter.specs.Parts.{StandsNext}
 use Rattle.jiter.specs.Reader.{end_reply}
@@ -266,7 +266,7 @@ module _ (f : Form) (view : Key → Text) (s : ReaderState) (sees : SeesKeys f v
   pub key-tells : (ms : NodeMembers) (e : ℕ) → MembersLeft s ms e → KeyTold view s ms e (key_step f s)
   key-tells ms = next-tells shape.Object AMember (key_of view) node_of s _ member-meets (members_list ms)
 
--- a key as it stands between its quotes, and decoded
+-- a key as it is between its quotes, and decoded
 abbrev pub raw_key : List ℕ → Key → Text
 raw_key t k = between t (k.begin + 1) (k.end - 1)
 
@@ -297,7 +297,7 @@ finish-ends s h =
 
 -- After a call for the next key the reader has moved on.
 module _ (f : Form) (t : List ℕ) (o : Option Text) (i : ℕ) where
-  colon-after : (j : ℕ) (k : Text) (x : Extent) → ExtentAhead t j 1 x → colon_reply k x ≡ gave o i → j < i
+  colon-after : (j : ℕ) (k : Text) (x : Span) → SpanAhead t j 1 x → colon_reply k x ≡ gave o i → j < i
   colon-after j k (taken u e) h is = omega (arith, h.0, (gave-is _ _ e i is).1)
   colon-after j k (failed c e) h is = absurd (gave-refused (sym is))
 

@@ -9,10 +9,10 @@ pub use Rattle.jiter_scan.proofs.NumberLaws.{number_at-within}
 pub use Rattle.jiter_scan.proofs.Scanning.{ScalarWithin}
 pub use Rattle.jiter_scan.specs.Kind.{Kind, eof_string, eof_value, expected_ident, expected_value, fault_kind, invalid_code_point, invalid_escape, invalid_number, recursion_limit, trailing_comma}
 pub use Rattle.jiter_scan.specs.Number.{Number, big, float, integer, number_value}
-pub use Rattle.jiter_scan.specs.NumberReading.{Integer, extent_then, float_seen, int_seen, with_value}
+pub use Rattle.jiter_scan.specs.NumberReading.{Integer, span_then, float_seen, int_seen, with_value}
 unfoldable pub use Rattle.jiter_scan.specs.NumberReading.{int_at, number_at}
 pub use Rattle.jiter_scan.specs.Scanned.{Scanned, failed, taken}
-pub use Rattle.jiter_scan.specs.Word.{Extent}
+pub use Rattle.jiter_scan.specs.Word.{Span}
 pub use Rattle.jiter_steps.proofs.Calls.SkipLaw.{EndsAlike, skip_at-law}
 pub use Rattle.jiter_steps.proofs.Grammar.Blanks.{past_blanks-after}
 pub use Rattle.jiter_steps.proofs.Grammar.ScalarLaws.{EndsNumber}

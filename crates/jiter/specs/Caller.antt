@@ -37,7 +37,7 @@ pub use Rattle.jiter_value.specs.Access.{is_null_tree, boolean_in, int_in, numbe
 pub use Rattle.jiter_value.specs.Access.{last_such, members_in, member_named}
 pub use Rattle.jiter_value.specs.Pointer.{pointed_by}
 pub use Rattle.jiter_value.specs.Equality.{code, same_content}
-pub use Rattle.jiter_value.specs.Machine.{Progress, held, left}
+pub use Rattle.jiter_value.specs.Machine.{Progress, held, turns_left}
 pub use Rattle.jiter_value.specs.Owned.{HoldSame, HoldsBorrowedTextOrPart, HoldsOwnedTextOrPart, HoldsTextOrPart}
 pub use Rattle.jiter_value.specs.Owned.{OwnedMayGrow, ReadHolds, owned_tree}
 pub use Rattle.jiter_value.specs.Parses.{Parses, as_read, reading_as}
@@ -76,7 +76,7 @@ pub use Rattle.jiter_scan.specs.Digits.{decimal_of, digit_run_end}
 pub use Rattle.jiter_scan.specs.Position.{at_index, description_text, position_of, position_text, short_text}
 pub use Rattle.jiter_scan.specs.Scan.{IsAsciiTo, scan_stop}
 pub use Rattle.jiter_scan.specs.Simd.{digits_end}
--- The types of the crates below as clauses see them; those of this crate stand in Rattle.jiter.specs.declared.
+-- The types of the crates below as clauses see them; those of this crate are in Rattle.jiter.specs.declared.
 pub use Rattle.jiter_scan.specs.declared.errors.JsonError.{JsonError}
 pub use Rattle.jiter_scan.specs.declared.errors.JsonErrorType.{JsonErrorType}
 pub use Rattle.jiter_scan.specs.declared.partial_mode.PartialMode.{PartialMode}

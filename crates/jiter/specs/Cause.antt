@@ -23,12 +23,12 @@ type_text string = codes "string"
 type_text array = codes "array"
 type_text object = codes "object"
 
--- a fault of the bytes or want of memory; or the type that was wanted, and that of the value that stands there
+-- an error of the bytes or a failed allocation; or the type that was wanted, and that of the value that is there
 pub data Cause : Type 0 where
   json_error : Kind → Cause
   wrong_type : ValueType → ValueType → Cause
 
--- memory was refused
+-- an allocation failed
 abbrev pub is_memory_cause : Cause → Bool
 is_memory_cause (json_error k) = is_memory k
 is_memory_cause (wrong_type wanted actual) = false

@@ -32,7 +32,7 @@ owned_trees names = record {
 abbrev pub own_text : List ℕ → Text
 own_text bytes = record { owned = true; bytes = bytes }
 
--- The value that begins so where the reader stands, with levels left for so many containers inside it that are not
+-- The value that begins so where the reader is, with levels left for so many containers inside it that are not
 -- empty.
 abbrev pub built : ReaderState → ℕ → Start → Reply Tree
 built s levels b =
@@ -42,7 +42,7 @@ built s levels b =
 abbrev pub built_inside : ReaderState → ℕ → ℕ → Reply Tree
 built_inside s levels i = value_reply (inside_at (owned_trees s.names) s.text levels i)
 
--- The value where the reader stands, each text owned, may want memory: reading it does, or it is read with a borrowed
+-- The value where the reader is, each text owned, may want memory: reading it does, or it is read with a borrowed
 -- text or a part.
 abbrev pub OwnedMayGrowAt : ReaderState → Type 0
 OwnedMayGrowAt s = MayGrowAt s.text s.position ⊎ ReadHolds (read_at s.names s.text s.position)

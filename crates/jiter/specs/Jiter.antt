@@ -20,7 +20,7 @@ use Rattle.jiter.specs.Reader.{ReaderState, Reply, gave, refused, Refusal, with_
 use Rattle.jiter.specs.declared.errors.JiterError.{JiterError}
 use Rattle.jiter.specs.declared.peek.Peek.{Peek}
 
--- a reader that stands before the first byte, with both settings off
+-- a reader that is before the first byte, with both settings off
 abbrev pub at_start : List ℕ → ReaderState
 at_start t = record { text = t; position = 0; names = false; partial_strings = false }
 
@@ -34,38 +34,38 @@ pub record MovesOn (old new : ReaderState) : Type 0 where
 abbrev pub refusal_view : JiterError → Refusal
 refusal_view e = record { cause = cause_of e.error_type; index = e.index }
 
--- What was returned, seen by view, and the place where the reader then stands, are this reply.
+-- What was returned, seen by view, and the place where the reader then is, are this reply.
 abbrev pub Replies : {X A : Type 0} → (X → A) → Result X JiterError → ReaderState → Reply A → Type 0
 Replies view (Ok x) new r = r ≡ gave (view x) new.position
 Replies view (Err e) new r = r ≡ refused (cause_of e.error_type) e.index new.position
 
--- An error that is no want of memory, with its index within the text.
+-- An error that is no a failed allocation, with its index within the text.
 pub record IsRefusalOf (t : List ℕ) (e : JiterError) : Type 0 where
   pub bytes : cause_of e.error_type ≢ json_error out_of_memory
   pub within : e.index ≤ length t
 
--- A call that takes no memory refuses for the bytes alone.
+-- A call that doesn't allocate refuses for the bytes alone.
 abbrev pub RefusesBytes : {X : Type 0} → List ℕ → Result X JiterError → Type 0
 RefusesBytes t result = IfErr result (IsRefusalOf t)
 
--- want of memory
+-- a failed allocation
 abbrev pub IsMemory : JiterError → Type 0
 IsMemory e = cause_of e.error_type ≡ json_error out_of_memory
 
--- unless memory was refused, P
+-- unless an allocation fails, P
 abbrev pub UnlessMemory : {X : Type 0} → Result X JiterError → Type 0 → Type 0
 UnlessMemory (Ok x) P = P
 UnlessMemory (Err e) P = (IsMemory e → ⊥) → P
 
--- where memory was refused, P of the error
+-- where an allocation failed, P of the error
 abbrev pub WhereMemory : {X : Type 0} → Result X JiterError → (JiterError → Type 0) → Type 0
 WhereMemory result P = IfErr result (λ e. IsMemory e → P e)
 
--- a refusal's index lies within the text
+-- an error's index lies within the text
 abbrev pub IndexWithin : {X : Type 0} → List ℕ → Result X JiterError → Type 0
 IndexWithin t result = IfErr result (λ e. e.index ≤ length t)
 
--- The refusal that the error of a reading becomes, where the reader stands at i: its fault, or want of memory there.
+-- The error that the error of a reading becomes, where the reader is at i: its error, or a failed allocation there.
 abbrev pub IsErrorAt : ReadError → ℕ → JiterError → Type 0
 IsErrorAt (error.Fault f) i e = refusal_view e ≡ record { cause = json_error (fault_kind f.kind); index = f.index }
 IsErrorAt (error.Memory m) i e = refusal_view e ≡ record { cause = json_error out_of_memory; index = i }
@@ -87,11 +87,11 @@ IsEscapedAt t i e = (e.0 ≡ scan_stop t (i + 1)) × IsLook t (i + 1) e.0 (look.
 abbrev pub key_bytes : Option Text → Option (List ℕ)
 key_bytes = option_map text_bytes
 
--- the byte c stands where the reader stands
+-- the byte c is where the reader is
 abbrev pub StandsAt : ReaderState → ℕ → Type 0
 StandsAt s c = slice_get s.text s.position ≡ Some c
 
--- the byte c stands right before i
+-- the byte c is right before i
 abbrev pub StandsBefore : List ℕ → ℕ → ℕ → Type 0
 StandsBefore t i c = (j : ℕ) × (i ≡ j + 1) × (slice_get t j ≡ Some c)
 
@@ -99,11 +99,11 @@ StandsBefore t i c = (j : ℕ) × (i ≡ j + 1) × (slice_get t j ≡ Some c)
 abbrev pub byte_of : Peek → ℕ
 byte_of p = p.0
 
--- the byte that was told, if there is one, stands where the reader stands
+-- the byte that was told, if there is one, is where the reader is
 abbrev pub TellsHere : Result (Option Peek) JiterError → ReaderState → Type 0
 TellsHere result s = IfOk result (λ told. IfSome told (λ p. StandsAt s (byte_of p)))
 
--- where a key was given, a colon stands right before i
+-- where a key was given, a colon is right before i
 abbrev pub EndsWithColon : {K : Type 0} → Result (Option K) JiterError → List ℕ → ℕ → Type 0
 EndsWithColon result t i = IfOk result (λ key. IfSome key (λ _. StandsBefore t i ascii.colon))
 
@@ -119,7 +119,7 @@ KeyIsAt led result = IfOk result (λ key. IfSome key (λ k. led ≡ more k.1))
 abbrev pub BeginsAt : List ℕ → ℕ → Start → Type 0
 BeginsAt t i b = start_of (slice_index t i) ≡ b
 
--- where the reader stands a value begins so
+-- where the reader is a value begins so
 pub record BeginsAs (s : ReaderState) (b : Start) : Type 0 where
   pub within : s.position < length s.text
   pub is : b ≡ start_of (slice_index s.text s.position)

@@ -1,6 +1,6 @@
--- How a call that lends a text out of the reader leaves it, once the text is let go. No other file of this crate speaks
+-- How a call that borrows a text out of the reader leaves it, once the text is let go. No other file of this crate speaks
 -- of names of the toolchain's inside: `the_row` with `named 1` is the type of a reader over bytes of one lifetime, and
--- `follows_so` says that the last line holds of the reader v that stands after the reference when its loan ends.
+-- `follows_so` says that the last line holds of the reader v that is after the reference when its borrow ends.
 use Rattle.std.specs.Borrow.{MutBor, Fml}
 use Rattle.std.specs.Prelude.{⊤, [], Result}
 use denote.Follow.{follows_so}

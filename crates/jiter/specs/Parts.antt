@@ -8,7 +8,7 @@ use Rattle.jiter.specs.Cause.{Cause}
 use Rattle.jiter.specs.Reader.{ReaderState, refused, value_place, with_position, next, array_read, item_step}
 use Rattle.jiter.specs.Reader.{object_read, key_step, skip_read, peek}
 
--- this node comes next, after blanks
+-- this node comes next, after whitespace
 pub record StandsNext (s : ReaderState) (n : Node) : Type 0 where
   pub place : value_place s ≡ begin n
   pub spelled : Spells s.names s.text n

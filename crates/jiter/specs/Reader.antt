@@ -5,7 +5,7 @@ use Rattle.jiter_scan.specs.Kind.{eof_value, expected_value, trailing_characters
 use Rattle.jiter_scan.specs.Scanned.{Scanned, taken, failed}
 use Rattle.jiter_scan.specs.Number.{Number, integer, big}
 use Rattle.jiter_scan.specs.Number as number
-use Rattle.jiter_scan.specs.Word.{Extent}
+use Rattle.jiter_scan.specs.Word.{Span}
 use Rattle.jiter_scan.specs.NumberReading.{Integer, int_seen, float_seen, number_at, int_at}
 use Rattle.jiter_steps.specs.Blank.{past_blanks}
 use Rattle.jiter_steps.specs.Literal.{literal_at, start_of}
@@ -22,14 +22,14 @@ use Rattle.jiter_steps.specs.declared.parse.Start.TheVariants as start
 use Rattle.jiter.specs.Cause.{Cause, json_error, wrong_type}
 use Rattle.jiter.specs.Cause.{ValueType, null, bool, int, float, string, array, object}
 
--- the bytes, the place that the reader stands at, and whether names are numbers and cut strings are kept
+-- the bytes, the place that the reader is at, and whether names are numbers and cut strings are kept
 pub record ReaderState : Type 0 where
   pub text : List ℕ
   pub position : ℕ
   pub names : Bool
   pub partial_strings : Bool
 
--- What a call gave; or why it refused, and at which index. Then the place where the reader stands.
+-- What a call gave; or why it refused, and at which index. Then the place where the reader is.
 pub data Reply (A : Type 0) : Type 0 where
   gave : A → ℕ → Reply A
   refused : Cause → ℕ → ℕ → Reply A
@@ -38,26 +38,26 @@ pub data Reply (A : Type 0) : Type 0 where
 abbrev pub with_position : ReaderState → ℕ → ReaderState
 with_position s i = record { text = s.text; position = i; names = s.names; partial_strings = s.partial_strings }
 
--- where the reader stands then
+-- where the reader is then
 abbrev pub position_after : {A : Type 0} → Reply A → ℕ
 position_after (gave a e) = e
 position_after (refused c i stop) = stop
 
--- where the call refused, the reader stands at i
+-- where the call refused, the reader is at i
 abbrev pub StaysAt : {A : Type 0} → ℕ → Reply A → Type 0
 StaysAt i (gave a e) = Unit {0}
 StaysAt i (refused c j stop) = stop ≡ i
 
--- the first place that has no blank, or the length
+-- the first place that has no whitespace, or the length
 abbrev pub value_place : ReaderState → ℕ
 value_place s = past_blanks s.text s.position
 
--- what the byte at i leads to; a refusal where there is none
+-- what the byte at i leads to; an error where there is none
 abbrev pub if_byte : {A : Type 0} → ℕ → Option ℕ → (ℕ → Reply A) → Reply A
 if_byte i None reply = refused (json_error eof_value) i i
 if_byte i (Some c) reply = reply c
 
--- The first byte that is no blank. It is not consumed.
+-- The first byte that is not whitespace. It is not consumed.
 abbrev pub peek : ReaderState → Reply ℕ
 peek s = if_byte (value_place s) (slice_get s.text (value_place s)) (λ c. gave c (value_place s))
 
@@ -85,7 +85,7 @@ pub record Refusal : Type 0 where
   pub cause : Cause
   pub index : ℕ
 
--- a number where another type was wanted: its own fault goes first
+-- a number where another type was wanted: its own error goes first
 abbrev pub number_refusal : ℕ → ValueType → Scanned Number → Refusal
 number_refusal i wanted (taken n e) = record { cause = wrong_type wanted (number_type n); index = i }
 number_refusal i wanted (failed k j) = record { cause = json_error k; index = j }
@@ -153,7 +153,7 @@ str_read s i b = string_read (if s.partial_strings then kept else form.whole) s 
 abbrev pub bytes_read : ReaderState → ℕ → Start → Reply Text
 bytes_read s i b = string_read (if s.partial_strings then raw_kept else raw) s i b
 
--- a whole value; where it is refused the reader stands where the reading stopped
+-- a whole value; where it is refused the reader is where the reading stopped
 abbrev pub value_reply : {A : Type 0} → Reading A → Reply A
 value_reply (done a e) = gave a e
 value_reply (fault k i stop) = refused (json_error k) i stop
@@ -186,7 +186,7 @@ abbrev pub item_step : ReaderState → Reply (Option ℕ)
 item_step s = item_reply s.text (step s.text (array_step s.text) s.position)
 
 -- a key and its colon; what follows the colon is not looked at
-abbrev pub colon_reply : Text → Extent → Reply (Option Text)
+abbrev pub colon_reply : Text → Span → Reply (Option Text)
 colon_reply key (taken u j) = gave (Some key) j
 colon_reply key (failed k j) = refused (json_error k) j j
 
@@ -208,11 +208,11 @@ object_read f s i b = refused_as s i object b
 abbrev pub key_step : Form → ReaderState → Reply (Option Text)
 key_step f s = member_reply f s.text (step s.text (object_step s.text) s.position)
 
--- nothing may stand at i
+-- nothing may be at i
 abbrev pub end_reply : ℕ → Option ℕ → Reply (Unit {0})
 end_reply i None = gave tt i
 end_reply i (Some c) = refused (json_error trailing_characters) i i
 
--- Nothing but blanks is left.
+-- Nothing but whitespace is left.
 abbrev pub finish : ReaderState → Reply (Unit {0})
 finish s = end_reply (value_place s) (slice_get s.text (value_place s))

@@ -23,7 +23,7 @@ use std::marker::Model;
 mod arrays;
 mod objects;
 mod owned_values;
-mod places;
+mod position;
 mod scalars;
 mod skips;
 mod texts;

@@ -15,7 +15,7 @@ use Rattle.jiter.proofs.Walking.{gave-is, gave-refused}
 use Rattle.jiter_c.specs.Faults.{fault_of}
 use Rattle.jiter_c.specs.Parts.{IfRefused, RefusedSo, first_part, into_read}
 use Rattle.jiter_c.specs.Replies.{has_part}
-use Rattle.jiter_c.specs.Reports.{Reports, fault_or}
+use Rattle.jiter_c.specs.Reports.{Reports, error_or, fault_or}
 use Rattle.jiter_c.specs.declared.faults.JiterFault.{JiterFault}
 use Rattle.jiter_c.specs.declared.reader.JiterReader.{JiterReader}
 use Rattle.jiter_c.proofs.Walks.{IsBracket}
@@ -33,25 +33,29 @@ into-refused {X = X} {A = A} r x e stop is err = subst (λ q. RefusedSo q x stop
   by (Ok a) err = absurd err
   by (Err d) err = (ap (λ (y : JiterError). cause_of y.error_type) err, ap (λ (y : JiterError). y.index) err, refl)
 
--- what is told of such an error
-module _ (X : Type 0) {A : Type 0} (r : Reply A) (i : ℕ) (e : JiterError) (after : JiterFault)
-    (told : after ≡ fault_of (cause_of e.error_type) e.index) (before : JiterFault) where
-  pub refusal-told : (old new : JiterReader) → new ≡ record old { index = i } → RefusedSo {X = X} r (Err e) i
+-- what is told of such a result
+module _ {X A : Type 0} (r : Reply A) (i : ℕ) (read : Result X JiterError) (before after : JiterFault)
+    (told : after ≡ error_or before read) where
+  pub refusal-told : (old new : JiterReader) → new ≡ record old { index = i } → RefusedSo r read i
       → IfRefused r (Reports r false old new before after)
-  refusal-told old new place h = by r h where
-    by : (r : Reply A) → RefusedSo {X = X} r (Err e) i → IfRefused r (Reports r false old new before after)
-    by (gave a j) h = tt
-    by (refused c x stop) (cause, index, at) = record {
+  refusal-told old new place h = by r read told h where
+    by : (r : Reply A) (read : Result X JiterError) → after ≡ error_or before read → RefusedSo r read i
+        → IfRefused r (Reports r false old new before after)
+    by (gave a j) read told h = tt
+    by (refused c x stop) (Ok a) told h = absurd h
+    by (refused c x stop) (Err e) told (cause, index, at) = record {
       outcome = refl;
       position = place ∙ ap (λ j. record old { index = j }) at;
       fault = told ∙ ap (λ d. fault_of d e.index) cause ∙ ap (fault_of c) index;
     }
 
-  pub refusal-counted : RefusedSo {X = X} r (Err e) i → IfRefused r ((false ≡ false) × (after ≡ fault_or before r))
-  refusal-counted h = by r h where
-    by : (r : Reply A) → RefusedSo {X = X} r (Err e) i → IfRefused r ((false ≡ false) × (after ≡ fault_or before r))
-    by (gave a j) h = tt
-    by (refused c x stop) (cause, index, at) =
+  pub refusal-counted : RefusedSo r read i → IfRefused r ((false ≡ false) × (after ≡ fault_or before r))
+  refusal-counted h = by r read told h where
+    by : (r : Reply A) (read : Result X JiterError) → after ≡ error_or before read → RefusedSo r read i
+        → IfRefused r ((false ≡ false) × (after ≡ fault_or before r))
+    by (gave a j) read told h = tt
+    by (refused c x stop) (Ok a) told h = absurd h
+    by (refused c x stop) (Err e) told (cause, index, at) =
         (refl, told ∙ ap (λ d. fault_of d e.index) cause ∙ ap (fault_of c) index)
 
 -- the byte that a peek gave
@@ -66,7 +70,7 @@ peeked-byte s c e told = by (slice_get s.text (value_place s)) told where
 
 -- After a peek the step by its byte is the step into what comes next.
 module _ (s : ReaderState) where
-  -- what begins so at i, where the reader stands at p then
+  -- what begins so at i, where the reader is at p then
   into-array : (p i : ℕ) (b : Start) → (b ≡ Start.Object → ⊥)
       → reply_seen has_part (array_read (with_position s p) i b) ≡ into_read s i b
   into-array p i Start.Object other = absurd (other refl)

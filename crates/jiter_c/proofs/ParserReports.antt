@@ -56,7 +56,7 @@ pub prints_value : (names : Bool) (mode : PartialMode) (t : List ℕ) (v : JsonV
 prints_value names mode t v i text p ok err =
     prints-done (reading_as owned_tree (answer_in names mode t)) (view v) p.answer.0 i text p.answer.1 ok err
 
--- the fault of a parse that takes no memory
+-- the error of a parse that doesn't allocate
 parse-fault : (names : Bool) (mode : PartialMode) (t : List ℕ) (e : JsonError)
     → Parses owned_tree ⊥ names mode t (Err e)
     → (stop : ℕ) × (reading_as owned_tree (answer_in names mode t) ≡ fault (kind_of e.error_type) e.index stop)

@@ -32,7 +32,7 @@ use Rattle.jiter.proofs.Walking.{raw_key, sees-raw, sees-whole, skip-ahead, skip
 use Rattle.jiter_c.specs.Parts.{first_part, next_part}
 use Rattle.jiter_c.specs.Replies.{has_part}
 
--- ---- moves and refusals
+-- ---- moves and errors
 -- Where nothing was read the reader stays.
 pub stays : (s s1 : ReaderState) → MovesOn s s1 → MovesOn s s
 stays s s1 m = record { same = refl; forward = omega arith; within = omega (arith, m.forward, m.within) }
@@ -98,7 +98,7 @@ module _ (s : ReaderState) (n : Node) (h : StandsNext s n) where
   pub peek-not_refused : (c : Cause) (x stop : ℕ) → peek s ≡ refused c x stop → ⊥
   peek-not_refused c x stop is = gave-refused (sym peeked.1 ∙ is)
 
-  -- It tells the node's first byte, and the reader stands at the node.
+  -- It tells the node's first byte, and the reader is at the node.
   pub peek-begins : (c i : ℕ) → peek s ≡ gave c i → (start_of c ≡ start_is n) × (i ≡ begin n)
   peek-begins c i is =
       let same = gave-is peeked.0 c (begin n) i (sym peeked.1 ∙ is) in
@@ -463,7 +463,7 @@ module _ (s0 s : ReaderState) (number : ℕ) (h : ItemsTo s0 s true number 0) (b
 abbrev pub named_reply : List ℕ → Reply (Option Text) → Reply (Option Bool)
 named_reply name r = reply_seen (option_map (λ k. bytes_eq k name)) (reply_seen key_bytes r)
 
--- what was told of a key that was lent
+-- what was told of a key that was borrowed
 pub named-given : {A : Type 0} (at : A → List ℕ) (name : List ℕ) (key : Option A) (o : Option Bool)
     (r : Reply (Option Text)) (i : ℕ) → reply_seen key_bytes r ≡ gave (option_map at key) i
     → o ≡ option_map (λ x. bytes_eq (at x) name) key → named_reply name r ≡ gave o i

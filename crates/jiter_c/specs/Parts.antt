@@ -30,19 +30,19 @@ abbrev pub into_read : ReaderState → ℕ → Start → Reply Bool
 into_read s i Start.Object = reply_seen has_part (object_read raw s i Start.Object)
 into_read s i b = reply_seen has_part (array_read s i b)
 
--- where a reply is a refusal, P
+-- where a reply is an error, P
 abbrev pub IfRefused : {A : Type 0} → Reply A → Type 0 → Type 0
 IfRefused (gave a e) P = Unit {0}
 IfRefused (refused c i stop) P = P
 
--- where this reply is a refusal, so is what was returned, of the same cause at the same index, and the reader was left
+-- where this reply is an error, so is what was returned, of the same cause at the same index, and the reader was left
 -- there
 abbrev pub RefusedSo : {X A : Type 0} → Reply A → Result X JiterError → ℕ → Type 0
 RefusedSo (gave a e) result i = Unit {0}
 RefusedSo (refused c x stop) (Ok a) i = ⊥
 RefusedSo (refused c x stop) (Err e) i = (cause_of e.error_type ≡ c) × (e.index ≡ x) × (i ≡ stop)
 
--- a fault tells why one of the reader's calls refused, at a place that lies no further back, and left the reader at i
+-- an error tells why one of the reader's calls refused, at a place that lies no further back, and left the reader at i
 pub record ReportsRefusal (s : ReaderState) (i : ℕ) (f : JiterFault) : Type 0 where
   pub cause : Cause
   pub index : ℕ

@@ -11,7 +11,7 @@ use Rattle.jiter_steps.specs.declared.parse.Literal.{Literal}
 use Rattle.jiter_steps.specs.declared.parse.Start.{Start}
 use Rattle.jiter_c.specs.declared.reader.JiterReader.{JiterReader}
 
--- the library's reader that stands where C's does; one that C puts past the length stands at it
+-- the library's reader that is where C's does; one that C puts past the length is at it
 abbrev pub state_of : JiterReader → ReaderState
 state_of r = record {
   text = r.bytes.now;

@@ -21,7 +21,7 @@ abbrev pub given_or : {A : Type 0} → A → Reply A → A
 given_or before (gave a e) = a
 given_or before (refused c i stop) = before
 
--- the error of a refusal, or what the caller had there before
+-- the error of an error, or what the caller had there before
 abbrev pub fault_or : {A : Type 0} → JiterFault → Reply A → JiterFault
 fault_or before (gave a e) = before
 fault_or before (refused c i stop) = fault_of c i

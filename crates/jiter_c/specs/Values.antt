@@ -1,4 +1,4 @@
--- What C is told of a document behind a handle, and of what lies in it.
+-- What C is told of a document after a handle, and of what lies in it.
 use Rattle.std.specs.Prelude.{◌≡◌, ◌⊎◌, ℕ, pos, zero, suc, Bool, true, false, not, if◌then◌else◌, List, [], ◌∷◌, length}
 use Rattle.std.specs.Prelude.{Float, Option, Some, None, option_map, option_and_then, Result, Ok, Err, Vec}
 use Rattle.std.specs.Float.{binary64}
@@ -46,7 +46,7 @@ HoldsKey (Kind.duplicate_key key) contents =
     HoldsDocument contents (λ w. w ≡ string (record { owned = true; bytes = key }))
 HoldsKey k contents = contents ≡ Contents.Nothing
 
--- A refusal for this kind at this index.
+-- An error for this kind at this index.
 abbrev pub Refuses : Kind → ℕ → Contents → Option JiterFault → Type 0
 Refuses k i contents None = ⊥
 Refuses k i contents (Some f) = (f ≡ fault_of (json_error k) i) × HoldsKey k contents

@@ -125,11 +125,9 @@ pub extern "C" fn jiter_cause(fault: &JiterFault, out: &mut [u8], whole: &mut us
         × (out.new ≡ written (cause_text c) out.old) × (whole.new ≡ length (cause_text c)) }
     ensures kept { result ≡ false → (out.new ≡ out.old) × (whole.new ≡ whole.old) }
 {
-    match write_cause(fault, out) {
-        Some(count) => {
-            *whole = count;
-            true
-        }
-        None => false,
-    }
+    let Some(count) = write_cause(fault, out) else {
+        return false;
+    };
+    *whole = count;
+    true
 }

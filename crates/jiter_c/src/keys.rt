@@ -133,16 +133,14 @@ pub extern "C" fn jiter_next_object_bytes<'j>(
 {
     let mut jiter = jiter_at(reader);
     let read = jiter.next_object_bytes();
-    match answer(reader, &jiter, read, fault) {
-        Some(name) => {
-            *more = name.is_some();
-            *key = JiterText {
-                bytes: name.unwrap_or(b""),
-            };
-            true
-        }
-        None => false,
-    }
+    let Some(name) = answer(reader, &jiter, read, fault) else {
+        return false;
+    };
+    *more = name.is_some();
+    *key = JiterText {
+        bytes: name.unwrap_or(b""),
+    };
+    true
 }
 
 /// Moves to the next key as [`jiter_next_key`] does, and sets `key` to the bytes between its quotes.
@@ -169,14 +167,12 @@ pub extern "C" fn jiter_next_key_bytes<'j>(
 {
     let mut jiter = jiter_at(reader);
     let read = jiter.next_key_bytes();
-    match answer(reader, &jiter, read, fault) {
-        Some(name) => {
-            *more = name.is_some();
-            *key = JiterText {
-                bytes: name.unwrap_or(b""),
-            };
-            true
-        }
-        None => false,
-    }
+    let Some(name) = answer(reader, &jiter, read, fault) else {
+        return false;
+    };
+    *more = name.is_some();
+    *key = JiterText {
+        bytes: name.unwrap_or(b""),
+    };
+    true
 }

@@ -64,7 +64,11 @@ fn position_in(handle: JiterHandle, index: usize) -> (JiterHandle, Option<JiterP
 }
 
 /// Writes the line and column of a byte index in all bytes so far to `position`, as [`crate::faults::jiter_position`]
-/// does. Returns `false` and writes nothing if the handle holds no line index.
+/// does.
+///
+/// # Errors
+///
+/// Returns `false` and writes nothing if the handle holds no line index.
 #[unsafe(no_mangle)]
 pub extern "C" fn jiter_lines_position(
     handle: &mut JiterHandle,
@@ -76,11 +80,9 @@ pub extern "C" fn jiter_lines_position(
         (λ l. (t : List ℕ) → HasPassed l t
         → (result ≡ true) × (position.new ≡ position_view (position_of t index))) }
 {
-    match replace_with(handle, index, |handle, index| position_in(handle, index)) {
-        Some(found) => {
-            *position = found;
-            true
-        }
-        None => false,
-    }
+    let Some(found) = replace_with(handle, index, |handle, index| position_in(handle, index)) else {
+        return false;
+    };
+    *position = found;
+    true
 }

@@ -16,7 +16,7 @@ ghost use Rattle.jiter_c.specs.Replies.{array_reply, next_reply, object_reply, s
 ghost use Rattle.jiter_c.specs.Reports.{Reports, RunsOutAt, UnlessMemory, WhereMemory, fault_or};
 
 use crate::faults::{JiterFault, fault_of};
-use crate::reader::{JiterReader, jiter_at};
+use crate::reader::{JiterReader, answer, jiter_at, report};
 use jiter::{Jiter, JiterResult, Peek};
 use std::alloc::Global;
 
@@ -86,16 +86,11 @@ pub extern "C" fn jiter_count(
     ensures walked { result ≡ true → CountsParts (state_of reader.now) count.new }
     ensures kept { result ≡ false → count.new ≡ count.old }
 {
-    match count_parts(reader) {
-        Ok(parts) => {
-            *count = parts;
-            true
-        }
-        Err(error) => {
-            *fault = fault_of(&error);
-            false
-        }
-    }
+    let Some(parts) = report(count_parts(reader), fault) else {
+        return false;
+    };
+    *count = parts;
+    true
 }
 
 fn find_item(jiter: &mut Jiter<'_>, number: u64) -> JiterResult<bool>
@@ -151,17 +146,11 @@ pub extern "C" fn jiter_item(
 {
     let mut jiter = jiter_at(reader);
     let read = find_item(&mut jiter, number);
-    reader.index = jiter.current_index();
-    match read {
-        Ok(item) => {
-            *found = item;
-            true
-        }
-        Err(error) => {
-            *fault = fault_of(&error);
-            false
-        }
-    }
+    let Some(item) = answer(reader, &jiter, read, fault) else {
+        return false;
+    };
+    *found = item;
+    true
 }
 
 // Only the comparison is kept, so that the key is not borrowed any longer.

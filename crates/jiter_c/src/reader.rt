@@ -1,11 +1,9 @@
 //! The reader that C holds: its peek, its skip and its end.
-ghost use Rattle.std.specs.Prelude.{◌≡◌, IfErr, OnOk, false, true};
+ghost use Rattle.std.specs.Prelude.{◌≡◌};
 ghost use Rattle.std.specs.Result.{result_ok};
-ghost use Rattle.jiter.specs.Errors.{cause_of};
 ghost use Rattle.jiter.specs.Jiter.{byte_of};
 ghost use Rattle.jiter.specs.Reader.{finish, skip_read};
 ghost use Rattle.jiter_steps.specs.Literal.{start_of};
-ghost use Rattle.jiter_c.specs.Faults.{fault_of};
 ghost use Rattle.jiter_c.specs.Replies.{next_reply, peek_reply, start_number, state_of};
 ghost use Rattle.jiter_c.specs.Reports.{Reports, error_or, given_or};
 
@@ -59,17 +57,11 @@ pub extern "C" fn jiter_peek(
 {
     let mut jiter = jiter_at(reader);
     let read = jiter.peek();
-    reader.index = jiter.current_index();
-    match read {
-        Ok(peek) => {
-            *start = start_number(peek);
-            true
-        }
-        Err(error) => {
-            *fault = fault_of(&error);
-            false
-        }
-    }
+    let Some(peek) = answer(reader, &jiter, read, fault) else {
+        return false;
+    };
+    *start = start_number(peek);
+    true
 }
 
 // The first byte does not show whether a number is an integer: all numbers are 8.
@@ -100,8 +92,7 @@ pub extern "C" fn jiter_next_skip(reader: &mut JiterReader<'_>, fault: &mut Jite
 {
     let mut jiter = jiter_at(reader);
     let read = jiter.next_skip();
-    reader.index = jiter.current_index();
-    report(read, fault)
+    answer(reader, &jiter, read, fault).is_some()
 }
 
 /// Checks that only whitespace is left, and moves to the end.
@@ -117,25 +108,10 @@ pub extern "C" fn jiter_finish(reader: &mut JiterReader<'_>, fault: &mut JiterFa
 {
     let mut jiter = jiter_at(reader);
     let read = jiter.finish();
-    reader.index = jiter.current_index();
-    report(read, fault)
+    answer(reader, &jiter, read, fault).is_some()
 }
 
-pub fn report(read: JiterResult<()>, fault: &mut JiterFault) -> bool
-    ensures ok { OnOk read ((result ≡ true) × (fault.new ≡ fault.old)) }
-    ensures err { IfErr read (λ e. (result ≡ false)
-        × (fault.new ≡ fault_of (cause_of e.error_type) e.index)) }
-{
-    match read {
-        Ok(()) => true,
-        Err(error) => {
-            *fault = fault_of(&error);
-            false
-        }
-    }
-}
-
-/// Moves the reader to where a call left the library's, and returns what the call gave, or writes its error.
+/// Moves the reader to where a call left the library's, and returns what the call returned, or writes its error.
 pub fn answer<T: Drop>(
     reader: &mut JiterReader<'_>,
     jiter: &Jiter<'_>,
@@ -147,6 +123,14 @@ pub fn answer<T: Drop>(
     ensures fault { fault.new ≡ error_or fault.old read }
 {
     reader.index = jiter.current_index();
+    report(read, fault)
+}
+
+/// Returns what a call returned, or writes its error.
+pub fn report<T: Drop>(read: JiterResult<T>, fault: &mut JiterFault) -> Option<T>
+    ensures given { result ≡ result_ok read }
+    ensures fault { fault.new ≡ error_or fault.old read }
+{
     match read {
         Ok(given) => Some(given),
         Err(error) => {

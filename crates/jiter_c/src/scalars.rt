@@ -11,7 +11,7 @@ ghost use Rattle.jiter_c.specs.Numbers.{IfGiven, IsNumber, IsUnsigned, ReportsUn
 ghost use Rattle.jiter_c.specs.Reports.{Reports, RunsOutAt, UnlessMemory, WhereMemory, given_or, written};
 
 use crate::faults::{JiterFault, fault_of};
-use crate::reader::{JiterReader, answer, jiter_at, report};
+use crate::reader::{JiterReader, answer, jiter_at};
 use crate::texts::{JiterText, write_prefix};
 use jiter::{NumberAny, NumberInt};
 use std::alloc::Global;
@@ -30,8 +30,7 @@ pub extern "C" fn jiter_next_null(reader: &mut JiterReader<'_>, fault: &mut Jite
 {
     let mut jiter = jiter_at(reader);
     let read = jiter.next_null();
-    reader.index = jiter.current_index();
-    report(read, fault)
+    answer(reader, &jiter, read, fault).is_some()
 }
 
 /// Reads `true` or `false` and writes it to `value`.
@@ -53,13 +52,11 @@ pub extern "C" fn jiter_next_bool(
 {
     let mut jiter = jiter_at(reader);
     let read = jiter.next_bool();
-    match answer(reader, &jiter, read, fault) {
-        Some(truth) => {
-            *value = truth;
-            true
-        }
-        None => false,
-    }
+    let Some(truth) = answer(reader, &jiter, read, fault) else {
+        return false;
+    };
+    *value = truth;
+    true
 }
 
 /// Reads an integer and writes it to `value`.
@@ -123,13 +120,11 @@ pub extern "C" fn jiter_next_number<'j>(
 {
     let mut jiter = jiter_at(reader);
     let read = jiter.next_number_bytes();
-    match answer(reader, &jiter, read, fault) {
-        Some(bytes) => {
-            *text = JiterText { bytes };
-            true
-        }
-        None => false,
-    }
+    let Some(bytes) = answer(reader, &jiter, read, fault) else {
+        return false;
+    };
+    *text = JiterText { bytes };
+    true
 }
 
 /// Reads an integer that has no sign and writes it to `value`.
@@ -141,7 +136,7 @@ pub extern "C" fn jiter_next_number<'j>(
 /// Returns `false` and writes to `fault`:
 ///
 /// - the error that [`jiter::Jiter::next_int`] returns; the reader is then at the value's first byte, or the end
-#[tactic(auto, using(crate::proofs::Numbers::unsigned_told, crate::proofs::Numbers::unsigned_missing, crate::proofs::Numbers::unsigned_refused))]
+#[tactic(auto, using(crate::proofs::Numbers::unsigned_told, crate::proofs::Numbers::unsigned_refused))]
 #[unsafe(no_mangle)]
 pub extern "C" fn jiter_next_u64(
     reader: &mut JiterReader<'_>,
@@ -155,26 +150,13 @@ pub extern "C" fn jiter_next_u64(
 {
     let mut jiter = jiter_at(reader);
     let read = jiter.next_int();
-    reader.index = jiter.current_index();
-    match read {
-        Ok(number) => {
-            match unsigned_of(&number) {
-                Some(unsigned) => {
-                    *fits = true;
-                    *value = unsigned;
-                }
-                None => {
-                    *fits = false;
-                    *value = 0_u64;
-                }
-            }
-            true
-        }
-        Err(error) => {
-            *fault = fault_of(&error);
-            false
-        }
-    }
+    let Some(number) = answer(reader, &jiter, read, fault) else {
+        return false;
+    };
+    let unsigned = unsigned_of(&number);
+    *fits = unsigned.is_some();
+    *value = unsigned.unwrap_or(0);
+    true
 }
 
 fn unsigned_of(number: &NumberInt<'_>) -> Option<u64>
@@ -222,23 +204,17 @@ pub extern "C" fn jiter_next_double(
 {
     let mut jiter = jiter_at(reader);
     let number = jiter.next_number_bytes();
-    reader.index = jiter.current_index();
-    match number {
-        Ok(bytes) => {
-            match double_of(bytes) {
-                Some(double) => {
-                    *value = double;
-                    *finite = double.is_finite();
-                }
-                None => *finite = false,
-            }
-            true
+    let Some(bytes) = answer(reader, &jiter, number, fault) else {
+        return false;
+    };
+    match double_of(bytes) {
+        Some(double) => {
+            *value = double;
+            *finite = double.is_finite();
         }
-        Err(error) => {
-            *fault = fault_of(&error);
-            false
-        }
+        None => *finite = false,
     }
+    true
 }
 
 /// Returns the double nearest to a number's text.
@@ -259,14 +235,12 @@ pub extern "C" fn jiter_double(bytes: &[u8], value: &mut f64, finite: &mut bool)
         ((result ≡ false) × (value.new ≡ value.old) × (finite.new ≡ finite.old))
         (λ x. (result ≡ true) × (value.new ≡ x) × (finite.new ≡ float_is_finite x)) }
 {
-    match double_of(bytes) {
-        Some(nearest) => {
-            *value = nearest;
-            *finite = nearest.is_finite();
-            true
-        }
-        None => false,
-    }
+    let Some(nearest) = double_of(bytes) else {
+        return false;
+    };
+    *value = nearest;
+    *finite = nearest.is_finite();
+    true
 }
 
 /// A number, whichever it is.
@@ -329,17 +303,11 @@ pub extern "C" fn jiter_next_any_number<'j>(
 {
     let mut jiter = jiter_at(reader);
     let read = jiter.next_number();
-    reader.index = jiter.current_index();
-    match read {
-        Ok(found) => {
-            *number = number_of(found);
-            true
-        }
-        Err(error) => {
-            *fault = fault_of(&error);
-            false
-        }
-    }
+    let Some(found) = answer(reader, &jiter, read, fault) else {
+        return false;
+    };
+    *number = number_of(found);
+    true
 }
 
 /// Reads a string and sets `text` to the bytes between its quotes.
@@ -363,13 +331,11 @@ pub extern "C" fn jiter_next_bytes<'j>(
 {
     let mut jiter = jiter_at(reader);
     let read = jiter.next_bytes();
-    match answer(reader, &jiter, read, fault) {
-        Some(bytes) => {
-            *text = JiterText { bytes };
-            true
-        }
-        None => false,
-    }
+    let Some(bytes) = answer(reader, &jiter, read, fault) else {
+        return false;
+    };
+    *text = JiterText { bytes };
+    true
 }
 
 /// Reads a string and writes it, decoded, to `out`.

@@ -26,13 +26,11 @@ pub extern "C" fn jiter_next_array(
 {
     let mut jiter = jiter_at(reader);
     let read = jiter.next_array();
-    match answer(reader, &jiter, read, fault) {
-        Some(item) => {
-            *more = item.is_some();
-            true
-        }
-        None => false,
-    }
+    let Some(item) = answer(reader, &jiter, read, fault) else {
+        return false;
+    };
+    *more = item.is_some();
+    true
 }
 
 /// Moves past the comma after an item.
@@ -55,11 +53,9 @@ pub extern "C" fn jiter_array_step(
 {
     let mut jiter = jiter_at(reader);
     let read = jiter.array_step();
-    match answer(reader, &jiter, read, fault) {
-        Some(item) => {
-            *more = item.is_some();
-            true
-        }
-        None => false,
-    }
+    let Some(item) = answer(reader, &jiter, read, fault) else {
+        return false;
+    };
+    *more = item.is_some();
+    true
 }

@@ -291,11 +291,17 @@ fn value_at(
     (close(contents), value)
 }
 
-/// Writes what the document has at a place to `value`, and returns whether it has anything there. If the handle holds
-/// no document, there is nothing.
+/// Writes what the document has at a place to `value`.
 ///
 /// The place is what the JSON Pointer leads to (RFC 6901), and from there one item or member for each step, by its
 /// index. An empty pointer and no steps lead to the document's value.
+///
+/// # Errors
+///
+/// Returns `false` and writes nothing:
+///
+/// - if the place leads nowhere
+/// - if the handle holds no document
 #[tactic(auto, using(crate::proofs::DocumentReports::value_found, crate::proofs::DocumentReports::value_missing))]
 #[unsafe(no_mangle)]
 pub extern "C" fn jiter_document_at(
@@ -309,15 +315,14 @@ pub extern "C" fn jiter_document_at(
         (λ v. MatchOption (placed pointer.now steps.now v) ((result ≡ false) × (value.new ≡ value.old))
         (λ w. (result ≡ true) × (value.new ≡ value_report w))) }
 {
-    match replace_with(
+    let found = replace_with(
         handle,
         pointer,
         |handle, pointer| value_at(handle, pointer, steps),
-    ) {
-        Some(found) => {
-            *value = found;
-            true
-        }
-        None => false,
-    }
+    );
+    let Some(found) = found else {
+        return false;
+    };
+    *value = found;
+    true
 }

@@ -269,14 +269,12 @@ pub extern "C" fn jiter_document_count(
         (λ v. (result ≡ true) × (nodes.new ≡ capped (length (table_of v)))
         × (bytes.new ≡ capped (length (texts_of v)))) }
 {
-    match replace_with(handle, (), |handle, _| count_in(handle)) {
-        Some(counted) => {
-            *nodes = counted.0;
-            *bytes = counted.1;
-            true
-        }
-        None => false,
-    }
+    let Some(counted) = replace_with(handle, (), |handle, _| count_in(handle)) else {
+        return false;
+    };
+    *nodes = counted.0;
+    *bytes = counted.1;
+    true
 }
 
 // The table is written while the handle holds nothing: a closure can't write to memory of the caller's.

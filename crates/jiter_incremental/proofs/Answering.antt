@@ -6,8 +6,8 @@ use Rattle.jiter_incremental.proofs.Words.{fault_kind, allows_trailing_strings, 
 use Rattle.jiter_incremental.proofs.Words.{items_frame, members_frame, HasTaken, text_or, prefix_answer, end_kind_of}
 use Rattle.jiter_incremental.proofs.Words.{content_at, kept, Tree, ContainerKind, PartialString, ended, Arrived, IsLeft}
 use Rattle.jiter_incremental.proofs.Words.{OpenValue, at_end, at_value, between_parts, end_of, owned, shown}
-use Rattle.jiter_incremental.proofs.Words.{after_value, Document, HasArrived, HasCome, IsMoved, Known, Opened, ReadsAt}
-use Rattle.jiter_incremental.proofs.Words.{Settled, anything, between_tokens, by_mode, in_key, in_scalar, is_shown}
+use Rattle.jiter_incremental.proofs.Words.{after_value, Document, HasArrived, HasTakenAll, IsMoved, ReadSoFar, Opened, ReadsAt}
+use Rattle.jiter_incremental.proofs.Words.{Settled, any_bytes, between_tokens, by_mode, in_key, in_scalar, is_shown}
 use Rattle.jiter_incremental.proofs.Words.{opened_to, shown_as, strict, strictly, token_tree, AnswersSo, IsEndFault}
 use Rattle.jiter_incremental.proofs.Words.{KeepsText, broken_as, is_broken, kind_at_end, so_far, OpenFrame, filled}
 use Rattle.jiter_incremental.proofs.Words.{rules_as, view, Token, Settings, JsonValue}
@@ -34,7 +34,7 @@ left-tree v (at_value b (f ∷ fs)) h w is = h.2.1 ∙ same_Some _ _ is
 left-tree v (between_parts b k xs fs) h w is = h.3 ∙ same_Some _ _ is
 left-tree v (at_end x n) h w is = h.2 ∙ same_Some _ _ is
 
--- and so is what is left after a value that stands there.
+-- and so is what is left after a value that is there.
 after-tree : (v x : Tree) (fs : List OpenFrame) → v ≡ filled fs x → (w : Tree) → shown (after_value x fs) ≡ Some w
     → v ≡ w
 after-tree v x [] h w is = h ∙ same_Some _ _ is
@@ -87,13 +87,13 @@ root-so d t (in_key fs ms b) s w is =
     let hidden = s.shows ∙ shown-key s.apart s.held.2 in
     ap (λ v. v.tree) (hidden-so d t o s hidden).2 ∙ s.held.6 ∙ same_Some _ _ is
 
--- The value so far stands at the root.
+-- The value so far is at the root.
 pub root-told : (p : Settings) (t : List ℕ) (x : Option Fault) (o : Option Tree) (v : Tree)
     → ((w : Tree) → o ≡ Some w → v ≡ w) → AnswersSo p t x o → AnswersSo p t x (Some v)
 root-told p t None o v same h = (h.0, ap Some (same h.0 h.1), h.2)
 root-told p t (Some f) o v same h = h
 
--- ---- the fault of the end
+-- ---- the error of the end
 
 -- the containers that are open round a value
 inside-after : (depth : ℕ) (v x : Tree) (fs : List OpenFrame) (r : Option FaultKind) → depth ≡ length fs
@@ -269,15 +269,15 @@ module _ (d : Document) (t : List ℕ) (h : HasArrived d t) (unset : d.fault ≡
       subst (λ q. prefix_answer (rules_as owned q) t ≡ opened_to q t o (length t)) (settings-are d t o settled)
       (nothing-comes d.settings t o (subst (λ f. ReadsAt d.settings t [] f o) unset (h.read.known.reads by_mode [] tt)))
 
-  known-apart : Known anything e t o
+  known-apart : ReadSoFar any_bytes e t o
   known-apart =
-      known-as anything d e t o (
+      known-as any_bytes d e t o (
         sym (settings-are d t o settled),
         sym (ap (λ (x : Document). x.fault) settled.same),
         sym (ap (λ (x : Document). x.first) settled.same),
       ) h.read.known
 
-  come-apart : HasCome e t
+  come-apart : HasTakenAll e t
   come-apart = record {
     read = record { opened = o; known = known-apart; held = λ none. settled.held };
     position = sym (position-is d t o settled) ∙ h.position;

@@ -7,9 +7,9 @@ use Rattle.jiter_incremental.proofs.Words.{items_frame, begins_part, closer_of, 
 use Rattle.jiter_incremental.proofs.Words.{step, stuck, ContainerKind, PartTree, built, fault, Text, Tree, Arrived}
 use Rattle.jiter_incremental.proofs.Words.{IsBeforeValue, IsBetweenParts, IsLeft, OpenValue, at_value, at_end}
 use Rattle.jiter_incremental.proofs.Words.{between_parts, ClosesBefore, Everywhere, IsBeforePart, TakesByte, completed}
-use Rattle.jiter_incremental.proofs.Words.{Document, HasReadIn, HasTakenIn, Known, Next, Opened, IsRefused, StandsAt}
-use Rattle.jiter_incremental.proofs.Words.{anything, between_tokens, in_key, with_byte, AwaitsKey, AwaitsValue}
-use Rattle.jiter_incremental.proofs.Words.{HasReadTo, IsAt, IsHere, IsStill, Moves, Steps, ahead, ahead_as, document}
+use Rattle.jiter_incremental.proofs.Words.{Document, HasReadIn, HasTakenIn, ReadSoFar, Next, Opened, IsRefused, StandsAt}
+use Rattle.jiter_incremental.proofs.Words.{any_bytes, between_tokens, in_key, with_byte, AwaitsKey, AwaitsValue}
+use Rattle.jiter_incremental.proofs.Words.{HasReadTo, IsAt, IsHere, IsStill, MovesBy, Steps, ahead, ahead_as, document}
 use Rattle.jiter_incremental.proofs.Words.{next_of, noted, refused, after_level, OpenFrame, filled, Awaits, Reader}
 use Rattle.jiter_incremental.proofs.Words.{Token, append_assoc, past_blanks, past_blanks-blank, slice_range-split}
 use Rattle.jiter_scan.specs.Ascii as ascii
@@ -31,11 +31,11 @@ zero-more n = omega arith
 
 -- Before a value nothing is known of what comes.
 ahead-value : (k : Token) (a : Awaits) (chunk : List ℕ) (n : ℕ) → k ≡ token.Nothing → a ≡ awaits.Value
-    → ahead_as k a chunk n ≡ anything
+    → ahead_as k a chunk n ≡ any_bytes
 ahead-value k a chunk n none is = rw (none, is) refl
 
 ahead-before : (k : Token) (a : Awaits) (chunk : List ℕ) (n : ℕ) → k ≡ token.Nothing → IsBeforePart a
-    → ahead_as k a chunk n ≡ anything
+    → ahead_as k a chunk n ≡ any_bytes
 ahead-before k awaits.First chunk n none before = rw none refl
 ahead-before k awaits.Next chunk n none before = rw none refl
 ahead-before k a chunk n none before = absurd before
@@ -45,12 +45,12 @@ comma-between a is = subst IsBetweenParts (sym is) tt
 
 -- The next byte of the chunk comes next.
 known-as-byte : (chunk : List ℕ) (i : ℕ) → i < length chunk → (d : Document) (t : List ℕ) (o : Opened)
-    → Known (next_of (slice_get chunk i)) d t o → Known (with_byte (slice_index chunk i)) d t o
+    → ReadSoFar (next_of (slice_get chunk i)) d t o → ReadSoFar (with_byte (slice_index chunk i)) d t o
 known-as-byte chunk i within d t o k =
-    subst (λ x. Known (next_of x) d t o) (slice_get-get_or chunk i 0 within) k
+    subst (λ x. ReadSoFar (next_of x) d t o) (slice_get-get_or chunk i 0 within) k
 
 known-next : (k : Token) (a : Awaits) (chunk : List ℕ) (i : ℕ) → i < length chunk → (d : Document) (t : List ℕ) (o : Opened)
-    → Known (ahead_as k a chunk i) d t o → Known (with_byte (slice_index chunk i)) d t o
+    → ReadSoFar (ahead_as k a chunk i) d t o → ReadSoFar (with_byte (slice_index chunk i)) d t o
 known-next token.Nothing awaits.Comma chunk i within d t o k = known-as-byte chunk i within d t o k
 known-next token.Nothing awaits.Nothing chunk i within d t o k = known-as-byte chunk i within d t o k
 known-next k a chunk i within d t o h = known-any (with_byte (slice_index chunk i)) d t o h
@@ -66,7 +66,7 @@ hidden-nothing n d t h unset none =
 -- What is open before the byte, where no token is unfinished
 pub record Here (c : ℕ) (d : Document) (t : List ℕ) : Type 0 where
   pub state : Arrived
-  pub known : Known (with_byte c) d t (between_tokens state)
+  pub known : ReadSoFar (with_byte c) d t (between_tokens state)
   pub left : IsLeft d.value state
 
 pub here-at : (chunk : List ℕ) (i : Reader) (x : Tree) (t : List ℕ) → i.at < length chunk → i.fault ≡ None
@@ -102,7 +102,7 @@ module _ (level : ℕ) (chunk : List ℕ) (i : Reader) (v : Tree) (h : IsHere le
         → Steps level chunk i v (turned i a n k) w 1
     byte-taken a n k w up down low takes =
         let j = turned i a n k in
-        let moves : Moves level chunk i j 1 =
+        let moves : MovesBy level chunk i j 1 =
         record {
           within = omega (arith, h.inside);
           some = inl (omega arith);
@@ -121,7 +121,7 @@ module _ (level : ℕ) (chunk : List ℕ) (i : Reader) (v : Tree) (h : IsHere le
     -- It is refused there,
     pub byte-refused : (kind : FaultKind) → ((t : List ℕ) (outer : List OpenFrame) → IsAt level outer → (s : Arrived)
         → StandsAt c (document i (filled outer v)) t s → IsLeft (document i (filled outer v)).value s
-        → IsRefused (document i (filled outer v)) anything (t ++ c ∷ []) (fault_kind kind) (i.base + i.at))
+        → IsRefused (document i (filled outer v)) any_bytes (t ++ c ∷ []) (fault_kind kind) (i.base + i.at))
         → Steps level chunk i v (refused i kind (i.base + i.at)) v 1
     byte-refused kind fails =
         let j = refused i kind (i.base + i.at) in
@@ -132,7 +132,7 @@ module _ (level : ℕ) (chunk : List ℕ) (i : Reader) (v : Tree) (h : IsHere le
         let b = here-at chunk i x t h.inside h.unset none r in
         let stands : StandsAt c d t b.state =
         record { known = b.known; token = none; unset = h.unset; position = r.position } in
-        refuses (with_byte c) anything d t (c ∷ []) (between_tokens b.state) kind d.position h.unset b.known
+        refuses (with_byte c) any_bytes d t (c ∷ []) (between_tokens b.state) kind d.position h.unset b.known
         (follows-byte c) (fails t outer at b.state stands b.left))
 
     -- where it is an error whatever comes.
@@ -327,7 +327,7 @@ module _ (level : ℕ) (chunk : List ℕ) (i : Reader) (v : Tree) (h : IsHere le
           let a = at-value d.value awaits.Value b.state is tt b.left in (
             a.frames,
             record {
-              known = subst (λ s. Known (with_byte c) d t (between_tokens s)) a.all b.known;
+              known = subst (λ s. ReadSoFar (with_byte c) d t (between_tokens s)) a.all b.known;
               part = a.left;
               key = a.key;
               position = r.position;
@@ -351,7 +351,7 @@ module _ (level : ℕ) (chunk : List ℕ) (i : Reader) (v : Tree) (h : IsHere le
             (begins p.shape p.parts p.whole);
       } where
         by : (t : List ℕ) (outer : List OpenFrame) → HasReadTo chunk i (filled outer v) t → (s : Arrived)
-            → Known (with_byte c) (document i (filled outer v)) t (between_tokens s)
+            → ReadSoFar (with_byte c) (document i (filled outer v)) t (between_tokens s)
             → (b : ContainerKind) (xs : List (PartTree b)) → s ≡ between_parts i.awaits b xs outer → v ≡ built b xs
             → i.depth ≡ length outer + 1 → b ≡ shape.Array → begins_part b c ≡ true
             → (fs : List OpenFrame) × ValueHere c (document i (filled outer v)) t fs
@@ -400,7 +400,7 @@ module _ (level : ℕ) (chunk : List ℕ) (i : Reader) (v : Tree) (h : IsHere le
             eqb-true c ascii.quote (subst (λ b. begins_part b c ≡ true) (object p.shape p.parts p.whole) first)
 
         by : (t : List ℕ) (outer : List OpenFrame) → HasReadTo chunk i (filled outer v) t → (s : Arrived)
-            → Known (with_byte c) (document i (filled outer v)) t (between_tokens s)
+            → ReadSoFar (with_byte c) (document i (filled outer v)) t (between_tokens s)
             → (b : ContainerKind) (xs : List (PartTree b)) → s ≡ between_parts i.awaits b xs outer → v ≡ built b xs
             → i.depth ≡ length outer + 1 → b ≡ shape.Object → begins_part b c ≡ true
             → (fs : List OpenFrame) × (ms : List (Text × Tree)) × KeyHere c (document i (filled outer v)) t fs ms
@@ -460,7 +460,7 @@ module _ (level : ℕ) (chunk : List ℕ) (i : Reader) (v : Tree) (h : IsHere le
         → (j.depth ≡ i.depth) × (j.token ≡ i.token) × (j.shown ≡ i.shown)
         → ((b : ℕ) (t : List ℕ) (x : Tree) (s : Arrived) → StandsAt b (document i x) t s
         → IsLeft (document i x).value s → i.awaits ≡ awaits.Nothing → is_blank b ≡ false
-        → HasTakenIn anything (document j x) (t ++ b ∷ []))
+        → HasTakenIn any_bytes (document j x) (t ++ b ∷ []))
         → Steps level chunk i v j v 1
     trailed j root after other still same taken =
         steps-one level chunk i v j v h.inside (moves-one level chunk i h.here h.low j h.inside still same.0) (same.2 ∙ hidden-here)
@@ -485,7 +485,7 @@ blanks-step level chunk i v h none n some end within =
           let x = filled outer v in
           let d = document i x in
           let b = here-at chunk i x t h.inside h.unset none r in
-          let one : HasTakenIn anything d (t ++ c ∷ []) =
+          let one : HasTakenIn any_bytes d (t ++ c ∷ []) =
           takes-byte d d.value c t b.state b.known none (goes-blank d.value b.state c blank b.left) in
           let rest : (i.at + 1) + (n - 1) ≡ past_blanks chunk (i.at + 1) = omega (arith, end, next, some) in
           let more = run-taken d (t ++ c ∷ []) one h.unset none chunk (i.at + 1) (n - 1) rest (omega (arith, h.inside)) in
@@ -498,7 +498,7 @@ blanks-step level chunk i v h none n some end within =
           ∙ sym (slice_range-split chunk i.at (i.at + 1) (omega arith) (i.at + n) (omega (arith, some)))) in
           let u = t ++ slice_range chunk i.at (i.at + n) in
           read-any (ahead i chunk (i.at + n)) d u
-          (reads-apart anything d u (subst (HasTakenIn anything d) bytes more) (hidden-here level chunk i v h none));
+          (reads-apart any_bytes d u (subst (HasTakenIn any_bytes d) bytes more) (hidden-here level chunk i v h none));
       complete = λ unset _. shown-nothing (document i v) none;
       moves =
           moves-here level chunk i h.here h.low i n some within (refl, refl, refl) refl;

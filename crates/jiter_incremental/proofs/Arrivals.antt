@@ -1,8 +1,8 @@
 -- What is open of a document that arrives in chunks is, where the text ends, its value so far.
 use Rattle.jiter_incremental.proofs.Words.{◌≡◌, ℕ, suc, ◌-◌, ◌≤◌, true, false, List, [], ◌∷◌, ◌++◌, length, refl, ap}
 use Rattle.jiter_incremental.proofs.Words.{◌∙◌, arith, slice_get, Option, Some, None, slice_get_past, none-some}
-use Rattle.jiter_incremental.proofs.Words.{same_Some, if-true, if-false, failed, Extent, whole-is, Kind, is_forgiven}
-use Rattle.jiter_incremental.proofs.Words.{eof_object, eof_value, is_active, extent_then, items_frame, members_frame}
+use Rattle.jiter_incremental.proofs.Words.{same_Some, if-true, if-false, failed, Span, whole-is, Kind, is_forgiven}
+use Rattle.jiter_incremental.proofs.Words.{eof_object, eof_value, is_active, span_then, items_frame, members_frame}
 use Rattle.jiter_incremental.proofs.Words.{resume, parts_from, array_in, object_in, parts_step, Rules, done, fault}
 use Rattle.jiter_incremental.proofs.Words.{prefix_answer, whole_answer, to_end, Step, container_step, stuck, step}
 use Rattle.jiter_incremental.proofs.Words.{end_kind_of, colon, value_first, Text, Tree, array, object, items_of}
@@ -15,7 +15,7 @@ use Rattle.jiter_steps.specs.declared.parse.ContainerKind.TheVariants as shape
 use Rattle.jiter_steps.proofs.Calls.Resumed.{resume-forgiven}
 use Rattle.jiter_steps.proofs.Cut.Halting.{end-forgiven}
 use Rattle.jiter_steps.proofs.Reading.BothShapes.{end_kind-early}
-use Rattle.jiter_incremental.specs.Arrived.{value_extent}
+use Rattle.jiter_incremental.specs.Arrived.{value_span}
 use Rattle.jiter_incremental.specs.declared.reader.Awaits.TheVariants as awaits
 
 -- at the end of the text a step decides by that
@@ -62,7 +62,7 @@ module _ (p : Settings) (t : List ℕ) (on : is_active p.mode ≡ true) (j : ℕ
       (step t c.next j) s.1 s.2)
       ∙ all-close fs (around (members_frame ms k) x)
 
-  -- a fault of the value that is awaited
+  -- an error of the value that is awaited
   pub fault-closes : (f : OpenFrame) (fs : List OpenFrame) (k : Kind) (i : ℕ) → is_forgiven k ≡ true
       → resume mild t (f ∷ fs) (fault k i j) ≡ done (filled fs (begun f)) j
   fault-closes (items_frame xs) fs k i h =
@@ -77,16 +77,16 @@ module _ (p : Settings) (t : List ℕ) (on : is_active p.mode ≡ true) (j : ℕ
   ends : Sticks t j
   ends = sticks-past t j past
 
-  -- what is awaited there is a fault of the end
+  -- what is awaited there is an error of the end
   record Fails (x : Reading Tree) : Type 0 where
     kind : Kind
     is : x ≡ fault kind j j
     ok : is_forgiven kind ≡ true
 
-  value-fails : (a : Awaits) (depth : ℕ) → Fails (value_then r t depth (value_extent r t a j))
+  value-fails : (a : Awaits) (depth : ℕ) → Fails (value_then r t depth (value_span r t a j))
   value-fails awaits.Colon depth = record {
     kind = eof_object;
-    is = ap (λ x. value_then r t depth (extent_then x (step t value_first))) (step-past t colon j past);
+    is = ap (λ x. value_then r t depth (span_then x (step t value_first))) (step-past t colon j past);
     ok = refl;
   }
   value-fails a depth = record {
@@ -134,7 +134,7 @@ led-answers p t s v on led h =
     let r = rules_as owned p in
     (end.0, if-true (is_active p.mode) (prefix_answer r t) (whole_answer r t) on ∙ led ∙ end.1)
 
--- The same with partial reading off: the end is a fault there, unless the value is whole.
+-- The same with partial reading off: the end is an error there, unless the value is whole.
 module _ (p : Settings) (t : List ℕ) (off : is_active p.mode ≡ false) where
   abbrev strict : Rules Text Tree
   strict = rules_as owned p
@@ -148,7 +148,7 @@ module _ (p : Settings) (t : List ℕ) (off : is_active p.mode ≡ false) where
   row-past : {A : Type 0} (row : ℕ → Option ℕ → A) → step t row end ≡ row end None
   row-past row = step-past t row end (omega arith)
 
-  value-ends : (fs : List OpenFrame) (k : Kind) (x : Extent) → x ≡ failed k end
+  value-ends : (fs : List OpenFrame) (k : Kind) (x : Span) → x ≡ failed k end
       → resume strict t fs (value_then strict t (length fs) x) ≡ fault k end end
   value-ends fs k x is =
       ap (λ y. resume strict t fs (value_then strict t (length fs) y)) is
@@ -166,7 +166,7 @@ module _ (p : Settings) (t : List ℕ) (off : is_active p.mode ≡ false) where
   leads-end : (s : Arrived) (k : Kind) → end_of s ≡ Some k → leads_on strict t s end ≡ fault k end end
   leads-end (at_value awaits.Colon fs) k h =
       value-ends fs k _
-      (ap (λ (x : Extent). extent_then x (step t value_first)) (row-past colon)
+      (ap (λ (x : Span). span_then x (step t value_first)) (row-past colon)
       ∙ ap (λ k. failed k end) (same_Some _ _ h))
   leads-end (at_value a fs) k h =
       value-ends fs k _ (row-past value_first ∙ ap (λ k. failed k end) (same_Some _ _ h))

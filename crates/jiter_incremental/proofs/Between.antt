@@ -3,8 +3,8 @@ use Rattle.jiter_incremental.proofs.Words.{◌≡◌, ℕ, suc, ◌+◌, ◌-◌
 use Rattle.jiter_incremental.proofs.Words.{length, get_or, refl, sym, subst, ap, ◌∙◌, arith, add-one, inl, inr, eq-eqb}
 use Rattle.jiter_incremental.proofs.Words.{ne_eqb, slice_get, Option, Some, None, slice_get_within}
 use Rattle.jiter_incremental.proofs.Words.{get_or_from_slice_get, if_case, if-true, if-false, Kind, is_forgiven}
-use Rattle.jiter_incremental.proofs.Words.{expected_value, trailing_comma, extent_then, is_active, taken, failed}
-use Rattle.jiter_incremental.proofs.Words.{Extent, nothing_forgiven, is_blank, past_blanks, items_frame, members_frame}
+use Rattle.jiter_incremental.proofs.Words.{expected_value, trailing_comma, span_then, is_active, taken, failed}
+use Rattle.jiter_incremental.proofs.Words.{Span, nothing_forgiven, is_blank, past_blanks, items_frame, members_frame}
 use Rattle.jiter_incremental.proofs.Words.{resume, value_in, value_from, key_from, array_in, object_in, parts_from}
 use Rattle.jiter_incremental.proofs.Words.{parts_step, start_of, Step, closed, stuck, step, colon, value_first, opening}
 use Rattle.jiter_incremental.proofs.Words.{begins_part, closer_of, comma_kind_of, container_comma, Rules, done, fault}
@@ -59,7 +59,7 @@ module _ (p : Settings) (t : List ℕ) where
   builds shape.Array xs depth e = refl
   builds shape.Object xs depth e = refl
 
-  -- A byte stands at j.
+  -- A byte is at j.
   module _ (j c : ℕ) (here : slice_get t j ≡ Some c) where
     within : j < length t
     within = slice_get_within t j c here
@@ -71,13 +71,13 @@ module _ (p : Settings) (t : List ℕ) where
     blank-step row h =
         ap (λ m. row m (slice_get t m)) (past_blanks-blank t j within (ap is_blank is ∙ h))
 
-    -- a blank
+    -- whitespace
     pub leads-blank : (s : Arrived) → is_blank c ≡ true → completed p t s j ≡ completed p t (passed s) (j + 1)
     leads-blank (at_value awaits.Colon fs) h =
-        ap (λ (x : Extent). resume r t fs (value_then r t (length fs) (extent_then x (step t value_first))))
+        ap (λ (x : Span). resume r t fs (value_then r t (length fs) (span_then x (step t value_first))))
         (blank-step colon h)
     leads-blank (at_value a fs) h =
-        ap (λ (x : Extent). resume r t fs (value_then r t (length fs) x)) (blank-step value_first h)
+        ap (λ (x : Span). resume r t fs (value_then r t (length fs) x)) (blank-step value_first h)
     leads-blank (between_parts a k xs fs) h =
         ap (λ u. resume r t fs (parts_step r t (container_of r t k (length fs)) xs u)) (blank-step (part_row r t a k) h)
     leads-blank (at_end v n) h = let same : j - n ≡ j + 1 - (n + 1) = omega arith in ap (done v) same
@@ -90,7 +90,7 @@ module _ (p : Settings) (t : List ℕ) where
 
       -- where a value is awaited,
       pub value-here : (fs : List OpenFrame) → completed p t (at_value awaits.Value fs) j ≡ value_from r t fs j
-      value-here fs = ap (λ (x : Extent). resume r t fs (value_then r t (length fs) x)) (here-step value_first)
+      value-here fs = ap (λ (x : Span). resume r t fs (value_then r t (length fs) x)) (here-step value_first)
 
       value-fails : (fs : List OpenFrame) (k : Kind) → value_in r t (length fs) j ≡ fault k j j → is_forgiven k ≡ false
           → completed p t (at_value awaits.Value fs) j ≡ fault k j j
@@ -122,11 +122,11 @@ module _ (p : Settings) (t : List ℕ) where
           ∙ sym (step-to r t (object_in r t (length fs)) fs [] s u refl)
 
       -- where a colon is,
-      colon-here : (fs : List OpenFrame) (x : Extent) → colon j (Some c) ≡ x
+      colon-here : (fs : List OpenFrame) (x : Span) → colon j (Some c) ≡ x
           → completed p t (at_value awaits.Colon fs) j
-          ≡ resume r t fs (value_then r t (length fs) (extent_then x (step t value_first)))
+          ≡ resume r t fs (value_then r t (length fs) (span_then x (step t value_first)))
       colon-here fs x h =
-          ap (λ (x : Extent). resume r t fs (value_then r t (length fs) (extent_then x (step t value_first))))
+          ap (λ (x : Span). resume r t fs (value_then r t (length fs) (span_then x (step t value_first))))
           (here-step colon ∙ h)
 
       pub colon-taken : (fs : List OpenFrame) → (c == 58) ≡ true
@@ -327,7 +327,7 @@ module _ (a : Awaits) (h : ContainerKind) (xs : List (PartTree h)) (fs : List Op
         → Everywhere c (λ p t j. completed p t there j ≡ fault k j j)
     goes-wrong k row bad = λ p t j here. part-wrong p t j c here other a h xs fs k (row p t j) (kept p t k bad)
 
--- and of a blank.
+-- and of whitespace.
 passed-left : (v : OpenValue) (s : Arrived) → IsLeft v s → IsLeft v (passed s)
 passed-left v (at_value a fs) h = h
 passed-left v (between_parts a k xs fs) h = h
@@ -412,7 +412,7 @@ key-read p t j e ms fs k lt read =
     (parts_at_is r t c (container_in-goes r t (rules_as-advances owned p t) shape.Object (length fs)) ms j lt refl
     ∙ ap (after_part r c t (parts_from r t c) ms) (ap (after_key inner t j) read ∙ by r t fs k (object_colon t e)))
   where
-    by : (r : Rules Text Tree) (t : List ℕ) (fs : List OpenFrame) (k : Text) (x : Extent)
+    by : (r : Rules Text Tree) (t : List ℕ) (fs : List OpenFrame) (k : Text) (x : Span)
         → after_colon k (value_in r t (suc (length fs))) x ≡ with_key k (value_then r t (suc (length fs)) x)
     by r t fs k (taken u j) = refl
     by r t fs k (failed kind j) = refl

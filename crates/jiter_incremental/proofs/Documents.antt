@@ -16,11 +16,11 @@ use Rattle.jiter_incremental.proofs.Words.{members_frame, value_from, value_in, 
 use Rattle.jiter_incremental.proofs.Words.{to_end, whole_answer, Tree, HasTaken, nesting_limit, ContainerKind, Arrived}
 use Rattle.jiter_incremental.proofs.Words.{HasRead, IsBeforeValue, IsBetweenParts, IsLeft, OpenValue, at_end, at_value}
 use Rattle.jiter_incremental.proofs.Words.{between_parts, owned, ClosesBefore, EndsHere, Everywhere, TakesByte}
-use Rattle.jiter_incremental.proofs.Words.{after_value, completed, passed, BeginsAs, BeginsHere, Comes, Document}
-use Rattle.jiter_incremental.proofs.Words.{EndsRight, Follows, HasCome, HasTakenIn, Holding, HoldsScalar, HoldsWord}
-use Rattle.jiter_incremental.proofs.Words.{IsAllowed, IsOver, IsReadAs, IsReading, IsRefused, Known, Next, Opened}
+use Rattle.jiter_incremental.proofs.Words.{after_value, completed, passed, BeginsAs, BeginsHere, MayFollow, Document}
+use Rattle.jiter_incremental.proofs.Words.{EndsRight, Follows, HasTakenAll, HasTakenIn, HoldsOpened, HoldsScalar, HoldsWord}
+use Rattle.jiter_incremental.proofs.Words.{IsAllowed, IsOver, IsReadAs, IsReading, IsRefused, ReadSoFar, Next, Opened}
 use Rattle.jiter_incremental.proofs.Words.{ReadsAt, Strictness, by_mode, fault_by, settings_by, strict, StandsAt}
-use Rattle.jiter_incremental.proofs.Words.{anything, between_tokens, in_key, in_scalar, noted_in, opened_to, strictly}
+use Rattle.jiter_incremental.proofs.Words.{any_bytes, between_tokens, in_key, in_scalar, noted_in, opened_to, strictly}
 use Rattle.jiter_incremental.proofs.Words.{with_byte, with_first, name_start, OpenFrame, answer_as, rules_as, PartTree}
 use Rattle.jiter_incremental.proofs.Words.{Token, Awaits, Settings}
 use Rattle.jiter_scan.specs.Kind.{trailing_characters}
@@ -30,7 +30,7 @@ use Rattle.jiter_incremental.specs.Document.{IsAnswered, IsEnded, IsFaulty}
 use Rattle.jiter_incremental.specs.declared.reader.Token.TheVariants as token
 use Rattle.jiter_incremental.specs.declared.reader.Awaits.TheVariants as awaits
 
--- A fault of the prefix is the text's answer.
+-- An error of the prefix is the text's answer.
 pub prefix-fault : (p : Settings) (t : List ℕ) (k : Kind) (i stop : ℕ)
     → prefix_answer (rules_as owned p) t ≡ fault k i stop → answer_as owned p t ≡ fault k i stop
 prefix-fault p t k i stop h =
@@ -40,17 +40,17 @@ prefix-fault p t k i stop h =
 faulty-answers : (p : Settings) (t : List ℕ) (k : Kind) (i : ℕ) → IsFaulty p t k i → IsAnswered p t k i
 faulty-answers p t k i h = (h.0, prefix-fault p t k i h.0 h.1)
 
--- A fault that is there is one of the first faults.
+-- An error that is there is one of the first errors.
 pub noted-some : (x : Option Fault) (k : FaultKind) (i : ℕ) → noted_in x k i ≡ None → ⊥
 noted-some (Some f) k i h = none-some f (sym h)
 noted-some None k i h = none-some _ (sym h)
 
 module _ (p : Settings) (n m : Next) (t w : List ℕ) (o o' : Opened) (follows : Follows n w m) where
   -- What is read of t is read of the bytes w after it too, if these bring what is open so far.
-  pub reads-on : (x : Option Fault) → ((u : List ℕ) → Comes n u → ReadsAt p t u x o)
-      → (x ≡ None → (u : List ℕ) → Comes m u
+  pub reads-on : (x : Option Fault) → ((u : List ℕ) → MayFollow n u → ReadsAt p t u x o)
+      → (x ≡ None → (u : List ℕ) → MayFollow m u
       → opened_to p ((t ++ w) ++ u) o (length t) ≡ opened_to p ((t ++ w) ++ u) o' (length (t ++ w)))
-      → (u : List ℕ) → Comes m u → ReadsAt p (t ++ w) u x o'
+      → (u : List ℕ) → MayFollow m u → ReadsAt p (t ++ w) u x o'
   reads-on (Some f) read goes u comes =
       subst (λ v. IsAnswered p v (fault_kind f.kind) f.index) (sym (append_assoc t w u)) (read (w ++ u) (follows u comes))
   reads-on None read goes u comes =
@@ -59,9 +59,9 @@ module _ (p : Settings) (n m : Next) (t w : List ℕ) (o o' : Opened) (follows :
       ∙ goes refl u comes
 
   -- Or they are refused.
-  pub reads-fault : (x : Option Fault) (k : FaultKind) (i : ℕ) → ((u : List ℕ) → Comes n u → ReadsAt p t u x o)
-      → (x ≡ None → (u : List ℕ) → Comes m u → IsAnswered p ((t ++ w) ++ u) (fault_kind k) i)
-      → (u : List ℕ) → Comes m u → ReadsAt p (t ++ w) u (noted_in x k i) o'
+  pub reads-fault : (x : Option Fault) (k : FaultKind) (i : ℕ) → ((u : List ℕ) → MayFollow n u → ReadsAt p t u x o)
+      → (x ≡ None → (u : List ℕ) → MayFollow m u → IsAnswered p ((t ++ w) ++ u) (fault_kind k) i)
+      → (u : List ℕ) → MayFollow m u → ReadsAt p (t ++ w) u (noted_in x k i) o'
   reads-fault (Some f) k i read goes u comes =
       subst (λ v. IsAnswered p v (fault_kind f.kind) f.index) (sym (append_assoc t w u)) (read (w ++ u) (follows u comes))
   reads-fault None k i read goes u comes = goes refl u comes
@@ -74,7 +74,7 @@ same-fault : (d e : Document) → Keeps d e → (by : Strictness) → fault_by b
 same-fault d e k by_mode = k.1
 same-fault d e k strict = k.2
 
-pub known-as : (n : Next) (d e : Document) (t : List ℕ) (o : Opened) → Keeps d e → Known n d t o → Known n e t o
+pub known-as : (n : Next) (d e : Document) (t : List ℕ) (o : Opened) → Keeps d e → ReadSoFar n d t o → ReadSoFar n e t o
 known-as n d e t o k known = record {
   reads = λ by u comes.
       subst (λ p. ReadsAt (settings_by by p) t u (fault_by by e.fault e.first) o) (sym k.0)
@@ -85,7 +85,7 @@ known-as n d e t o k known = record {
 }
 
 -- What is known whatever comes is known of what comes.
-pub known-any : (m : Next) (d : Document) (t : List ℕ) (o : Opened) → Known anything d t o → Known m d t o
+pub known-any : (m : Next) (d : Document) (t : List ℕ) (o : Opened) → ReadSoFar any_bytes d t o → ReadSoFar m d t o
 known-any m d t o k = record {
   reads = λ by u comes. k.reads by u tt;
   ends = k.ends;
@@ -93,13 +93,13 @@ known-any m d t o k = record {
   same = k.same;
 }
 
-module _ (n m : Next) (d : Document) (t w : List ℕ) (o o' : Opened) (k : Known n d t o) (follows : Follows n w m)
+module _ (n m : Next) (d : Document) (t w : List ℕ) (o o' : Opened) (k : ReadSoFar n d t o) (follows : Follows n w m)
   where
     -- The bytes w bring what is open so far.
     pub known-on :
-        ((p : Settings) → IsReading d p → (u : List ℕ) → Comes m u
+        ((p : Settings) → IsReading d p → (u : List ℕ) → MayFollow m u
         → opened_to p ((t ++ w) ++ u) o (length t) ≡ opened_to p ((t ++ w) ++ u) o' (length (t ++ w)))
-        → (d.first ≡ None → EndsRight (t ++ w) o') → Known m d (t ++ w) o'
+        → (d.first ≡ None → EndsRight (t ++ w) o') → ReadSoFar m d (t ++ w) o'
     known-on goes ends = record {
       reads = λ by.
           reads-on (settings_by by d.settings) n m t w o o' follows (fault_by by d.fault d.first) (k.reads by)
@@ -111,11 +111,11 @@ module _ (n m : Next) (d : Document) (t w : List ℕ) (o o' : Opened) (k : Known
 
     -- They are refused with partial reading off alone.
     pub known-noted : (kind : FaultKind) (i : ℕ) → is_active d.settings.mode ≡ true
-        → (d.fault ≡ None → (u : List ℕ) → Comes m u
+        → (d.fault ≡ None → (u : List ℕ) → MayFollow m u
         → opened_to d.settings ((t ++ w) ++ u) o (length t) ≡ opened_to d.settings ((t ++ w) ++ u) o' (length (t ++ w)))
-        → (d.first ≡ None → (u : List ℕ) → Comes m u
+        → (d.first ≡ None → (u : List ℕ) → MayFollow m u
         → IsAnswered (strictly d.settings) ((t ++ w) ++ u) (fault_kind kind) i)
-        → Known m (with_first d (noted_in d.first kind i)) (t ++ w) o'
+        → ReadSoFar m (with_first d (noted_in d.first kind i)) (t ++ w) o'
     known-noted kind i on goes fails = record {
       reads = by;
       ends = λ none. absurd (noted-some d.first kind i none);
@@ -126,7 +126,7 @@ module _ (n m : Next) (d : Document) (t w : List ℕ) (o o' : Opened) (k : Known
         new : Document
         new = with_first d (noted_in d.first kind i)
 
-        by : (s : Strictness) (u : List ℕ) → Comes m u
+        by : (s : Strictness) (u : List ℕ) → MayFollow m u
             → ReadsAt (settings_by s new.settings) (t ++ w) u (fault_by s new.fault new.first) o'
         by by_mode = reads-on d.settings n m t w o o' follows d.fault (k.reads by_mode) goes
         by strict = reads-fault (strictly d.settings) n m t w o o' follows d.first kind i (k.reads strict) fails
@@ -136,7 +136,7 @@ module _ (n m : Next) (d : Document) (t w : List ℕ) (o o' : Opened) (k : Known
 
     -- They are refused for good.
     pub known-refused : (kind : FaultKind) (i : ℕ) → d.fault ≡ None
-        → ((p : Settings) (u : List ℕ) → IsReading d p → Comes m u → IsAnswered p ((t ++ w) ++ u) (fault_kind kind) i)
+        → ((p : Settings) (u : List ℕ) → IsReading d p → MayFollow m u → IsAnswered p ((t ++ w) ++ u) (fault_kind kind) i)
         → HasTakenIn m (record d { fault = Some (record { kind = kind; index = i }); first = noted_in d.first kind i }) (t ++ w)
     known-refused kind i unset fails =
         record {
@@ -156,7 +156,7 @@ module _ (n m : Next) (d : Document) (t w : List ℕ) (o o' : Opened) (k : Known
         new : Document
         new = record d { fault = Some found; first = noted_in d.first kind i }
 
-        by : (s : Strictness) (u : List ℕ) → Comes m u
+        by : (s : Strictness) (u : List ℕ) → MayFollow m u
             → ReadsAt (settings_by s new.settings) (t ++ w) u (fault_by s new.fault new.first) o'
         by by_mode u comes = fails d.settings u (by_mode, refl, unset) comes
         by strict u comes =
@@ -169,27 +169,27 @@ left_open = between_tokens (at_value awaits.Value [])
 
 -- The bytes w are refused where each text of them answers that;
 pub ended : (n m : Next) (d : Document) (t w : List ℕ) (o : Opened) (kind : FaultKind) (i : ℕ) → d.fault ≡ None
-    → Known n d t o → Follows n w m → IsEnded d m (t ++ w) (fault_kind kind) i
+    → ReadSoFar n d t o → Follows n w m → IsEnded d m (t ++ w) (fault_kind kind) i
     → HasTakenIn m (record d { fault = Some (record { kind = kind; index = i }); first = noted_in d.first kind i }) (t ++ w)
 ended n m d t w o kind i unset k follows fails = known-refused n m d t w o left_open k follows kind i unset fails
 
--- also where it is the fault of what was read so far.
+-- also where it is the error of what was read so far.
 pub refuses : (n m : Next) (d : Document) (t w : List ℕ) (o : Opened) (kind : FaultKind) (i : ℕ) → d.fault ≡ None
-    → Known n d t o → Follows n w m → IsRefused d m (t ++ w) (fault_kind kind) i
+    → ReadSoFar n d t o → Follows n w m → IsRefused d m (t ++ w) (fault_kind kind) i
     → HasTakenIn m (record d { fault = Some (record { kind = kind; index = i }); first = noted_in d.first kind i }) (t ++ w)
 refuses n m d t w o kind i unset k follows fails =
     ended n m d t w o kind i unset k follows
     (λ p u reading comes. faulty-answers p ((t ++ w) ++ u) (fault_kind kind) i (fails p u reading comes))
 
--- After a value nothing but what stands there is missing.
+-- After a value nothing but what is there is missing.
 pub ends-after : (t : List ℕ) (x : Tree) (fs : List OpenFrame) → EndsRight t (between_tokens (after_value x fs))
 ends-after t x [] = (omega arith, λ u. let same : length t - 0 ≡ length t = omega arith in ap (past_blanks (t ++ u)) same)
 ends-after t x (items_frame xs ∷ fs) = tt
 ends-after t x (members_frame ms k ∷ fs) = tt
 
--- A scalar that is read as this value is put after what stands before it.
+-- A scalar that is read as this value is put after what is before it.
 pub puts : (n m : Next) (d : Document) (v : OpenValue) (x : Tree) (t w : List ℕ) (fs : List OpenFrame) (b : ℕ)
-    → Known n d t (in_scalar fs b) → Follows n w m → IsLeft v (after_value x fs)
+    → ReadSoFar n d t (in_scalar fs b) → Follows n w m → IsLeft v (after_value x fs)
     → ((p : Settings) (u : List ℕ) (j e : ℕ) → value_in (rules_as owned p) u (length fs) j ≡ done x e
     → value_from (rules_as owned p) u fs j ≡ completed p u (after_value x fs) e)
     → IsReadAs d m (t ++ w) (length fs) b x
@@ -197,7 +197,7 @@ pub puts : (n m : Next) (d : Document) (v : OpenValue) (x : Tree) (t w : List �
 puts n m d v x t w fs b k follows left read reads =
     let new = record d { token = token.Nothing; value = v } in
     let o' = between_tokens (after_value x fs) in
-    let on : Known m d (t ++ w) o' =
+    let on : ReadSoFar m d (t ++ w) o' =
     known-on n m d t w (in_scalar fs b) o' k follows
     (λ p reading u comes. read p ((t ++ w) ++ u) b (length (t ++ w)) (reads p u reading comes))
     (λ none. ends-after (t ++ w) x fs) in
@@ -208,10 +208,10 @@ puts n m d v x t w fs b k follows left read reads =
     }
 
 -- These bytes follow a byte where any do after it.
-pub follows-byte : (c : ℕ) → Follows (with_byte c) (c ∷ []) anything
+pub follows-byte : (c : ℕ) → Follows (with_byte c) (c ∷ []) any_bytes
 follows-byte c u comes = (u, refl)
 
--- The byte stands there, and one byte is one more.
+-- The byte is there, and one byte is one more.
 pub byte-first : (c : ℕ) (t u : List ℕ) → slice_get (t ++ c ∷ u) (length t) ≡ Some c
 byte-first c t u =
     let long = length-append t (c ∷ u) in
@@ -224,19 +224,19 @@ pub one-more : (c : ℕ) (t : List ℕ) → length t + 1 ≡ length (t ++ c ∷ 
 one-more c t = omega (arith, length-append t (c ∷ []))
 
 -- Where nothing is taken, what is open may be seen otherwise.
-pub known-here : (n : Next) (d : Document) (t : List ℕ) (o o' : Opened) → Known n d t o
-    → ((p : Settings) → IsReading d p → (u : List ℕ) → Comes n u
+pub known-here : (n : Next) (d : Document) (t : List ℕ) (o o' : Opened) → ReadSoFar n d t o
+    → ((p : Settings) → IsReading d p → (u : List ℕ) → MayFollow n u
     → opened_to p (t ++ u) o (length t) ≡ opened_to p (t ++ u) o' (length t))
-    → (d.first ≡ None → EndsRight t o') → Known n d t o'
+    → (d.first ≡ None → EndsRight t o') → ReadSoFar n d t o'
 known-here n d t o o' k goes ends =
     let same = append-nil t in
-    let on : Known n d (t ++ []) o' =
+    let on : ReadSoFar n d (t ++ []) o' =
     known-on n n d t [] o o' k (λ u comes. comes)
     (λ p reading u comes.
     subst (λ v. opened_to p (v ++ u) o (length t) ≡ opened_to p (v ++ u) o' (length v)) (sym same)
     (goes p reading u comes))
     (λ none. subst (λ v. EndsRight v o') (sym same) (ends none)) in
-    subst (λ v. Known n d v o') same on
+    subst (λ v. ReadSoFar n d v o') same on
 
 -- Where a token is unfinished, within the limit of nesting
 abbrev pub IsInside : Opened → Type 0
@@ -256,23 +256,23 @@ same-inside p t (in_key fs ms b) i j h = refl
 
 -- bytes are taken inside it.
 pub known-in : (n m : Next) (d e : Document) (t w : List ℕ) (o : Opened) → IsInside o → Keeps d e → Follows n w m
-    → Known n d t o → Known m e (t ++ w) o
+    → ReadSoFar n d t o → ReadSoFar m e (t ++ w) o
 known-in n m d e t w o i k follows known =
     known-as m d e (t ++ w) o k
     (known-on n m d t w o o known follows
     (λ p reading u comes. same-inside p ((t ++ w) ++ u) o (length t) (length (t ++ w)) i)
     (λ none. ends-inside (t ++ w) o i))
 
--- What stands open where no token is unfinished
+-- What is open where no token is unfinished
 pub record Between (n : Next) (d : Document) (t : List ℕ) : Type 0 where
   pub state : Arrived
-  pub known : Known n d t (between_tokens state)
+  pub known : ReadSoFar n d t (between_tokens state)
   pub left : IsLeft d.value state
 
 key-nothing : token.Nothing ≡ token.Key → ⊥
 key-nothing h = cc
 
-opened-between : (n : Next) (d : Document) (t : List ℕ) (o : Opened) → Known n d t o → Holding d t o
+opened-between : (n : Next) (d : Document) (t : List ℕ) (o : Opened) → ReadSoFar n d t o → HoldsOpened d t o
     → d.token ≡ token.Nothing → Between n d t
 opened-between n d t (between_tokens s) k h none = record { state = s; known = k; left = h.1 }
 opened-between n d t (in_scalar fs b) k h none =
@@ -284,15 +284,15 @@ pub taken-between : (n : Next) (d : Document) (t : List ℕ) → HasTakenIn n d 
 taken-between n d t h unset none = opened-between n d t h.opened h.known (h.held unset) none
 
 -- What is read of the bytes so far, by settings that still read.
-pub reads-so : (n : Next) (d : Document) (t : List ℕ) (o : Opened) (p : Settings) → Known n d t o → IsReading d p
-    → (u : List ℕ) → Comes n u → prefix_answer (rules_as owned p) (t ++ u) ≡ opened_to p (t ++ u) o (length t)
+pub reads-so : (n : Next) (d : Document) (t : List ℕ) (o : Opened) (p : Settings) → ReadSoFar n d t o → IsReading d p
+    → (u : List ℕ) → MayFollow n u → prefix_answer (rules_as owned p) (t ++ u) ≡ opened_to p (t ++ u) o (length t)
 reads-so n d t o p k (by, is, none) u comes =
     subst (λ q. prefix_answer (rules_as owned q) (t ++ u) ≡ opened_to q (t ++ u) o (length t)) (sym is)
     (subst (λ x. ReadsAt (settings_by by d.settings) t u x o) none (k.reads by u comes))
 
--- the same where w stands after them
-pub reads-after : (n m : Next) (d : Document) (t w : List ℕ) (o : Opened) (p : Settings) → Known n d t o
-    → Follows n w m → IsReading d p → (u : List ℕ) → Comes m u
+-- the same where w is after them
+pub reads-after : (n m : Next) (d : Document) (t w : List ℕ) (o : Opened) (p : Settings) → ReadSoFar n d t o
+    → Follows n w m → IsReading d p → (u : List ℕ) → MayFollow m u
     → prefix_answer (rules_as owned p) ((t ++ w) ++ u) ≡ opened_to p ((t ++ w) ++ u) o (length t)
 reads-after n m d t w o p k follows reading u comes =
     subst (λ v. prefix_answer (rules_as owned p) v ≡ opened_to p v o (length t)) (sym (append_assoc t w u))
@@ -308,7 +308,7 @@ parts-end : (a : Awaits) (h : ContainerKind) (xs : List (PartTree h)) (fs : List
     → between_parts a h xs fs ≡ at_end x n → ⊥
 parts-end a h xs fs x n is = cc
 
--- A blank more stands after a whole value.
+-- One more byte of whitespace is after a whole value.
 blank-ends : (t : List ℕ) (c : ℕ) (s : Arrived) (x : Tree) (n : ℕ) → is_blank c ≡ true → passed s ≡ at_end x n
     → EndsRight t (between_tokens s) → EndsRight (t ++ c ∷ []) (between_tokens (at_end x n))
 blank-ends t c (at_value a fs) x n blank is h = absurd (value-ends a fs x n is)
@@ -343,27 +343,27 @@ byte-ends t c s (between_parts a k xs fs) e h = tt
 
 -- The value takes a byte.
 pub takes-byte : (d : Document) (v : OpenValue) (c : ℕ) (t : List ℕ) (s : Arrived)
-    → Known (with_byte c) d t (between_tokens s) → d.token ≡ token.Nothing → TakesByte v s c
-    → HasTakenIn anything (record d { value = v }) (t ++ c ∷ [])
+    → ReadSoFar (with_byte c) d t (between_tokens s) → d.token ≡ token.Nothing → TakesByte v s c
+    → HasTakenIn any_bytes (record d { value = v }) (t ++ c ∷ [])
 takes-byte d v c t s k none g =
     let new = record d { value = v } in
     let o = between_tokens s in
     let o' = between_tokens g.next in
-    let on : Known anything d (t ++ c ∷ []) o' =
-    known-on (with_byte c) anything d t (c ∷ []) o o' k (follows-byte c)
+    let on : ReadSoFar any_bytes d (t ++ c ∷ []) o' =
+    known-on (with_byte c) any_bytes d t (c ∷ []) o o' k (follows-byte c)
     (λ p reading u comes.
     let w = (t ++ c ∷ []) ++ u in
     g.goes p w (length t) (byte-here c t u) ∙ ap (completed p w g.next) (one-more c t))
     (λ first. byte-ends t c s g.next g.ends (k.ends first)) in
     record {
       opened = o';
-      known = known-as anything d new (t ++ c ∷ []) o' (refl, refl, refl) on;
+      known = known-as any_bytes d new (t ++ c ∷ []) o' (refl, refl, refl) on;
       held = λ unset. (none, g.left);
     }
 
 -- Inside these containers it begins.
 pub begins-in : (d : Document) (v : OpenValue) (c : ℕ) (t : List ℕ) (s : Arrived) (fs : List OpenFrame)
-    → Known (with_byte c) d t (between_tokens s) → d.fault ≡ None → d.position ≡ length t
+    → ReadSoFar (with_byte c) d t (between_tokens s) → d.fault ≡ None → d.position ≡ length t
     → IsLeft v (at_value awaits.Value fs) → length fs ≤ 200
     → Everywhere c (λ p u j. completed p u s j ≡ value_from (rules_as owned p) u fs j)
     → BeginsHere c (record d { value = v }) t fs
@@ -371,7 +371,7 @@ begins-in d v c t s fs k unset place left low goes =
     let new = record d { value = v } in
     let n = with_byte c in
     let o' = in_scalar fs (length t) in
-    let on : Known n d t o' =
+    let on : ReadSoFar n d t o' =
     known-here n d t (between_tokens s) o' k
     (λ p reading u comes.
     let at : slice_get (t ++ u) (length t) ≡ Some c =
@@ -389,11 +389,11 @@ begins-in d v c t s fs k unset place left low goes =
 -- It is wrong there: the document is refused.
 pub wrong-refused : (d : Document) (v : OpenValue) (c : ℕ) (t : List ℕ) (s : Arrived) (kind : FaultKind)
     → StandsAt c d t s → Everywhere c (λ p u j. completed p u s j ≡ fault (fault_kind kind) j j)
-    → IsRefused d anything (t ++ c ∷ []) (fault_kind kind) d.position
+    → IsRefused d any_bytes (t ++ c ∷ []) (fault_kind kind) d.position
 wrong-refused d v c t s kind at wrong p u reading comes =
     let w = (t ++ c ∷ []) ++ u in
     let j = length t in
-    let read = reads-after (with_byte c) anything d t (c ∷ []) (between_tokens s) p at.known (follows-byte c) reading u comes in
+    let read = reads-after (with_byte c) any_bytes d t (c ∷ []) (between_tokens s) p at.known (follows-byte c) reading u comes in
     (j, read ∙ wrong p w j (byte-here c t u) ∙ ap (λ i. fault (fault_kind kind) i j) (sym at.position))
 
 -- By strict settings each of a document's readings is strict, where its mode is off.
@@ -402,8 +402,8 @@ reading-strict : (d : Document) (p : Settings) → is_active d.settings.mode ≡
 reading-strict d p off (by_mode, is, none) = ap (λ (q : Settings). is_active q.mode) is ∙ off
 reading-strict d p off (strict, is, none) = ap (λ (q : Settings). is_active q.mode) is
 
--- and there is no fault that partial reading alone passes over.
-reading-first : (n : Next) (d : Document) (t : List ℕ) (o : Opened) (p : Settings) → Known n d t o
+-- and there is no error that partial reading alone passes over.
+reading-first : (n : Next) (d : Document) (t : List ℕ) (o : Opened) (p : Settings) → ReadSoFar n d t o
     → is_active d.settings.mode ≡ false → IsReading d p → d.first ≡ None
 reading-first n d t o p k off (by_mode, is, none) = k.same off none
 reading-first n d t o p k off (strict, is, none) = none
@@ -421,7 +421,7 @@ whole-end v (between_parts b k xs fs) h none =
     let never : ⊥ = subst IsBetweenParts (sym h.0 ∙ none) h.1 in absurd never
 whole-end v (at_end x n) h none = record { value = x; blanks = n; is = refl }
 
--- After a whole value another byte than a blank is the fault of the text.
+-- After a whole value another byte than whitespace is the error of the text.
 trailing-answered : (p : Settings) (t u : List ℕ) (c : ℕ) (x : Tree) (n : ℕ) → is_active p.mode ≡ false
     → prefix_answer (rules_as owned p) ((t ++ c ∷ []) ++ u) ≡ done x (length t - n)
     → EndsRight t (between_tokens (at_end x n)) → is_blank c ≡ false
@@ -449,7 +449,7 @@ trailing-read : (d : Document) (c : ℕ) (t u : List ℕ) (s : Arrived) (w : Who
     → IsReading d p
     → prefix_answer (rules_as owned p) ((t ++ c ∷ []) ++ u) ≡ done w.value (length t - w.blanks)
 trailing-read d c t u s w p at reading =
-    reads-after (with_byte c) anything d t (c ∷ []) (between_tokens s) p at.known (follows-byte c) reading u tt
+    reads-after (with_byte c) any_bytes d t (c ∷ []) (between_tokens s) p at.known (follows-byte c) reading u tt
     ∙ ap (λ s. completed p ((t ++ c ∷ []) ++ u) s (length t)) w.is
 
 trailing-at : (d : Document) (c : ℕ) (t u : List ℕ) (s : Arrived) (p : Settings) → StandsAt c d t s
@@ -465,7 +465,7 @@ trailing-at d c t u s p at left none other reading off first =
 -- With partial reading off it is refused,
 pub trailing-ended : (d : Document) (c : ℕ) (t : List ℕ) (s : Arrived) → StandsAt c d t s → IsLeft d.value s
     → d.value.awaits ≡ awaits.Nothing → is_blank c ≡ false → is_active d.settings.mode ≡ false
-    → IsEnded d anything (t ++ c ∷ []) trailing_characters d.position
+    → IsEnded d any_bytes (t ++ c ∷ []) trailing_characters d.position
 trailing-ended d c t s at left none other off p u reading comes =
     trailing-at d c t u s p at left none other reading (reading-strict d p off reading)
     (reading-first (with_byte c) d t (between_tokens s) p at.known off reading)
@@ -474,7 +474,7 @@ trailing-ended d c t s at left none other off p u reading comes =
 pub trailing-noted : (d : Document) (c : ℕ) (t : List ℕ) (s : Arrived) → StandsAt c d t s → IsLeft d.value s
     → d.value.awaits ≡ awaits.Nothing → is_blank c ≡ false → is_active d.settings.mode ≡ true → (new : Document)
     → new ≡ with_first d (noted_in d.first fault_of.TrailingCharacters d.position)
-    → HasTakenIn anything new (t ++ c ∷ [])
+    → HasTakenIn any_bytes new (t ++ c ∷ [])
 trailing-noted d c t s at left none other on new is =
     let kind = fault_of.TrailingCharacters in
     let noted = with_first d (noted_in d.first kind d.position) in
@@ -482,8 +482,8 @@ trailing-noted d c t s at left none other on new is =
     let o = between_tokens s in
     let o' = between_tokens (at_end whole.value (whole.blanks + 1)) in
     let p = d.settings in
-    let known : Known anything noted (t ++ c ∷ []) o' =
-    known-noted (with_byte c) anything d t (c ∷ []) o o' at.known (follows-byte c) kind d.position on
+    let known : ReadSoFar any_bytes noted (t ++ c ∷ []) o' =
+    known-noted (with_byte c) any_bytes d t (c ∷ []) o o' at.known (follows-byte c) kind d.position on
     (λ unset u comes.
     let w = (t ++ c ∷ []) ++ u in
     let place : length t - whole.blanks ≡ length (t ++ c ∷ []) - (whole.blanks + 1) =
@@ -491,15 +491,15 @@ trailing-noted d c t s at left none other on new is =
     ap (λ s. completed p w s (length t)) whole.is ∙ ap (done whole.value) place)
     (λ first u comes.
     trailing-at d c t u s (strictly p) at left none other (strict, refl, first) refl first) in
-    let all : HasTakenIn anything noted (t ++ c ∷ []) =
+    let all : HasTakenIn any_bytes noted (t ++ c ∷ []) =
     record {
       opened = o';
       known = known;
       held = λ unset. (at.token, subst (IsLeft d.value) whole.is left);
     } in
-    subst (λ d. HasTakenIn anything d (t ++ c ∷ [])) (sym is) all
+    subst (λ d. HasTakenIn any_bytes d (t ++ c ∷ [])) (sym is) all
 
--- What is missing before the byte is the fault by strict settings;
+-- What is missing before the byte is the error by strict settings;
 closes-fault : (d : Document) (c : ℕ) (t u : List ℕ) (s : Arrived) (kind : FaultKind) (p : Settings) (v : OpenValue)
     → StandsAt c d t s → ClosesBefore v s c (fault_kind kind) → IsReading d p → is_active p.mode ≡ false
     → IsFaulty p ((t ++ c ∷ []) ++ u) (fault_kind kind) d.position
@@ -507,7 +507,7 @@ closes-fault d c t u s kind p v at g reading off =
     let w = (t ++ c ∷ []) ++ u in
     let j = length t in
     let read =
-    reads-after (with_byte c) anything d t (c ∷ []) (between_tokens s) p at.known (follows-byte c) reading u tt in (
+    reads-after (with_byte c) any_bytes d t (c ∷ []) (between_tokens s) p at.known (follows-byte c) reading u tt in (
       j,
       read ∙ g.fails p w j (byte-here c t u) off ∙ ap (λ i. fault (fault_kind kind) i j) (sym at.position),
     )
@@ -515,7 +515,7 @@ closes-fault d c t u s kind p v at g reading off =
 -- where the mode is off, for good;
 pub closes-refused : (d : Document) (c : ℕ) (t : List ℕ) (s : Arrived) (kind : FaultKind) (v : OpenValue)
     → StandsAt c d t s → ClosesBefore v s c (fault_kind kind) → is_active d.settings.mode ≡ false
-    → IsRefused d anything (t ++ c ∷ []) (fault_kind kind) d.position
+    → IsRefused d any_bytes (t ++ c ∷ []) (fault_kind kind) d.position
 closes-refused d c t s kind v at g off p u reading comes =
     closes-fault d c t u s kind p v at g reading (reading-strict d p off reading)
 
@@ -530,9 +530,9 @@ closes-noted d v c t s kind at g on =
     let o' = between_tokens g.next in
     let p = d.settings in
     let n = with_byte c in
-    let here : (u : List ℕ) → Comes n u → slice_get (t ++ u) (length t) ≡ Some c =
+    let here : (u : List ℕ) → MayFollow n u → slice_get (t ++ u) (length t) ≡ Some c =
     λ u comes. subst (λ v. slice_get (t ++ v) (length t) ≡ Some c) (sym comes.1) (byte-first c t comes.0) in
-    let known : Known n noted (t ++ []) o' =
+    let known : ReadSoFar n noted (t ++ []) o' =
     known-noted n n d t [] o o' at.known (λ u comes. comes) kind d.position on
     (λ unset u comes.
     subst (λ v. completed p (v ++ u) s (length t) ≡ completed p (v ++ u) g.next (length v)) (sym (append-nil t))
@@ -547,14 +547,14 @@ closes-noted d v c t s kind at g on =
     ))) in
     record {
       opened = o';
-      known = known-as n noted next t o' (refl, refl, refl) (subst (λ v. Known n noted v o') (append-nil t) known);
+      known = known-as n noted next t o' (refl, refl, refl) (subst (λ v. ReadSoFar n noted v o') (append-nil t) known);
       held = λ unset. (at.token, g.left);
     }
 
 -- Before the first byte
 pub new-arrived : (d : Document) → d.fault ≡ None → d.first ≡ None → d.token ≡ token.Nothing → d.position ≡ 0
     → IsLeft d.value (at_value awaits.Value []) → ((p : Settings) → HasRead p [] (at_value awaits.Value []))
-    → HasCome d []
+    → HasTakenAll d []
 new-arrived d unset first none position left read =
     let s = at_value awaits.Value [] in
     let o = between_tokens s in
@@ -568,7 +568,7 @@ new-arrived d unset first none position left read =
       position = position;
     }
   where
-    by : (s : Strictness) (u : List ℕ) → Comes anything u
+    by : (s : Strictness) (u : List ℕ) → MayFollow any_bytes u
         → ReadsAt (settings_by s d.settings) [] u (fault_by s d.fault d.first) (between_tokens (at_value awaits.Value []))
     by by_mode u comes =
         subst (λ x. ReadsAt d.settings [] u x (between_tokens (at_value awaits.Value []))) (sym unset)
@@ -640,8 +640,8 @@ scalar-as d new token.Text w settings names words numbers strings h =
 scalar-as d new token.Nothing w settings names words numbers strings h = h
 scalar-as d new token.Key w settings names words numbers strings h = h
 
-pub counted-holding : (d : Document) (j : ℕ) (t : List ℕ) (o : Opened) → Holding d t o
-    → Holding (record d { position = j }) t o
+pub counted-holding : (d : Document) (j : ℕ) (t : List ℕ) (o : Opened) → HoldsOpened d t o
+    → HoldsOpened (record d { position = j }) t o
 counted-holding d j t (between_tokens s) h = h
 counted-holding d j t (in_scalar fs b) h =
     let new = record d { position = j } in (
@@ -670,6 +670,6 @@ moved n d j t h = record {
   held = λ unset. counted-holding d j t h.opened (h.held unset);
 }
 
-pub counted : (d : Document) (j : ℕ) (t : List ℕ) → HasTakenIn anything d t → j ≡ length t
-    → HasCome (record d { position = j }) t
-counted d j t h is = record { read = moved anything d j t h; position = is }
+pub counted : (d : Document) (j : ℕ) (t : List ℕ) → HasTakenIn any_bytes d t → j ≡ length t
+    → HasTakenAll (record d { position = j }) t
+counted d j t h is = record { read = moved any_bytes d j t h; position = is }

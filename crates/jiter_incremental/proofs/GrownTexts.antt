@@ -1,8 +1,8 @@
 -- A string that is shown goes on in its place: plain ASCII is appended to it.
 use Rattle.jiter_incremental.proofs.Words.{◌≡◌, ℕ, suc, ◌+◌, ◌<◌, true, List, [], ◌∷◌, ◌++◌, length, refl, sym, subst}
 use Rattle.jiter_incremental.proofs.Words.{ap, ap₂, ◌∙◌, arith, inl, inr, ◌&&◌, slice_range, Pass, is_plain_ascii, Tree}
-use Rattle.jiter_incremental.proofs.Words.{string, text_of, Document, HasMoved, HasReadIn, Holding, IsMoved, Known}
-use Rattle.jiter_incremental.proofs.Words.{Opened, Parted, anything, between_tokens, in_key, in_scalar, token_tree}
+use Rattle.jiter_incremental.proofs.Words.{string, text_of, Document, HasMoved, HasReadIn, HoldsOpened, IsMoved, ReadSoFar}
+use Rattle.jiter_incremental.proofs.Words.{Opened, Parted, any_bytes, between_tokens, in_key, in_scalar, token_tree}
 use Rattle.jiter_incremental.proofs.Words.{IsAt, IsHere, Steps, ahead, document, AwaitsPart, HasValue, IsOfKey}
 use Rattle.jiter_incremental.proofs.Words.{OpenFrame, filled, IsGrown, IsOfString, Reader, false≢true}
 use Rattle.std.specs.List.{AllPass}
@@ -20,7 +20,7 @@ use Rattle.jiter_incremental.proofs.Showing.{stands-part, stands-root}
 use Rattle.jiter_incremental.proofs.StringSteps.{ahead-string}
 
 -- A text that is unfinished is inside these containers.
-text-left : (a : Document) (t : List ℕ) (o : Opened) → a.token ≡ token.Text → Holding a t o
+text-left : (a : Document) (t : List ℕ) (o : Opened) → a.token ≡ token.Text → HoldsOpened a t o
     → (fs : List OpenFrame) × AwaitsPart a.value.depth a.value.tree fs × IsOfKey a.value.key fs
 text-left a t (between_tokens s) is h = absurd (let no : token.Text ≡ token.Nothing = sym is ∙ h.0 in cc)
 text-left a t (in_scalar fs b) is h = (fs, h.3.2, h.3.3)
@@ -91,9 +91,9 @@ module _ (d : Document) (t : List ℕ) (o : Opened) (s : Parted d t o) (text : d
             (sym text-apart) moved-on);
       }
 
-      pub grown-known : Known anything d t o → Known anything e (t ++ v) o
+      pub grown-known : ReadSoFar any_bytes d t o → ReadSoFar any_bytes e (t ++ v) o
       grown-known known =
-          known-in anything anything d e t v o (is-inside a t (inl text-apart) o s.held) (refl, refl, refl) (λ u c. tt) known
+          known-in any_bytes any_bytes d e t v o (is-inside a t (inl text-apart) o s.held) (refl, refl, refl) (λ u c. tt) known
 
 -- Plain bytes below 80 hex
 plain-each : (v : List ℕ) → Pass is_plain v → AllPass is_ascii v → Pass is_plain_ascii v
@@ -160,8 +160,8 @@ module _ (level : ℕ) (chunk : List ℕ) (i : Reader) (v : Tree) (h : IsHere le
         → HasValue i.depth (filled outer w) gs (string (text_of (u ++ bytes))) =
         λ gs x. grown-there level i.depth v w u bytes outer gs h.here at g x in
         let e = document i (filled outer w) in
-        let known = subst (λ m. Known m d t o) (ahead-string i.token i chunk i.at refl k) r.read.known in
-        let read : HasReadIn anything e (t ++ bytes) =
+        let known = subst (λ m. ReadSoFar m d t o) (ahead-string i.token i chunk i.at refl k) r.read.known in
+        let read : HasReadIn any_bytes e (t ++ bytes) =
         record {
           opened = o;
           known = grown-known d t o s is on.0 bytes (filled outer w) on.1 run.plain put known;

@@ -71,7 +71,7 @@ part-of v f x h = by (out-JsonValue v) refl where
   by (JsonValue-F.Float b) is = absurd (other _ is (λ w e. absurd (cc)) (λ w e. absurd (cc)))
   by (JsonValue-F.Str b) is = absurd (other _ is (λ w e. absurd (cc)) (λ w e. absurd (cc)))
 
--- What stands inside open containers is a value.
+-- What is inside open containers is a value.
 pub inside-of : (fs : List OpenFrame) (v : JsonValue) (x : Tree) → view v ≡ filled fs x → (y : JsonValue) × (view y ≡ x)
 inside-of [] v x h = (v, h)
 inside-of (f ∷ fs) v x h = let r = inside-of fs v (around f x) h in part-of r.0 f x r.1

@@ -4,9 +4,9 @@ use Rattle.jiter_incremental.proofs.Words.{length, take, refl, sym, subst, ap, �
 use Rattle.jiter_incremental.proofs.Words.{append_assoc, None, slice_range, append-nil, take_all, slice_get_past}
 use Rattle.jiter_incremental.proofs.Words.{items_frame, members_frame, Tree, PartialNumber, PartialString, Arrived}
 use Rattle.jiter_incremental.proofs.Words.{IsLeft, OpenValue, at_value, between_parts, at_end, text_of, Document}
-use Rattle.jiter_incremental.proofs.Words.{HasArrived, HasMoved, HasReadIn, Holding, IsMoved, Next, Opened, Parted}
-use Rattle.jiter_incremental.proofs.Words.{anything, between_tokens, in_key, in_scalar, token_tree, HasReadTo}
-use Rattle.jiter_incremental.proofs.Words.{IsComplete, Ready, Refuses, Steps, Went, ahead, ahead_as, document, next_of}
+use Rattle.jiter_incremental.proofs.Words.{HasArrived, HasMoved, HasReadIn, HoldsOpened, IsMoved, Next, Opened, Parted}
+use Rattle.jiter_incremental.proofs.Words.{any_bytes, between_tokens, in_key, in_scalar, token_tree, HasReadTo}
+use Rattle.jiter_incremental.proofs.Words.{IsComplete, Ready, Refuses, Steps, Advanced, ahead, ahead_as, document, next_of}
 use Rattle.jiter_incremental.proofs.Words.{OpenFrame, around, begun, filled, Awaits, Reader, Token}
 use Rattle.jiter_steps.specs.declared.parse.ContainerKind.TheVariants as shape
 use Rattle.jiter_incremental.specs.declared.reader.Awaits.TheVariants as awaits
@@ -32,7 +32,7 @@ open-left v (between_parts a shape.Object ms fs) h some =
     record { frames = fs; innermost = members_frame ms (text_of []); deep = h.2; is = h.3 }
 open-left v (at_end x n) h some = absurd (omega (arith, h.1, some))
 
-open-held : (d : Document) (t : List ℕ) (o : Opened) → Holding d t o → 0 < d.value.depth → OpenTree d.value.depth d.value.tree
+open-held : (d : Document) (t : List ℕ) (o : Opened) → HoldsOpened d t o → 0 < d.value.depth → OpenTree d.value.depth d.value.tree
 open-held d t (between_tokens s) h some = open-left d.value s h.1 some
 open-held d t (in_scalar fs b) h some = open-left d.value (at_value awaits.Value fs) h.3 some
 open-held d t (in_key fs ms b) h some =
@@ -68,7 +68,7 @@ moved-key token.Text d n s x h is = cc
 moved-key token.Key d n s x h is = h
 
 -- Where the scalar is in the value, it is the last part of the innermost container.
-open-shown : (d new : Document) (t : List ℕ) (o : Opened) → Holding d t o → IsMoved true d new → 0 < new.value.depth
+open-shown : (d new : Document) (t : List ℕ) (o : Opened) → HoldsOpened d t o → IsMoved true d new → 0 < new.value.depth
     → OpenTree new.value.depth new.value.tree
 open-shown d new t (between_tokens s) h m some = absurd (moved-nothing d.token d new.number new.string _ m.0 h.0)
 open-shown d new t (in_key fs ms b) h m some = absurd (moved-key d.token d new.number new.string _ m.0 h.2)
@@ -125,7 +125,7 @@ below level chunk i v f x r some deeper is = record {
 
 -- and what went on in that went on in the container.
 pub above : (level : ℕ) (chunk : List ℕ) (i : Reader) (x : Tree) (j : Reader) (y : Tree) (f : OpenFrame) (v w : Tree)
-    → 0 < level → v ≡ around f x → w ≡ around f y → Went (level + 1) chunk i x j y → Went level chunk i v j w
+    → 0 < level → v ≡ around f x → w ≡ around f y → Advanced (level + 1) chunk i x j y → Advanced level chunk i v j w
 above level chunk i x j y f v w some was is q = record {
   after = q.after;
   within = q.within;
@@ -152,7 +152,7 @@ refuses-above level chunk i x j f v some was q = record {
 
 -- One after the other
 pub went-then : (level : ℕ) (chunk : List ℕ) (i : Reader) (v : Tree) (j : Reader) (w : Tree) (k : Reader) (x : Tree)
-    → Went level chunk i v j w → Went level chunk j w k x → Went level chunk i v k x
+    → Advanced level chunk i v j w → Advanced level chunk j w k x → Advanced level chunk i v k x
 went-then level chunk i v j w k x a b = record {
   after = omega (arith, a.after, b.after);
   within = b.within;
@@ -164,14 +164,14 @@ went-then level chunk i v j w k x a b = record {
 }
 
 pub refuses-then : (level : ℕ) (chunk : List ℕ) (i : Reader) (v : Tree) (j : Reader) (w : Tree) (k : Reader)
-    → Went level chunk i v j w → Refuses level chunk j w k → Refuses level chunk i v k
+    → Advanced level chunk i v j w → Refuses level chunk j w k → Refuses level chunk i v k
 refuses-then level chunk i v j w k a b = record {
   goes = λ t outer n r. b.goes t outer n (a.reads.goes t outer n r);
   free = b.free;
 }
 
 pub ready-then : (level : ℕ) (chunk : List ℕ) (i : Reader) (v : Tree) (j : Reader) (w : Tree) → Ready level chunk i v
-    → Went level chunk i v j w → level ≤ j.depth → Ready level chunk j w
+    → Advanced level chunk i v j w → level ≤ j.depth → Ready level chunk j w
 ready-then level chunk i v j w r a deep = record {
   above = deep;
   low = a.low;
@@ -181,7 +181,7 @@ ready-then level chunk i v j w r a deep = record {
   read = (r.read.0, r.read.1, r.read.2, a.reads.goes r.read.0 r.read.1 r.read.2 r.read.3);
 }
 
-pub went-none : (level : ℕ) (chunk : List ℕ) (i : Reader) (v : Tree) → Ready level chunk i v → Went level chunk i v i v
+pub went-none : (level : ℕ) (chunk : List ℕ) (i : Reader) (v : Tree) → Ready level chunk i v → Advanced level chunk i v i v
 went-none level chunk i v r = record {
   after = omega arith;
   within = r.within;
@@ -222,7 +222,7 @@ read-counted n d p t h = record {
   by false s m = m
 
 pub steps-went : (level : ℕ) (chunk : List ℕ) (i : Reader) (v : Tree) (j : Reader) (w : Tree) (n : ℕ)
-    → Ready level chunk i v → Steps level chunk i v j w n → Went level chunk i v (record j { at = j.at + n }) w
+    → Ready level chunk i v → Steps level chunk i v j w n → Advanced level chunk i v (record j { at = j.at + n }) w
 steps-went level chunk i v j w n r s = record {
   after = omega (arith, s.moves.still.2);
   within = omega (arith, s.moves.still.2, s.moves.within);
@@ -251,7 +251,7 @@ steps-went level chunk i v j w n r s = record {
 }
 
 -- The root at level 0 is the outermost container at level 1.
-pub outermost : (chunk : List ℕ) (i : Reader) (v : Tree) (j : Reader) (w : Tree) → Went 1 chunk i v j w → Went 0 chunk i v j w
+pub outermost : (chunk : List ℕ) (i : Reader) (v : Tree) (j : Reader) (w : Tree) → Advanced 1 chunk i v j w → Advanced 0 chunk i v j w
 outermost chunk i v j w a = record {
   after = a.after;
   within = a.within;
@@ -311,7 +311,7 @@ counted-to chunk i j x t n below within base at place h =
     }
 
 -- What was read to the end of a chunk, or to where an allocation failed, has arrived.
-pub arrived-free : (chunk : List ℕ) (j : Reader) (w : Tree) (t : List ℕ) → ahead j chunk j.at ≡ anything → IsComplete j
+pub arrived-free : (chunk : List ℕ) (j : Reader) (w : Tree) (t : List ℕ) → ahead j chunk j.at ≡ any_bytes → IsComplete j
     → HasReadTo chunk j w t → HasArrived (document j w) t
 arrived-free chunk j w t free full h = record {
   read = subst (λ n. HasReadIn n (document j w) t) free h.read;
@@ -319,7 +319,7 @@ arrived-free chunk j w t free full h = record {
   full = full;
 }
 
-ahead-end : (k : Token) (a : Awaits) (chunk : List ℕ) (i : ℕ) → length chunk ≤ i → ahead_as k a chunk i ≡ anything
+ahead-end : (k : Token) (a : Awaits) (chunk : List ℕ) (i : ℕ) → length chunk ≤ i → ahead_as k a chunk i ≡ any_bytes
 ahead-end token.Nothing awaits.Comma chunk i past = ap next_of (slice_get_past chunk i past)
 ahead-end token.Nothing awaits.Nothing chunk i past = ap next_of (slice_get_past chunk i past)
 ahead-end k a chunk i past = refl
@@ -333,6 +333,6 @@ arrived-all chunk j w t full past within h =
     (arrived-free chunk j w (t ++ take j.at chunk) (ahead-end j.token j.awaits chunk j.at past) full h)
 
 -- From the start of the chunk
-pub went-from : (chunk : List ℕ) (i : Reader) (v : Tree) (j : Reader) (w : Tree) → Went 0 chunk i v j w → i.at ≡ 0
+pub went-from : (chunk : List ℕ) (i : Reader) (v : Tree) (j : Reader) (w : Tree) → Advanced 0 chunk i v j w → i.at ≡ 0
     → (t : List ℕ) → HasArrived (document i v) t → HasReadTo chunk j w (t ++ take j.at chunk)
 went-from chunk i v j w a start t h = a.reads.goes t [] refl (chunk-begun chunk i v t h start)

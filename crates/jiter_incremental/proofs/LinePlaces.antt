@@ -121,7 +121,7 @@ line-counts n p (b ∷ f) =
       by true k e rest = omega (arith, rest (after_feed p n))
       by false k e rest = omega (arith, rest p)
 
--- the column after these bytes, where c bytes stand on the line before them
+-- the column after these bytes, where c bytes are on the line before them
 abbrev pub column_from : ℕ → List ℕ → ℕ
 column_from c [] = c
 column_from c (b ∷ bs) = column_from (if is_newline b then 0 else c + 1) bs
@@ -140,7 +140,7 @@ column-onto r (b ∷ f) =
     by true e = sym (ap length e)
     by false e = omega (arith, ap length e)
 
--- it is what stands on the line
+-- it is what is on the line
 column-counts : (n c : ℕ) (p : Place) (f : List ℕ) → c + p.begin ≡ n
     → column_from c f + (place_from n p f).begin ≡ n + length f
 column-counts n c p [] e = e ∙ sym (add-zero n)

@@ -3,16 +3,16 @@ use Rattle.jiter_incremental.proofs.Words.{◌≡◌, ℕ, ◌+◌, ◌-◌, ◌
 use Rattle.jiter_incremental.proofs.Words.{sym, subst, ◌==◌, Bool, arith, eqb-true, slice_index, slice_range, Vec}
 use Rattle.jiter_incremental.proofs.Words.{Global, CowStr, Number, HoldsNumber, begins_decimal, PartialNumber, is_blank}
 use Rattle.jiter_incremental.proofs.Words.{start_of, number_tree, text_view, Tree, owned_text, tree_as, BeginsHere}
-use Rattle.jiter_incremental.proofs.Words.{HasReadIn, HasTakenIn, NameBegins, anything, between_tokens, in_scalar}
-use Rattle.jiter_incremental.proofs.Words.{with_byte, AwaitsValue, AsRead, IsAt, IsComplete, IsHere, Moves, Stays}
+use Rattle.jiter_incremental.proofs.Words.{HasReadIn, HasTakenIn, NameBegins, any_bytes, between_tokens, in_scalar}
+use Rattle.jiter_incremental.proofs.Words.{with_byte, AwaitsValue, AsRead, IsAt, IsComplete, IsHere, MovesBy, ReadsAsBefore}
 use Rattle.jiter_incremental.proofs.Words.{Steps, after_level, ahead, document, refused, with_shown, AwaitsPart}
-use Rattle.jiter_incremental.proofs.Words.{IsContainer, IsPut, OpenFrame, begun, filled, JsonValue, out-JsonValue, Name}
+use Rattle.jiter_incremental.proofs.Words.{IsContainer, IsPut, OpenFrame, begun, filled, JsonValue, out-JsonValue, WordValue}
 use Rattle.jiter_incremental.proofs.Words.{Reader}
 use Rattle.jiter_scan.specs.NumberWithin.{EndsWithin}
 use Rattle.jiter_scan.specs.declared.errors.FaultKind.TheVariants as fault_of
 use Rattle.jiter_steps.specs.declared.parse.Start.TheVariants as start
 use Rattle.jiter_incremental.specs.Slot.{HasRoomAt, IsRoomy}
-use Rattle.jiter_incremental.specs.declared.names.Name.TheVariants as name
+use Rattle.jiter_incremental.specs.declared.names.WordValue.TheVariants as name
 use Rattle.jiter_incremental.specs.declared.reader.Awaits.TheVariants as awaits
 use Rattle.jiter_incremental.specs.declared.reader.Token.TheVariants as token
 use Rattle.jiter_incremental.proofs.Arms.{hidden-here, turned}
@@ -25,9 +25,9 @@ use Rattle.jiter_incremental.proofs.Slots.{filled-same}
 use Rattle.jiter_incremental.proofs.Showing.{shown-steps}
 
 -- The byte begins the one name or the other.
-pub name-of : (c : ℕ) → start_of c ≡ start.Number → begins_decimal c ≡ false → (k : Name) × NameBegins k c
+pub name-of : (c : ℕ) → start_of c ≡ start.Number → begins_decimal c ≡ false → (k : WordValue) × NameBegins k c
 name-of c starts named = by (c == 78) refl where
-  by : (b : Bool) → (c == 78) ≡ b → (k : Name) × NameBegins k c
+  by : (b : Bool) → (c == 78) ≡ b → (k : WordValue) × NameBegins k c
   by true is = (name.NaN, subst (NameBegins name.NaN) (sym (eqb-true c 78 is)) nan-begins)
   by false is =
       (name.Infinity, subst (NameBegins name.Infinity) (sym (infinity-first c starts named is)) infinity-begins)
@@ -39,26 +39,26 @@ module _ (level : ℕ) (chunk : List ℕ) (i : Reader) (v : Tree) (h : IsHere le
     c = slice_index chunk i.at
 
     -- Nothing was taken: a copy of a number's bytes is no part of the document yet.
-    pub stays-so : ahead i chunk i.at ≡ anything → (n : PartialNumber) (s : Vec ℕ Global)
-        → Stays level chunk i v (record i { number = n; tape = s }) v
+    pub stays-so : ahead i chunk i.at ≡ any_bytes → (n : PartialNumber) (s : Vec ℕ Global)
+        → ReadsAsBefore level chunk i v (record i { number = n; buffer = s }) v
     stays-so free n s =
-        let j = record i { number = n; tape = s } in
+        let j = record i { number = n; buffer = s } in
         record {
           goes = λ t outer at r.
               let x = filled outer v in
               let d = document i x in
               let e = document j x in
               let hidden = hidden-here level chunk i v h none in
-              let read : HasReadIn anything d t = subst (λ m. HasReadIn m d t) free r.read in
-              let b = taken-between anything d t (apart-read anything d t read hidden) h.unset none in
+              let read : HasReadIn any_bytes d t = subst (λ m. HasReadIn m d t) free r.read in
+              let b = taken-between any_bytes d t (apart-read any_bytes d t read hidden) h.unset none in
               let o = between_tokens b.state in
-              let all : HasTakenIn anything e t =
+              let all : HasTakenIn any_bytes e t =
               record {
                 opened = o;
-                known = known-as anything d e t o (refl, refl, refl) b.known;
+                known = known-as any_bytes d e t o (refl, refl, refl) b.known;
                 held = λ unset. (none, b.left);
               } in
-              reads-apart anything e t all hidden;
+              reads-apart any_bytes e t all hidden;
           free = free;
           still = (refl, refl, refl);
           depth = refl;
@@ -67,7 +67,7 @@ module _ (level : ℕ) (chunk : List ℕ) (i : Reader) (v : Tree) (h : IsHere le
 
     module _ (awaited : AwaitsValue level chunk i v) (other : is_blank c ≡ false) (low : level ≤ 200) where
       -- A name is refused where none is allowed.
-      pub name-refused : (k : Name) → NameBegins k c → i.settings.allow_inf_nan ≡ false
+      pub name-refused : (k : WordValue) → NameBegins k c → i.settings.allow_inf_nan ≡ false
           → Steps level chunk i v (refused i fault_of.ExpectedSomeValue (i.base + i.at)) v 1
       name-refused k begins off =
           let kind = fault_of.ExpectedSomeValue in
@@ -80,7 +80,7 @@ module _ (level : ℕ) (chunk : List ℕ) (i : Reader) (v : Tree) (h : IsHere le
           let held = record d { value = record d.value { awaits = awaits.Value } } in
           let o = in_scalar b.0 (length t) in
           let known = known-as (with_byte c) held d t o (refl, refl, refl) b.1.known in
-          refuses (with_byte c) anything d t (c ∷ []) o kind d.position h.unset known (follows-byte c)
+          refuses (with_byte c) any_bytes d t (c ∷ []) o kind d.position h.unset known (follows-byte c)
           (name-denied held k t c b.0 b.1 begins off))
 
       module _ (begins : begins_decimal c ≡ true) where
@@ -113,7 +113,7 @@ module _ (level : ℕ) (chunk : List ℕ) (i : Reader) (v : Tree) (h : IsHere le
         number-kept n e some within held j w shows full same =
             let k = record i { begin = i.base + i.at; token = token.Number; awaits = awaits.Value; number = n } in
             let end : i.at + (e - i.at) ≡ e = omega (arith, some) in
-            let moves : Moves level chunk i k (e - i.at) =
+            let moves : MovesBy level chunk i k (e - i.at) =
             moves-here level chunk i h.here h.low k (e - i.at) (omega (arith, some)) (omega (arith, end, within))
             (refl, refl, refl) refl in
             shown-steps level chunk i v k v j w (e - i.at) moves shows full same (hidden-here level chunk i v h none)
@@ -134,11 +134,11 @@ module _ (level : ℕ) (chunk : List ℕ) (i : Reader) (v : Tree) (h : IsHere le
             } in
             let is = range-first chunk i.at e some within in
             let rest = slice_range chunk (i.at + 1) e in
-            let all : HasTakenIn anything new (t ++ c ∷ rest) =
+            let all : HasTakenIn any_bytes new (t ++ c ∷ rest) =
             number-begins first new t c rest b.0 there (refl, refl, refl) refl refl
             refl refl (decimal-starts c begins) (subst (HoldsNumber n) is held) in
-            subst (λ m. HasTakenIn anything new (t ++ slice_range chunk i.at m)) (sym end)
-            (subst (λ s. HasTakenIn anything new (t ++ s)) (sym is) all))
+            subst (λ m. HasTakenIn any_bytes new (t ++ slice_range chunk i.at m)) (sym end)
+            (subst (λ s. HasTakenIn any_bytes new (t ++ s)) (sym is) all))
 
 -- A slot has room for a value where its container has.
 pub room-there : (level : ℕ) (chunk : List ℕ) (i : Reader) (v : Tree) (slot : JsonValue) → IsHere level chunk i v

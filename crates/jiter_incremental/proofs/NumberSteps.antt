@@ -2,17 +2,17 @@
 use Rattle.jiter_incremental.proofs.Words.{◌≡◌, ◌⊎◌, ℕ, ◌+◌, ◌<◌, ◌≤◌, Bool, true, false, List, [], ◌∷◌, ◌++◌, length}
 use Rattle.jiter_incremental.proofs.Words.{refl, sym, subst, ap, ◌∙◌, append-nil, arith, inl, inr, Result, Ok, Err}
 use Rattle.jiter_incremental.proofs.Words.{IfOk, OnErr, slice_index, slice_range, string_bytes, Global, CowStr}
-use Rattle.jiter_incremental.proofs.Words.{none-some, fault_kind, is_forgiven, HoldsNumber, IsBegun, Leads, number_by}
+use Rattle.jiter_incremental.proofs.Words.{none-some, fault_kind, is_forgiven, HoldsNumber, IsBegun, StepsTo, number_by}
 use Rattle.jiter_incremental.proofs.Words.{failed, FaultKind, PartialNumber, PartialWord, is_blank, text_view, Tree}
-use Rattle.jiter_incremental.proofs.Words.{HasCome, HasReadIn, HasTakenIn, IsReadAs, anything, in_scalar, own_number}
-use Rattle.jiter_incremental.proofs.Words.{with_byte, name_word, AsRead, HasReadTo, IsAt, IsComplete, IsHere, Stays}
+use Rattle.jiter_incremental.proofs.Words.{HasTakenAll, HasReadIn, HasTakenIn, IsReadAs, any_bytes, in_scalar, own_number}
+use Rattle.jiter_incremental.proofs.Words.{with_byte, name_word, AsRead, HasReadTo, IsAt, IsComplete, IsHere, ReadsAsBefore}
 use Rattle.jiter_incremental.proofs.Words.{Steps, after_level, ahead, ahead_as, document, refused, with_shown, IsPut}
 use Rattle.jiter_incremental.proofs.Words.{OpenFrame, filled, Reader}
 use Rattle.jiter_scan.specs.PartialNumber.{Fits}
 use Rattle.jiter_scan.specs.declared.errors.FaultKind.TheVariants as fault_of
-use Rattle.jiter_scan.specs.declared.partial_number.Went.{Went}
-use Rattle.jiter_scan.specs.declared.partial_number.Went.TheVariants as went
-use Rattle.jiter_incremental.specs.declared.names.Name.TheVariants as name
+use Rattle.jiter_scan.specs.declared.partial_number.NumberStep.{NumberStep}
+use Rattle.jiter_scan.specs.declared.partial_number.NumberStep.TheVariants as went
+use Rattle.jiter_incremental.specs.declared.names.WordValue.TheVariants as name
 use Rattle.jiter_incremental.specs.declared.reader.Token.TheVariants as token
 use Rattle.jiter_incremental.proofs.Arms.{byte-taken}
 use Rattle.jiter_incremental.proofs.Between.{goes-blank, put-left, scalar-read}
@@ -24,7 +24,7 @@ use Rattle.jiter_incremental.proofs.Settling.{ahead-level, apart-read, moves-fro
 use Rattle.jiter_incremental.proofs.Showing.{shown-steps}
 
 -- Nothing is known of the byte after a number that is unfinished.
-pub ahead-number : (r : Reader) (chunk : List ℕ) (n : ℕ) → r.token ≡ token.Number → ahead r chunk n ≡ anything
+pub ahead-number : (r : Reader) (chunk : List ℕ) (n : ℕ) → r.token ≡ token.Number → ahead r chunk n ≡ any_bytes
 ahead-number r chunk n is = ap (λ k. ahead_as k r.awaits chunk n) is
 
 -- What was kept begins a number.
@@ -41,16 +41,16 @@ begun-more old new w f (Err e) h held refused =
 -- A number is unfinished, and apart.
 module _ (level : ℕ) (chunk : List ℕ) (i : Reader) (v : Tree) (h : IsHere level chunk i v) (hidden : i.shown ≡ false) where
   module _ (is : i.token ≡ token.Number) where
-    come-here : (x : Tree) (t : List ℕ) → HasReadTo chunk i x t → HasCome (document i x) t
+    come-here : (x : Tree) (t : List ℕ) → HasReadTo chunk i x t → HasTakenAll (document i x) t
     come-here x t r = record {
-      read = apart-read anything (document i x) t
+      read = apart-read any_bytes (document i x) t
           (subst (λ n. HasReadIn n (document i x) t) (ahead-number i chunk i.at is) r.read) hidden;
       position = r.position;
     }
 
     -- It fits nowhere in the number,
-    pub number-wrong : (kind : FaultKind) (w : Went) (at : ℕ) → is_forgiven (fault_kind kind) ≡ false
-        → Leads i.number.stage (slice_index chunk i.at) w
+    pub number-wrong : (kind : FaultKind) (w : NumberStep) (at : ℕ) → is_forgiven (fault_kind kind) ≡ false
+        → StepsTo i.number.stage (slice_index chunk i.at) w
         → ((names : Bool) (u : List ℕ) → number_by names u (i.base + i.at) w ≡ failed (fault_kind kind) at)
         → Steps level chunk i v (refused i kind at) v 1
     number-wrong kind w at bad leads fails =
@@ -60,7 +60,7 @@ module _ (level : ℕ) (chunk : List ℕ) (i : Reader) (v : Tree) (h : IsHere le
         let d = document i (filled outer v) in
         let c = slice_index chunk i.at in
         let x = number-open d t (come-here (filled outer v) t r) h.unset is in
-        refuses anything anything d t (c ∷ []) (in_scalar x.frames x.begin) kind at h.unset x.known (λ u comes. tt)
+        refuses any_bytes any_bytes d t (c ∷ []) (in_scalar x.frames x.begin) kind at h.unset x.known (λ u comes. tt)
         (number-refused d t x c w (fault_kind kind) at bad leads
         (λ names u. ap (λ n. number_by names u n w) (sym r.position) ∙ fails names u)))
 
@@ -77,7 +77,7 @@ module _ (level : ℕ) (chunk : List ℕ) (i : Reader) (v : Tree) (h : IsHere le
           let e = document j (filled outer v) in
           let x = number-open d t (come-here (filled outer v) t r) h.unset is in
           let minus = number-minus d t x (slice_index chunk i.at) (minus-alone d.number x.bytes x.held.0 fits.0) in
-          subst (λ b. HasTakenIn anything e (t ++ b ∷ [])) (sym fits.1)
+          subst (λ b. HasTakenIn any_bytes e (t ++ b ∷ [])) (sym fits.1)
           (name-taken d t x.frames x.begin x.known minus e (refl, refl, refl) refl
           refl refl refl word one allowed))
 
@@ -92,15 +92,15 @@ module _ (level : ℕ) (chunk : List ℕ) (i : Reader) (v : Tree) (h : IsHere le
           let e = document j (filled outer v) in
           let x = number-open d t (come-here (filled outer v) t r) h.unset is in
           let minus = number-minus d t x (slice_index chunk i.at) (minus-alone d.number x.bytes x.held.0 fits.0) in
-          subst (λ b. HasTakenIn anything e (t ++ b ∷ [])) (sym fits.1)
-          (refuses anything anything d t (73 ∷ []) (in_scalar x.frames x.begin) fault_of.InvalidNumber at h.unset
+          subst (λ b. HasTakenIn any_bytes e (t ++ b ∷ [])) (sym fits.1)
+          (refuses any_bytes any_bytes d t (73 ∷ []) (in_scalar x.frames x.begin) fault_of.InvalidNumber at h.unset
           x.known (λ u comes. tt) (name-refused d t x.frames x.begin x.known minus r.position off)))
 
     -- or follows it.
     abbrev ended : PartialNumber → CowStr Global → Reader
     ended n k = record i { number = n; token = token.Nothing; awaits = after_level level; key = k }
 
-    module _ (leads : Leads i.number.stage (slice_index chunk i.at) went.Over) (n : PartialNumber) (k : CowStr Global)
+    module _ (leads : StepsTo i.number.stage (slice_index chunk i.at) went.Over) (n : PartialNumber) (k : CowStr Global)
         (w : Tree) (put : IsPut level v (text_view i.key) (own_number (string_bytes i.number.text)) w) where
       read-ended : (t : List ℕ) (outer : List OpenFrame) → IsAt level outer → HasReadTo chunk i (filled outer v) t
           → HasReadTo chunk (ended n k) (filled outer w) t
@@ -116,8 +116,8 @@ module _ (level : ℕ) (chunk : List ℕ) (i : Reader) (v : Tree) (h : IsHere le
           let left = put-left e.value tree fs (deep, there) (ap after_level (sym h.here)) in
           let reads = subst (λ u. IsReadAs d (with_byte c) u (length fs) x.begin tree) (sym (append-nil t))
           (number-ends d t x c leads) in
-          let all = puts anything (with_byte c) (record d { number = n }) e.value tree t [] fs x.begin
-          (number-known anything d n t (in_scalar fs x.begin) x.known) (λ u comes. tt) left
+          let all = puts any_bytes (with_byte c) (record d { number = n }) e.value tree t [] fs x.begin
+          (number-known any_bytes d n t (in_scalar fs x.begin) x.known) (λ u comes. tt) left
           (λ p u a b. scalar-read tree p u a b fs) reads in
           let one = subst (HasTakenIn (with_byte c) e) (append-nil t) all in
           let next : ahead (ended n k) chunk i.at ≡ with_byte c =
@@ -156,7 +156,7 @@ module _ (level : ℕ) (chunk : List ℕ) (i : Reader) (v : Tree) (h : IsHere le
           (λ outer at s left.
           goes-blank (document j (filled outer w)).value s (slice_index chunk i.at) blank left))
 
-pub invalid-only : (w : Went) → (w ≡ went.Invalid) ⊎ (w ≡ went.TooLong) → ¬ (w ≡ went.TooLong) → w ≡ went.Invalid
+pub invalid-only : (w : NumberStep) → (w ≡ went.Invalid) ⊎ (w ≡ went.TooLong) → ¬ (w ≡ went.TooLong) → w ≡ went.Invalid
 invalid-only w (inl is) other = is
 invalid-only w (inr is) other = absurd (other is)
 
@@ -187,14 +187,14 @@ module _ (level : ℕ) (chunk : List ℕ) (i : Reader) (v : Tree) (h : IsHere le
 
     pub number-kept : {E : Type 0} (r : Result ℕ E)
         → OnErr r ((string_bytes m.text ≡ string_bytes i.number.text) × (m.stage ≡ i.number.stage))
-        → OnErr r (Stays level chunk i v k x)
+        → OnErr r (ReadsAsBefore level chunk i v k x)
     number-kept (Ok n) refused = tt
     number-kept (Err e) refused = record {
       goes = λ t outer at r.
           let d = document i (filled outer v) in
           let more = number-stays d m t (come-here level chunk i v h hidden is (filled outer v) t r) h.unset is
           refused.0 refused.1 in
-          read.goes anything t outer at (reads-apart anything (document (record i { number = m }) (filled outer v)) t more.read hidden);
+          read.goes any_bytes t outer at (reads-apart any_bytes (document (record i { number = m }) (filled outer v)) t more.read hidden);
       free = ahead-number k chunk i.at (ap (λ (r : Reader). r.token) same ∙ is);
       still = (
         ap (λ (r : Reader). r.settings) same,

@@ -4,7 +4,7 @@ use Rattle.jiter_incremental.proofs.Words.{sym, subst, ap, ◌∙◌, arith, inl
 use Rattle.jiter_incremental.proofs.Words.{Option, None, Some, Result, Ok, Err, IfOk, OnErr, is_blank, none-some}
 use Rattle.jiter_incremental.proofs.Words.{slice_get-get_or, slice_range-split, Fault, Tree, Document, Follows}
 use Rattle.jiter_incremental.proofs.Words.{HasReadIn, HasTakenIn, IsOver, MayRefuseAt, Next, HasReadTo, IsAt}
-use Rattle.jiter_incremental.proofs.Words.{IsComplete, Ready, Refuses, Stays, Steps, Went, ahead, ahead_as, document}
+use Rattle.jiter_incremental.proofs.Words.{IsComplete, Ready, Refuses, ReadsAsBefore, Steps, Advanced, ahead, ahead_as, document}
 use Rattle.jiter_incremental.proofs.Words.{next_of, OpenFrame, filled, Awaits, Reader, Token}
 use Rattle.jiter_incremental.specs.declared.reader.Awaits.TheVariants as awaits
 use Rattle.jiter_incremental.specs.declared.reader.Token.TheVariants as token
@@ -73,7 +73,7 @@ over-step level chunk i v r here inside over =
           };
     }
 
--- Where an allocation fails the byte is no blank, or one came before.
+-- Where an allocation fails the byte is not whitespace, or one came before.
 pub refuse-read : (n : Next) (d : Document) (t : List ℕ) (c : ℕ) → HasReadIn n d t → d.fault ≡ None
     → ¬ (d.token ≡ token.Nothing) → MayRefuseAt (t ++ c ∷ []) (length t)
 refuse-read n d t c h unset begun =
@@ -82,7 +82,7 @@ refuse-read n d t c h unset begun =
     refuse-after t c (held-byte s.apart t h.opened s.held (λ none. begun (same ∙ none)))
 
 module _ (level : ℕ) (chunk : List ℕ) (i : Reader) (v : Tree) (j : Reader) (w : Tree) where
-  refuses-by : i.at < length chunk → Stays level chunk i v j w
+  refuses-by : i.at < length chunk → ReadsAsBefore level chunk i v j w
       → ((t : List ℕ) (outer : List OpenFrame) → IsAt level outer → HasReadTo chunk i (filled outer v) (t ++ take i.at chunk)
       → MayRefuseAt ((t ++ take i.at chunk) ++ slice_index chunk i.at ∷ []) (length (t ++ take i.at chunk)))
       → Refuses level chunk i v j
@@ -94,14 +94,14 @@ module _ (level : ℕ) (chunk : List ℕ) (i : Reader) (v : Tree) (j : Reader) (
     free = ap (ahead j chunk) stays.still.2 ∙ stays.free;
   }
 
-  pub refuses-blank : {E : Type 0} (r : Result ℕ E) → i.at < length chunk → OnErr r (Stays level chunk i v j w)
+  pub refuses-blank : {E : Type 0} (r : Result ℕ E) → i.at < length chunk → OnErr r (ReadsAsBefore level chunk i v j w)
       → OnErr r (is_blank (slice_index chunk i.at) ≡ false) → OnErr r (Refuses level chunk i v j)
   refuses-blank (Ok n) inside stays other = tt
   refuses-blank (Err e) inside stays other =
       refuses-by inside stays (λ t outer at h. refuse-here (t ++ take i.at chunk) (slice_index chunk i.at) other)
 
   pub refuses-token : {E : Type 0} (r : Result ℕ E) → i.at < length chunk → i.fault ≡ None → ¬ (i.token ≡ token.Nothing)
-      → OnErr r (Stays level chunk i v j w) → OnErr r (Refuses level chunk i v j)
+      → OnErr r (ReadsAsBefore level chunk i v j w) → OnErr r (Refuses level chunk i v j)
   refuses-token (Ok n) inside unset begun stays = tt
   refuses-token (Err e) inside unset begun stays =
       refuses-by inside stays
@@ -111,13 +111,13 @@ module _ (level : ℕ) (chunk : List ℕ) (i : Reader) (v : Tree) (j : Reader) (
 
   -- Where a container was opened the document is read on.
   pub opened-so : {E : Type 0} (r : Result ℕ E) → i.depth ≡ level → IfOk r (Steps level chunk i v j w)
-      → OnErr r (Stays level chunk i v j w) → level < j.depth → j.fault ≡ None
+      → OnErr r (ReadsAsBefore level chunk i v j w) → level < j.depth → j.fault ≡ None
   opened-so (Ok n) here steps stays more = steps.moves.deeper more
   opened-so (Err e) here steps stays more = absurd (omega (arith, here, stays.depth, more))
 
 -- A reader that is over takes the rest of the chunk.
 pub over-went : (chunk : List ℕ) (i : Reader) (v : Tree) → IsComplete i → i.at < length chunk → i.depth ≤ 201
-    → ((x : Tree) → IsOver (document i x)) → Went 0 chunk i v (record i { at = length chunk }) v
+    → ((x : Tree) → IsOver (document i x)) → Advanced 0 chunk i v (record i { at = length chunk }) v
 over-went chunk i v full inside low over =
     let n = length chunk - i.at in
     let end : i.at + n ≡ length chunk = omega (arith, inside) in

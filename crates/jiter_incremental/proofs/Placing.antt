@@ -5,8 +5,8 @@ use Rattle.jiter_incremental.proofs.Words.{CowStr, fault_kind, FaultKind, is_bla
 use Rattle.jiter_incremental.proofs.Words.{start_of, fault, opening, text_view, Text, Tree, ContainerKind, at_value}
 use Rattle.jiter_incremental.proofs.Words.{between_parts, Everywhere, TakesByte, completed, BeginsHere, Follows}
 use Rattle.jiter_incremental.proofs.Words.{HasReadIn, IsAllowed, IsNumberWithin, IsScalarWithin, StandsAt, WordBegins}
-use Rattle.jiter_incremental.proofs.Words.{anything, between_tokens, with_byte, name_start, name_word, Name}
-use Rattle.jiter_incremental.proofs.Words.{PartialWord, AwaitsValue, HasReadTo, IsAt, IsHere, Moves, Steps, after_level}
+use Rattle.jiter_incremental.proofs.Words.{any_bytes, between_tokens, with_byte, name_start, name_word, WordValue}
+use Rattle.jiter_incremental.proofs.Words.{PartialWord, AwaitsValue, HasReadTo, IsAt, IsHere, MovesBy, Steps, after_level}
 use Rattle.jiter_incremental.proofs.Words.{ahead, document, refused, AwaitsPart, IsOfKey, IsPut, OpenFrame, begun}
 use Rattle.jiter_incremental.proofs.Words.{filled, empty_tree, Reader}
 use Rattle.jiter_scan.specs.declared.errors.FaultKind.TheVariants as fault_of
@@ -69,7 +69,7 @@ module _ (level : ℕ) (chunk : List ℕ) (i : Reader) (v : Tree) (h : IsHere le
         let stands : StandsAt c d t s =
         record { known = a.1.known; token = none; unset = h.unset; position = r.position } in
         let deep : length a.0 ≡ level = sym (depth-of i.depth x a.0 a.1.part) ∙ h.here in
-        refuses (with_byte c) anything d t (c ∷ []) (between_tokens s) kind d.position h.unset a.1.known
+        refuses (with_byte c) any_bytes d t (c ∷ []) (between_tokens s) kind d.position h.unset a.1.known
         (follows-byte c) (wrong-refused d d.value c t s kind stands (wrong a.0 deep)))
 
     module _ (other : is_blank c ≡ false) where
@@ -92,7 +92,7 @@ module _ (level : ℕ) (chunk : List ℕ) (i : Reader) (v : Tree) (h : IsHere le
           → Steps level chunk i v (turned i awaits.First (i.depth + 1) k) w 1
       container-opens kind k w low starts put =
           let j = turned i awaits.First (i.depth + 1) k in
-          let moves : Moves level chunk i j 1 =
+          let moves : MovesBy level chunk i j 1 =
           record {
             within = omega (arith, h.inside);
             some = inl (omega arith);
@@ -144,13 +144,13 @@ module _ (level : ℕ) (chunk : List ℕ) (i : Reader) (v : Tree) (h : IsHere le
                 let new = (document j (filled outer w)).value in
                 let left = put-left new x fs (deep, there) (ap after_level (sym h.here)) in
                 let bytes = slice_range chunk i.at e in
-                let all = puts (with_byte c) anything (record d { value = held }) new x t bytes fs (length t) begins.known
+                let all = puts (with_byte c) any_bytes (record d { value = held }) new x t bytes fs (length t) begins.known
                 (scalar-follows chunk i.at x e within) left (λ p u n m. scalar-read x p u n m fs)
                 (scalar-reads chunk i.at x e within (record d { value = held }) t (length fs) begins.low) in
                 let got = document j (filled outer w) in
                 subst (λ m. HasReadIn (ahead j chunk m) got (t ++ slice_range chunk i.at m)) (sym end)
                 (read-any (ahead j chunk e) got (t ++ bytes)
-                (reads-apart anything got (t ++ bytes) all (hidden-here level chunk i v h none)));
+                (reads-apart any_bytes got (t ++ bytes) all (hidden-here level chunk i v h none)));
             complete = λ unset _. refl;
             moves =
                 moves-here level chunk i h.here h.low j (e - i.at) (omega (arith, within.begins))
@@ -218,7 +218,7 @@ module _ (level : ℕ) (chunk : List ℕ) (i : Reader) (v : Tree) (h : IsHere le
           )
 
       -- A word does.
-      pub word-step : (k : Name) (o : PartialWord) → level ≤ 200 → start_of c ≡ name_start k → IsAllowed i.settings k
+      pub word-step : (k : WordValue) (o : PartialWord) → level ≤ 200 → start_of c ≡ name_start k → IsAllowed i.settings k
           → WordBegins k c → o.word.now ≡ name_word k → o.seen ≡ 1
           → Steps level chunk i v (record i {
             begin = i.base + i.at;

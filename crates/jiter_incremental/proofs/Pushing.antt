@@ -41,14 +41,14 @@ received-so j k w t h low room is =
       none : j.base + j.at + 0 ≡ j.base + j.at
       none = omega arith
 
--- Where memory may be refused, its want is answered.
+-- Where an allocation may fail, its want is answered.
 pub refused-promised : (names : Bool) (t : List ℕ) (i : ℕ) → MayRefuseAt t i
     → Parses owned_tree (past_blanks t 0 < length t) names Off t (Err (record { error_type = OutOfMemory; index = i }))
 refused-promised names t i h =
     parses names t Off owned_tree (past_blanks t 0 < length t) (Err (record { error_type = OutOfMemory; index = i }))
     (inl refl) (λ memory. (omega (arith, h.begun, h.before), h.begun, omega (arith, h.before)))
 
--- What is promised with no want of memory is promised.
+-- What is promised with no a failed allocation is promised.
 pub never-refused : (names : Bool) (t : List ℕ) (r : Result JsonValue JsonError)
     → Parses owned_tree ⊥ names Off t r → Parses owned_tree (past_blanks t 0 < length t) names Off t r
 never-refused names t r h =

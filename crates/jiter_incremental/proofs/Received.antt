@@ -21,7 +21,7 @@ module _ (p : Settings) (t : List ℕ) where
       parses p.allow_inf_nan t p.mode owned_tree ⊥ (Ok v)
       (h.2.0, sym read-by ∙ h.2.1 ∙ ap (λ w. done w h.2.0) (sym same)) tt
 
-  -- or the first fault.
+  -- or the first error.
   pub fault-promised : (f : Fault) (v : Option Tree) (e : JsonError) → AnswersSo p t (Some f) v
       → (kind_of e.error_type ≡ fault_kind f.kind) × (e.index ≡ f.index)
       → Parses owned_tree ⊥ p.allow_inf_nan p.mode t (Err e)

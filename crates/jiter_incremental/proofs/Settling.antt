@@ -2,15 +2,15 @@
 use Rattle.jiter_incremental.proofs.Words.{◌≡◌, ℕ, zero, suc, ◌+◌, ◌-◌, ◌<◌, Bool, false, List, [], ◌∷◌, ◌++◌, length}
 use Rattle.jiter_incremental.proofs.Words.{take, drop, get_or, refl, sym, subst, ap, ◌∙◌, ◌≤◌, arith, inl, true}
 use Rattle.jiter_incremental.proofs.Words.{false≢true, nesting_limit, slice_index, slice_range, None, slice_get-get_or}
-use Rattle.jiter_incremental.proofs.Words.{slice-one, Tree, null, Document, HasReadIn, HasTakenIn, Holding, HoldsScalar}
-use Rattle.jiter_incremental.proofs.Words.{HasArrived, Parted, Settled, IsMoved, Next, Opened, anything, between_tokens}
+use Rattle.jiter_incremental.proofs.Words.{slice-one, Tree, null, Document, HasReadIn, HasTakenIn, HoldsOpened, HoldsScalar}
+use Rattle.jiter_incremental.proofs.Words.{HasArrived, Parted, Settled, IsMoved, Next, Opened, any_bytes, between_tokens}
 use Rattle.jiter_incremental.proofs.Words.{in_key, in_scalar, is_shown, shown_as, with_byte, with_parts, HasReadTo}
-use Rattle.jiter_incremental.proofs.Words.{IsAt, IsStill, Moves, Steps, after_level, ahead, ahead_as, document, next_of}
+use Rattle.jiter_incremental.proofs.Words.{IsAt, IsStill, MovesBy, Steps, after_level, ahead, ahead_as, document, next_of}
 use Rattle.jiter_incremental.proofs.Words.{OpenFrame, filled, Awaits, Reader, Token}
 use Rattle.jiter_incremental.proofs.Documents.{known-any}
 use Rattle.jiter_incremental.specs.declared.reader.Token.TheVariants as token
 
-pub read-any : (m : Next) (d : Document) (t : List ℕ) → HasReadIn anything d t → HasReadIn m d t
+pub read-any : (m : Next) (d : Document) (t : List ℕ) → HasReadIn any_bytes d t → HasReadIn m d t
 read-any m d t h = record { opened = h.opened; known = known-any m d t h.opened h.known; held = h.held }
 
 -- No scalar is unfinished, or none that is a value.
@@ -45,7 +45,7 @@ reads-apart n d t h hidden = record {
 }
 
 -- and what stays apart is held as before.
-holding-parts : (d : Document) (b : Bool) (t : List ℕ) (o : Opened) → Holding d t o → Holding (record d { shown = b }) t o
+holding-parts : (d : Document) (b : Bool) (t : List ℕ) (o : Opened) → HoldsOpened d t o → HoldsOpened (record d { shown = b }) t o
 holding-parts d b t (between_tokens s) h = h
 holding-parts d b t (in_scalar fs i) h = (
   h.0,
@@ -85,7 +85,7 @@ apart-read n d t h hidden = record {
       let s = h.held unset in
       let m = subst (λ b. IsMoved b s.apart d) hidden s.moved in
       let is = same-parts d s.apart s.same m.0 m.1 m.2 in
-      subst (λ e. Holding e t h.opened) (sym is) (holding-parts s.apart d.shown t h.opened s.held);
+      subst (λ e. HoldsOpened e t h.opened) (sym is) (holding-parts s.apart d.shown t h.opened s.held);
 }
 
 -- Where a scalar that is a value is shown, what is held is settled.
@@ -108,7 +108,7 @@ one-slice chunk at within = slice-one chunk at (get_or chunk at 0) (slice_get-ge
 -- The same container is open after them.
 module _ (level : ℕ) (chunk : List ℕ) (i : Reader) (here : i.depth ≡ level) (low : level ≤ nesting_limit + 1) where
   pub moves-here : (j : Reader) (n : ℕ) → 0 < n → i.at + n ≤ length chunk → IsStill i j → j.depth ≡ i.depth
-      → Moves level chunk i j n
+      → MovesBy level chunk i j n
   moves-here j n some within still depth = record {
     within = within;
     some = inl some;
@@ -118,12 +118,12 @@ module _ (level : ℕ) (chunk : List ℕ) (i : Reader) (here : i.depth ≡ level
     deeper = λ more. absurd (omega (arith, here, depth, more));
   }
 
-  pub moves-one : (j : Reader) → i.at < length chunk → IsStill i j → j.depth ≡ i.depth → Moves level chunk i j 1
+  pub moves-one : (j : Reader) → i.at < length chunk → IsStill i j → j.depth ≡ i.depth → MovesBy level chunk i j 1
   moves-one j inside still depth = moves-here j 1 (omega arith) (omega (arith, inside)) still depth
 
 -- It moves as one that is where it is.
-pub moves-from : (level : ℕ) (chunk : List ℕ) (i j k : Reader) (n : ℕ) → IsStill i j → Moves level chunk j k n
-    → Moves level chunk i k n
+pub moves-from : (level : ℕ) (chunk : List ℕ) (i j k : Reader) (n : ℕ) → IsStill i j → MovesBy level chunk j k n
+    → MovesBy level chunk i k n
 moves-from level chunk i j k n still m = record {
   within = subst (λ a. a + n ≤ length chunk) still.2 m.within;
   some = m.some;
@@ -135,10 +135,10 @@ moves-from level chunk i j k n still m = record {
 
 module _ (level : ℕ) (chunk : List ℕ) (i : Reader) (v : Tree) (j : Reader) (w : Tree) where
   -- The next byte is taken,
-  pub steps-one : i.at < length chunk → Moves level chunk i j 1 → j.shown ≡ false
+  pub steps-one : i.at < length chunk → MovesBy level chunk i j 1 → j.shown ≡ false
       → ((x : Tree) → j.fault ≡ None → is_shown (document j x) ≡ false)
       → ((t : List ℕ) (outer : List OpenFrame) → IsAt level outer → HasReadTo chunk i (filled outer v) t
-      → HasTakenIn anything (document j (filled outer w)) (t ++ slice_index chunk i.at ∷ []))
+      → HasTakenIn any_bytes (document j (filled outer w)) (t ++ slice_index chunk i.at ∷ []))
       → Steps level chunk i v j w 1
   steps-one inside moves hidden off goes = record {
     goes = λ t outer at h.
@@ -146,7 +146,7 @@ module _ (level : ℕ) (chunk : List ℕ) (i : Reader) (v : Tree) (j : Reader) (
         let u = t ++ slice_index chunk i.at ∷ [] in
         subst (λ s. HasReadIn (ahead j chunk (i.at + 1)) d (t ++ s)) (sym (one-slice chunk i.at inside))
         (read-any (ahead j chunk (i.at + 1)) d u
-        (reads-apart anything d u (goes t outer at h) hidden));
+        (reads-apart any_bytes d u (goes t outer at h) hidden));
     moves = moves;
     complete = λ unset _. off null unset;
   }

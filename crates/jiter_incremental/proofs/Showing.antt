@@ -5,9 +5,9 @@ use Rattle.jiter_incremental.proofs.Words.{Result, Ok, Err, IfOk, OnErr, Global,
 use Rattle.jiter_incremental.proofs.Words.{number_from, PartialNumber, items_frame, members_frame, number_tree}
 use Rattle.jiter_incremental.proofs.Words.{HasTaken, text_view, Text, Tree, string, PartialString, owned_text, tree_as}
 use Rattle.jiter_incremental.proofs.Words.{IsLeft, OpenValue, at_value, text_of, Document, HasMoved, HasReadIn}
-use Rattle.jiter_incremental.proofs.Words.{HasTakenIn, Holding, HoldsScalar, IsMoved, Next, Opened, Parted, TakenFrom}
-use Rattle.jiter_incremental.proofs.Words.{anything, between_tokens, in_key, in_scalar, is_shown, token_tree}
-use Rattle.jiter_incremental.proofs.Words.{with_parts, AsRead, HasReadTo, IsAt, IsComplete, IsHere, Moves, Stays, Steps}
+use Rattle.jiter_incremental.proofs.Words.{HasTakenIn, HoldsOpened, HoldsScalar, IsMoved, Next, Opened, Parted, TakenFrom}
+use Rattle.jiter_incremental.proofs.Words.{any_bytes, between_tokens, in_key, in_scalar, is_shown, token_tree}
+use Rattle.jiter_incremental.proofs.Words.{with_parts, AsRead, HasReadTo, IsAt, IsComplete, IsHere, MovesBy, ReadsAsBefore, Steps}
 use Rattle.jiter_incremental.proofs.Words.{ahead, document, with_shown, AwaitsPart, HasValue, IsContainer, IsOfKey}
 use Rattle.jiter_incremental.proofs.Words.{IsPut, OpenFrame, around, begun, filled, Reader, Token}
 use Rattle.jiter_steps.specs.PartialText.{with_text}
@@ -61,9 +61,9 @@ pub record InScalar (d : Document) (t : List ℕ) (o : Opened) : Type 0 where
   pub frames : List OpenFrame
   pub begin : ℕ
   pub is : o ≡ in_scalar frames begin
-  pub held : Holding d t (in_scalar frames begin)
+  pub held : HoldsOpened d t (in_scalar frames begin)
 
-in-moved : (d : Document) (t : List ℕ) (o : Opened) (n : PartialNumber) (s : PartialString) (x : Tree) → Holding d t o
+in-moved : (d : Document) (t : List ℕ) (o : Opened) (n : PartialNumber) (s : PartialString) (x : Tree) → HoldsOpened d t o
     → HasMoved d.token d n s x → InScalar d t o
 in-moved d t (between_tokens a) n s x h moved = absurd (moved-nothing d.token d n s x moved h.0)
 in-moved d t (in_scalar fs b) n s x h moved = record { frames = fs; begin = b; is = refl; held = h }
@@ -119,12 +119,12 @@ taken-again : (d : Document) (n : PartialNumber) (s : PartialString) (v : OpenVa
 taken-again d n s v t b w h = record { prefix = h.prefix; is = h.is; begin = h.begin; place = h.place }
 
 holds-scalar : (d : Document) (n : PartialNumber) (s : PartialString) (v : OpenValue) (t : List ℕ) (fs : List OpenFrame)
-    (b : ℕ) → Holding d t (in_scalar fs b) → TextBack d.token d n s → IsLeft v (at_value awaits.Value fs)
-    → Holding (with_parts d false n s v) t (in_scalar fs b)
+    (b : ℕ) → HoldsOpened d t (in_scalar fs b) → TextBack d.token d n s → IsLeft v (at_value awaits.Value fs)
+    → HoldsOpened (with_parts d false n s v) t (in_scalar fs b)
 holds-scalar d n s v t fs b h back left =
     (h.0, taken-again d n s v t b h.0 h.1, scalar-again d n s v d.token h.0 back h.2, left, h.4)
 
--- The value of the scalar stands in the slot,
+-- The value of the scalar is in the slot,
 key-on : (k : Text) (f : OpenFrame) (fs : List OpenFrame) → IsOfKey k (f ∷ []) → IsOfKey k (f ∷ fs)
 key-on k (items_frame xs) fs of = tt
 key-on k (members_frame ms l) fs of = of
@@ -218,8 +218,8 @@ hides-moved level i v w y n s k here unset on taken number text = record {
         opened = h.opened;
         known = known-as next d e t h.opened (refl, refl, refl) h.known;
         held = λ none.
-            subst (λ a. Holding a t h.opened) (sym same)
-            (subst (λ o. Holding (with_parts z.apart false n s e.value) t o) (sym x.is) held);
+            subst (λ a. HoldsOpened a t h.opened) (sym same)
+            (subst (λ o. HoldsOpened (with_parts z.apart false n s e.value) t o) (sym x.is) held);
       }) refl;
 }
 
@@ -256,11 +256,11 @@ module _ (level : ℕ) (chunk : List ℕ) (i : Reader) (v : Tree) (j : Reader) (
       }
   steps-as (Err e) k x s = tt
 
-  pub stays-as : {E : Type 0} (r : Result ℕ E) (k : Reader) (x : Tree) → OnErr r (Stays level chunk j w k x)
-      → OnErr r (Stays level chunk i v k x)
+  pub stays-as : {E : Type 0} (r : Result ℕ E) (k : Reader) (x : Tree) → OnErr r (ReadsAsBefore level chunk j w k x)
+      → OnErr r (ReadsAsBefore level chunk i v k x)
   stays-as (Ok n) k x s = tt
   stays-as (Err e) k x s =
-      let so = subst (λ q. Stays level chunk q w k x) same s in
+      let so = subst (λ q. ReadsAsBefore level chunk q w k x) same s in
       record {
         goes = λ t outer at r. so.goes t outer at (read-as t outer at r);
         free = so.free;
@@ -283,17 +283,17 @@ module _ (level : ℕ) (chunk : List ℕ) (i : Reader) (v : Tree) (h : IsHere le
 
 -- What is moved into the value so far, and shown there, is read.
 pub shown-steps : (level : ℕ) (chunk : List ℕ) (i : Reader) (v : Tree) (k : Reader) (x : Tree) (j : Reader) (w : Tree)
-    (n : ℕ) → Moves level chunk i k n → AsRead level k x j w → IsComplete j → j ≡ with_shown k j.shown j.number j.string j.key
+    (n : ℕ) → MovesBy level chunk i k n → AsRead level k x j w → IsComplete j → j ≡ with_shown k j.shown j.number j.string j.key
     → k.shown ≡ false
     → ((t : List ℕ) (outer : List OpenFrame) → IsAt level outer → HasReadTo chunk i (filled outer v) t
-    → HasTakenIn anything (document k (filled outer x)) (t ++ slice_range chunk i.at (i.at + n)))
+    → HasTakenIn any_bytes (document k (filled outer x)) (t ++ slice_range chunk i.at (i.at + n)))
     → Steps level chunk i v j w n
 shown-steps level chunk i v k x j w n moves read full same hidden goes = record {
   goes = λ t outer at r.
       let d = document j (filled outer w) in
       let u = t ++ slice_range chunk i.at (i.at + n) in
       read-any (ahead j chunk (i.at + n)) d u
-      (read.goes anything u outer at (reads-apart anything (document k (filled outer x)) u (goes t outer at r) hidden));
+      (read.goes any_bytes u outer at (reads-apart any_bytes (document k (filled outer x)) u (goes t outer at r) hidden));
   complete = full;
   moves =
       let settings : j.settings ≡ k.settings = ap (λ (r : Reader). r.settings) same in
@@ -312,8 +312,8 @@ shown-steps level chunk i v k x j w n moves read full same hidden goes = record 
 }
 
 -- Nothing was taken.
-pub stays-here : (level : ℕ) (chunk : List ℕ) (i : Reader) (v : Tree) → ahead i chunk i.at ≡ anything → IsComplete i
-    → Stays level chunk i v i v
+pub stays-here : (level : ℕ) (chunk : List ℕ) (i : Reader) (v : Tree) → ahead i chunk i.at ≡ any_bytes → IsComplete i
+    → ReadsAsBefore level chunk i v i v
 stays-here level chunk i v free full = record {
   goes = λ t outer at r. subst (λ n. HasReadIn n (document i (filled outer v)) t) free r.read;
   free = free;

@@ -139,7 +139,7 @@ object-around w before k v h =
     view_object w
     ∙ ap (λ xs. object (members_of xs)) (ap (map member_view) h ∙ map_push member_view before (k, v))
 
--- A container that stands as it is so far is a frame of its parts;
+-- A container that is as it is so far is a frame of its parts;
 pub array-begun : (vs : List JsonValue) (f : OpenFrame) → array (items_of (map view vs)) ≡ begun f
     → f ≡ items_frame (map view vs)
 array-begun vs (items_frame xs) h =

@@ -3,17 +3,17 @@ use Rattle.jiter_incremental.proofs.Words.{◌≡◌, ◌⊎◌, ℕ, ◌+◌, �
 use Rattle.jiter_incremental.proofs.Words.{length, refl, sym, subst, ap, ◌∙◌, arith, inl, inr, length-append, slice_get}
 use Rattle.jiter_incremental.proofs.Words.{slice_index, slice_range, Option, None, Some, Global, CowStr, slice-one}
 use Rattle.jiter_incremental.proofs.Words.{allows_trailing_strings, Fault, FaultKind, PartialWord, word_by, word_from}
-use Rattle.jiter_incremental.proofs.Words.{Goes, HasTaken, text_view, Tree, null, string, PartialString, text_of}
-use Rattle.jiter_incremental.proofs.Words.{Document, Follows, HasCome, HasReadIn, HasTakenIn, Holding, Known, Next}
-use Rattle.jiter_incremental.proofs.Words.{Opened, anything, HoldsScalar, between_tokens, in_key, in_scalar, is_shown}
+use Rattle.jiter_incremental.proofs.Words.{GoesOnWith, HasTaken, text_view, Tree, null, string, PartialString, text_of}
+use Rattle.jiter_incremental.proofs.Words.{Document, Follows, HasTakenAll, HasReadIn, HasTakenIn, HoldsOpened, ReadSoFar, Next}
+use Rattle.jiter_incremental.proofs.Words.{Opened, any_bytes, HoldsScalar, between_tokens, in_key, in_scalar, is_shown}
 use Rattle.jiter_incremental.proofs.Words.{noted_in, with_byte, name_tree, AsRead, HasReadTo, IsAt, IsComplete, IsHere}
 use Rattle.jiter_incremental.proofs.Words.{Steps, after_level, ahead, ahead_as, document, noted, refused, with_shown}
 use Rattle.jiter_incremental.proofs.Words.{IsPut, OpenFrame, filled, IsClosedAs, IsOfString, IsTextAs, Reader, Token}
 use Rattle.jiter_scan.specs.Ascii as ascii
 use Rattle.jiter_scan.specs.declared.errors.FaultKind.TheVariants as fault_of
-use Rattle.jiter_scan.specs.declared.partial_word.Seen.TheVariants as seen
+use Rattle.jiter_scan.specs.declared.partial_word.WordStep.TheVariants as seen
 use Rattle.jiter_steps.specs.PartialString.{IsCountAt}
-use Rattle.jiter_steps.specs.declared.partial_string.Went.TheVariants as went
+use Rattle.jiter_steps.specs.declared.partial_string.StringStep.TheVariants as went
 use Rattle.jiter_incremental.specs.declared.reader.Token.TheVariants as token
 use Rattle.jiter_incremental.proofs.Arms.{turned}
 use Rattle.jiter_incremental.proofs.Between.{key-read, put-left, scalar-read}
@@ -34,7 +34,7 @@ module _ (level : ℕ) (chunk : List ℕ) (i : Reader) (v : Tree) (h : IsHere le
     abbrev c : ℕ
     c = slice_index chunk i.at
 
-    ahead-word : ahead i chunk i.at ≡ anything
+    ahead-word : ahead i chunk i.at ≡ any_bytes
     ahead-word = ap (λ k. ahead_as k i.awaits chunk i.at) word
 
     hidden : i.shown ≡ false
@@ -43,9 +43,9 @@ module _ (level : ℕ) (chunk : List ℕ) (i : Reader) (v : Tree) (h : IsHere le
         let s = r.held h.unset in
         not-shown _ _ r.opened s (shown-word s.apart (sym (ap (λ (q : Document). q.token) s.same) ∙ word))
 
-    come : (t : List ℕ) (x : Tree) → HasReadTo chunk i x t → HasCome (document i x) t
+    come : (t : List ℕ) (x : Tree) → HasReadTo chunk i x t → HasTakenAll (document i x) t
     come t x r = record {
-      read = apart-read anything (document i x) t (subst (λ n. HasReadIn n (document i x) t) ahead-word r.read) hidden;
+      read = apart-read any_bytes (document i x) t (subst (λ n. HasReadIn n (document i x) t) ahead-word r.read) hidden;
       position = r.position;
     }
 
@@ -84,7 +84,7 @@ module _ (level : ℕ) (chunk : List ℕ) (i : Reader) (v : Tree) (h : IsHere le
         let deep = depth-of i.depth y o.frames o.left.2 in
         let there = put-there level i.depth v w x (text_view i.key) outer o.frames put at h.here o.left.2 o.left.3 in
         let left = put-left new x o.frames (deep, there) (ap after_level (sym h.here)) in
-        puts anything anything d new x t (c ∷ []) o.frames o.begin o.known (λ u comes. tt) left
+        puts any_bytes any_bytes d new x t (c ∷ []) o.frames o.begin o.known (λ u comes. tt) left
         (λ p u n m. scalar-read x p u n m o.frames) (word-ends d t o m c leads))
 
     -- or is none.
@@ -101,7 +101,7 @@ module _ (level : ℕ) (chunk : List ℕ) (i : Reader) (v : Tree) (h : IsHere le
         let x = filled outer v in
         let d = document i x in
         let o = open-word t x r in
-        refuses anything anything d t (c ∷ []) (in_scalar o.frames o.begin) kind d.position h.unset o.known
+        refuses any_bytes any_bytes d t (c ∷ []) (in_scalar o.frames o.begin) kind d.position h.unset o.known
         (λ u comes. tt) (word-refused d t o m c r.position leads))
 
 -- ---- strings that end
@@ -125,10 +125,10 @@ pub record IsPutSo (level : ℕ) (i : Reader) (v : Tree) (j : Reader) (w : Tree)
 text-goes : (level : ℕ) (i : Reader) (v w : Tree) (k : CowStr Global) (s : PartialString) (n : Next) (t : List ℕ)
     (outer : List OpenFrame) (o : Opened) → i.depth ≡ level → IsAt level outer → i.token ≡ token.Text
     → IsPut level v (text_view i.key) (string (text_of i.string.text.text)) w
-    → Known n (document i (filled outer v)) t o → Holding (document i (filled outer v)) t o
-    → Follows n (34 ∷ []) anything
-    → IsTextAs (document i (filled outer v)) anything (t ++ 34 ∷ []) o i.string.text.text
-    → HasTakenIn anything (document (after_text i level k s) (filled outer w)) (t ++ 34 ∷ [])
+    → ReadSoFar n (document i (filled outer v)) t o → HoldsOpened (document i (filled outer v)) t o
+    → Follows n (34 ∷ []) any_bytes
+    → IsTextAs (document i (filled outer v)) any_bytes (t ++ 34 ∷ []) o i.string.text.text
+    → HasTakenIn any_bytes (document (after_text i level k s) (filled outer w)) (t ++ 34 ∷ [])
 text-goes level i v w k s n t outer (between_tokens a) here at is put known held follows text = absurd text
 text-goes level i v w k s n t outer (in_scalar fs b) here at is put known held follows text =
     let y = filled outer v in
@@ -138,7 +138,7 @@ text-goes level i v w k s n t outer (in_scalar fs b) here at is put known held f
     let deep = depth-of i.depth y fs held.3.2 in
     let there = put-there level i.depth v w x (text_view i.key) outer fs put at here held.3.2 held.3.3 in
     let left = put-left new x fs (deep, there) (ap after_level (sym here)) in
-    puts n anything (with_string d s) new x t (34 ∷ []) fs b (known-as n d (with_string d s) t (in_scalar fs b) (refl, refl, refl) known) follows left
+    puts n any_bytes (with_string d s) new x t (34 ∷ []) fs b (known-as n d (with_string d s) t (in_scalar fs b) (refl, refl, refl) known) follows left
     (λ p u n m. scalar-read x p u n m fs) text
 text-goes level i v w k s n t outer (in_key fs ms b) here at is put known held follows text =
     absurd (let no : token.Text ≡ token.Key = sym is ∙ held.2 in cc)
@@ -146,9 +146,9 @@ text-goes level i v w k s n t outer (in_key fs ms b) here at is put known held f
 -- or it is the key of the next value.
 key-goes : (i : Reader) (y : Tree) (k : CowStr Global) (s : PartialString) (n : Next) (t : List ℕ) (o : Opened)
     → i.token ≡ token.Key → i.fault ≡ None → text_view k ≡ text_of i.string.text.text
-    → Known n (document i y) t o → Holding (document i y) t o → Follows n (34 ∷ []) anything
-    → IsTextAs (document i y) anything (t ++ 34 ∷ []) o i.string.text.text
-    → HasTakenIn anything (document (after_key i k s) y) (t ++ 34 ∷ [])
+    → ReadSoFar n (document i y) t o → HoldsOpened (document i y) t o → Follows n (34 ∷ []) any_bytes
+    → IsTextAs (document i y) any_bytes (t ++ 34 ∷ []) o i.string.text.text
+    → HasTakenIn any_bytes (document (after_key i k s) y) (t ++ 34 ∷ [])
 key-goes i y k s n t (between_tokens a) is unset named known held follows text = absurd text
 key-goes i y k s n t (in_scalar fs b) is unset named known held follows text =
     absurd (subst (λ q. HoldsScalar (document i y) q held.0) is held.2)
@@ -158,24 +158,24 @@ key-goes i y k s n t (in_key fs ms b) is unset named known held follows text =
     let new = (document (after_key i k s) y).value in
     let low : b < length (t ++ 34 ∷ []) =
     omega (arith, ap length held.1.is, length-append held.1.prefix held.0, held.1.begin, length-append t (34 ∷ [])) in
-    key-taken (with_string d s) new n anything t (34 ∷ []) fs ms b u (known-as n d (with_string d s) t (in_key fs ms b) (refl, refl, refl) known) follows
+    key-taken (with_string d s) new n any_bytes t (34 ∷ []) fs ms b u (known-as n d (with_string d s) t (in_key fs ms b) (refl, refl, refl) known) follows
     unset (held.4, tt, (held.5, held.6), sym named) low text (λ p t j e ms fs. key-read p t j e ms fs u)
 
 pub ahead-string : (k : Token) (r : Reader) (chunk : List ℕ) (i : ℕ) → r.token ≡ k → IsOfString k
-    → ahead r chunk i ≡ anything
+    → ahead r chunk i ≡ any_bytes
 ahead-string k r chunk i is (inl e) = ap (λ x. ahead_as x r.awaits chunk i) (is ∙ e)
 ahead-string k r chunk i is (inr e) = ap (λ x. ahead_as x r.awaits chunk i) (is ∙ e)
 
 pub ahead-scalar : (i : Reader) (chunk : List ℕ) (n : ℕ) → (i.token ≡ token.Number) ⊎ IsOfString i.token
-    → ahead i chunk n ≡ anything
+    → ahead i chunk n ≡ any_bytes
 ahead-scalar i chunk n (inl is) = ap (λ k. ahead_as k i.awaits chunk n) is
 ahead-scalar i chunk n (inr k) = ahead-string i.token i chunk n refl k
 
 -- What was read of a string that is apart
 pub string-come : (chunk : List ℕ) (i : Reader) → i.shown ≡ false → IsOfString i.token → (t : List ℕ) (x : Tree)
-    → HasReadTo chunk i x t → HasCome (document i x) t
+    → HasReadTo chunk i x t → HasTakenAll (document i x) t
 string-come chunk i hidden k t x r = record {
-  read = apart-read anything (document i x) t
+  read = apart-read any_bytes (document i x) t
       (subst (λ n. HasReadIn n (document i x) t) (ahead-string i.token i chunk i.at refl k) r.read) hidden;
   position = r.position;
 }
@@ -187,14 +187,14 @@ module _ (level : ℕ) (chunk : List ℕ) (i : Reader) (v : Tree) (h : IsHere le
     (k : IsOfString i.token)
     (quote : slice_get chunk i.at ≡ Some ascii.quote) (whole : i.string.escape ≡ None)
   where
-    abbrev apart-come : (t : List ℕ) (x : Tree) → HasReadTo chunk i x t → HasCome (document i x) t
+    abbrev apart-come : (t : List ℕ) (x : Tree) → HasReadTo chunk i x t → HasTakenAll (document i x) t
     apart-come t x r = string-come chunk i hidden k t x r
 
     -- The quote is taken.
     from-quote : (j : Reader) (w : Tree) → j.settings ≡ i.settings → j.base ≡ i.base → j.at ≡ i.at → j.depth ≡ i.depth
         → j.shown ≡ false → ((x : Tree) → j.fault ≡ None → is_shown (document j x) ≡ false)
         → ((t : List ℕ) (outer : List OpenFrame) → IsAt level outer → HasReadTo chunk i (filled outer v) t
-        → HasTakenIn anything (document j (filled outer w)) (t ++ 34 ∷ []))
+        → HasTakenIn any_bytes (document j (filled outer w)) (t ++ 34 ∷ []))
         → Steps level chunk i v j w 1
     from-quote j w settings base at depth apart off goes = record {
       goes = λ t outer o r.
@@ -202,20 +202,20 @@ module _ (level : ℕ) (chunk : List ℕ) (i : Reader) (v : Tree) (h : IsHere le
           let u = t ++ 34 ∷ [] in
           subst (λ s. HasReadIn (ahead j chunk (i.at + 1)) d (t ++ s)) (sym (slice-one chunk i.at 34 quote))
           (read-any (ahead j chunk (i.at + 1)) d u
-          (reads-apart anything d u (goes t outer o r) apart));
+          (reads-apart any_bytes d u (goes t outer o r) apart));
       complete = λ unset _. off null unset;
       moves =
           moves-one level chunk i h.here h.low j h.inside (settings, base, at) depth;
     }
 
-    -- The text is put by a reader that noted a fault or none.
-    module _ (f : Option Fault) (n : Next) (follows : Follows n (34 ∷ []) anything)
+    -- The text is put by a reader that noted an error or none.
+    module _ (f : Option Fault) (n : Next) (follows : Follows n (34 ∷ []) any_bytes)
         (known : (t : List ℕ) (x : Tree) (r : HasReadTo chunk i x t)
-        → Known n (document (record i { first = f }) x) t (apart-come t x r).read.opened)
+        → ReadSoFar n (document (record i { first = f }) x) t (apart-come t x r).read.opened)
         (held : (t : List ℕ) (x : Tree) (r : HasReadTo chunk i x t)
-        → Holding (document (record i { first = f }) x) t (apart-come t x r).read.opened)
+        → HoldsOpened (document (record i { first = f }) x) t (apart-come t x r).read.opened)
         (text : (t : List ℕ) (x : Tree) (r : HasReadTo chunk i x t)
-        → IsTextAs (document (record i { first = f }) x) anything (t ++ 34 ∷ []) (apart-come t x r).read.opened i.string.text.text)
+        → IsTextAs (document (record i { first = f }) x) any_bytes (t ++ 34 ∷ []) (apart-come t x r).read.opened i.string.text.text)
       where
         abbrev i' : Reader
         i' = record i { first = f }
@@ -238,7 +238,7 @@ module _ (level : ℕ) (chunk : List ℕ) (i : Reader) (v : Tree) (h : IsHere le
             (λ x unset. shown-nothing (document (after_key i' j.key j.string) x) refl)
             (λ t outer at r.
             let x = filled outer v in
-            subst (λ y. HasTakenIn anything (document (after_key i' j.key j.string) (filled outer y)) (t ++ 34 ∷ []))
+            subst (λ y. HasTakenIn any_bytes (document (after_key i' j.key j.string) (filled outer y)) (t ++ 34 ∷ []))
             (sym q.0)
             (key-goes i' x j.key j.string n t (apart-come t x r).read.opened is h.unset q.1 (known t x r) (held t x r) follows
             (text t x r))))
@@ -247,7 +247,7 @@ module _ (level : ℕ) (chunk : List ℕ) (i : Reader) (v : Tree) (h : IsHere le
     pub quote-whole-put : IsClosedAs i.string false true → (j : Reader) (w : Tree) → IsPutSo level i v j w
         → Steps level chunk i v j w 1
     quote-whole-put is j w p =
-        quote-put i.first anything (λ u c. tt) (λ t x r. (apart-come t x r).read.known) (λ t x r. (apart-come t x r).read.held h.unset)
+        quote-put i.first any_bytes (λ u c. tt) (λ t x r. (apart-come t x r).read.known) (λ t x r. (apart-come t x r).read.held h.unset)
         (λ t x r. whole-text (document i x) k h.unset t (apart-come t x r) whole is) j w k p
 
     module _ (kept : Bool) (text_kept : i.token ≡ token.Text → kept ≡ allows_trailing_strings i.settings.mode)
@@ -280,7 +280,7 @@ module _ (level : ℕ) (chunk : List ℕ) (i : Reader) (v : Tree) (h : IsHere le
             (λ t outer at r.
             let x = filled outer v in
             let d = document i x in
-            refuses anything anything d t (34 ∷ []) (apart-come t x r).read.opened kind index h.unset (apart-come t x r).read.known (λ u c. tt)
+            refuses any_bytes any_bytes d t (34 ∷ []) (apart-come t x r).read.opened kind index h.unset (apart-come t x r).read.known (λ u c. tt)
             (closed-refused d k h.unset t (apart-come t x r) whole kept text_kept key_kept broken index place is))
 
     -- The place after its characters is in the text so far.
@@ -298,16 +298,16 @@ module _ (level : ℕ) (chunk : List ℕ) (i : Reader) (v : Tree) (h : IsHere le
     abbrev j : Reader
     j = record i { string = s }
 
-    come-so : (t : List ℕ) (x : Tree) → HasReadTo chunk i x t → HasCome (document i x) t
+    come-so : (t : List ℕ) (x : Tree) → HasReadTo chunk i x t → HasTakenAll (document i x) t
     come-so t x r = string-come chunk i hidden k t x r
 
     -- Its quote comes next.
-    module _ (goes : (u : List ℕ) → HasTaken i.string u → Goes s u chunk i.at went.Quote) where
+    module _ (goes : (u : List ℕ) → HasTaken i.string u → GoesOnWith s u chunk i.at went.Quote) where
       quote-taken : (t : List ℕ) (x : Tree) → HasReadTo chunk i x t → HasReadTo chunk j x t
       quote-taken t x r = record {
         read =
             subst (λ n. HasReadIn n (document j x) t) (sym (ahead-string i.token j chunk i.at refl k))
-            (reads-apart anything (document j x) t
+            (reads-apart any_bytes (document j x) t
             (taken-same (document i x) s t k h.unset (λ u y. (goes u y).0) (come-so t x r).read) hidden);
         position = r.position;
       }
@@ -338,7 +338,7 @@ module _ (level : ℕ) (chunk : List ℕ) (i : Reader) (v : Tree) (h : IsHere le
       }
 
     -- Bytes are taken into it, and it is shown again.
-    pub taken-steps : (n : ℕ) → ((u : List ℕ) → HasTaken i.string u → Goes s u chunk i.at (went.Taken n))
+    pub taken-steps : (n : ℕ) → ((u : List ℕ) → HasTaken i.string u → GoesOnWith s u chunk i.at (went.Taken n))
         → IsCountAt chunk i.at n → (x : Reader) (y : Tree) → AsRead level j v x y → IsComplete x
         → x ≡ with_shown j x.shown x.number x.string x.key → Steps level chunk i v x y n
     taken-steps n goes part x y read full same =
@@ -350,7 +350,7 @@ module _ (level : ℕ) (chunk : List ℕ) (i : Reader) (v : Tree) (h : IsHere le
 
     -- A byte is wrong.
     module _ (kind : FaultKind) (back : ℕ)
-        (goes : (u : List ℕ) → HasTaken i.string u → Goes s u chunk i.at (went.Wrong kind back)) where
+        (goes : (u : List ℕ) → HasTaken i.string u → GoesOnWith s u chunk i.at (went.Wrong kind back)) where
       pub wrong-before : back ≤ i.base + i.at
       wrong-before =
           let t = h.read.0 in
@@ -369,6 +369,6 @@ module _ (level : ℕ) (chunk : List ℕ) (i : Reader) (v : Tree) (h : IsHere le
           let c = come-so t (filled outer v) r in
           let fails = wrong-refused d k h.unset t c s chunk i.at back kind h.inside goes in
           let run = slice_range chunk i.at (i.at + 1) in
-          subst (λ b. HasTakenIn anything (document x (filled outer v)) (t ++ b)) (one-slice chunk i.at h.inside)
-          (refuses anything anything (with_string d s) t run c.read.opened kind index h.unset
-          (known-as anything d (with_string d s) t c.read.opened (refl, refl, refl) c.read.known) (λ u q. tt) fails))
+          subst (λ b. HasTakenIn any_bytes (document x (filled outer v)) (t ++ b)) (one-slice chunk i.at h.inside)
+          (refuses any_bytes any_bytes (with_string d s) t run c.read.opened kind index h.unset
+          (known-as any_bytes d (with_string d s) t c.read.opened (refl, refl, refl) c.read.known) (λ u q. tt) fails))

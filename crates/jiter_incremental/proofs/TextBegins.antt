@@ -3,7 +3,7 @@ use Rattle.jiter_incremental.proofs.Words.{◌≡◌, ℕ, ◌+◌, ◌-◌, ◌
 use Rattle.jiter_incremental.proofs.Words.{sym, subst, ap, ◌∙◌, arith, slice_index, slice_range, Vec, Global, CowStr}
 use Rattle.jiter_incremental.proofs.Words.{is_blank, members_frame, HasTaken, IsTextWithin, text_view, Tree}
 use Rattle.jiter_incremental.proofs.Words.{PartialString, Arrived, IsLeft, at_value, TakesByte, text_of, HasTakenIn}
-use Rattle.jiter_incremental.proofs.Words.{anything, in_key, with_byte, AwaitsKey, AwaitsValue, HasReadTo, AsRead, IsAt}
+use Rattle.jiter_incremental.proofs.Words.{any_bytes, in_key, with_byte, AwaitsKey, AwaitsValue, HasReadTo, AsRead, IsAt}
 use Rattle.jiter_incremental.proofs.Words.{IsComplete, IsHere, Steps, ahead, document, with_shown, OpenFrame, filled}
 use Rattle.jiter_incremental.proofs.Words.{Reader}
 use Rattle.jiter_scan.specs.Ascii as ascii
@@ -21,9 +21,9 @@ use Rattle.jiter_incremental.proofs.Placing.{begins-there}
 use Rattle.jiter_incremental.proofs.Settling.{moves-here, moves-one, one-slice, read-any, reads-apart, shown-key, shown-nothing, steps-one}
 
 -- The buffer in which escapes are decoded is no part of a document.
-pub tape-steps : (level : ℕ) (chunk : List ℕ) (i : Reader) (v : Tree) (j : Reader) (w : Tree) (n : ℕ) (s : Vec ℕ Global)
-    → Steps level chunk i v j w n → Steps level chunk i v (record j { tape = s }) w n
-tape-steps level chunk i v j w n s h = record {
+pub buffer-steps : (level : ℕ) (chunk : List ℕ) (i : Reader) (v : Tree) (j : Reader) (w : Tree) (n : ℕ) (s : Vec ℕ Global)
+    → Steps level chunk i v j w n → Steps level chunk i v (record j { buffer = s }) w n
+buffer-steps level chunk i v j w n s h = record {
   goes = h.goes;
   complete = h.complete;
   moves = record {
@@ -50,7 +50,7 @@ module _ (level : ℕ) (chunk : List ℕ) (i : Reader) (v : Tree) (h : IsHere le
           token = token.Text;
           awaits = awaits.Value;
           string = s;
-          tape = b;
+          buffer = b;
         }) v j w
         → IsComplete j
         → j ≡ with_shown (record i {
@@ -58,11 +58,11 @@ module _ (level : ℕ) (chunk : List ℕ) (i : Reader) (v : Tree) (h : IsHere le
           token = token.Text;
           awaits = awaits.Value;
           string = s;
-          tape = b;
+          buffer = b;
         }) j.shown j.number j.string j.key
         → Steps level chunk i v j w 1
     text-kept awaited other low quote s b fresh j w shows full same =
-        let k = record i { begin = i.base + i.at; token = token.Text; awaits = awaits.Value; string = s; tape = b } in
+        let k = record i { begin = i.base + i.at; token = token.Text; awaits = awaits.Value; string = s; buffer = b } in
         let moves = moves-one level chunk i h.here h.low k h.inside (refl, refl, refl) refl in
         shown-steps level chunk i v k v j w 1 moves shows full same (hidden-here level chunk i v h none)
         (λ t outer at r.
@@ -70,7 +70,7 @@ module _ (level : ℕ) (chunk : List ℕ) (i : Reader) (v : Tree) (h : IsHere le
         let new = document k (filled outer v) in
         let b = begins-there level chunk i v h none awaited other low t outer at r in
         let held = record d { value = record d.value { awaits = awaits.Value } } in
-        subst (λ x. HasTakenIn anything new (t ++ x)) (sym (one-slice chunk i.at h.inside))
+        subst (λ x. HasTakenIn any_bytes new (t ++ x)) (sym (one-slice chunk i.at h.inside))
         (string-begins held new t c b.0 b.1 (refl, refl, refl) refl refl refl quote
         fresh))
 
@@ -82,10 +82,10 @@ module _ (level : ℕ) (chunk : List ℕ) (i : Reader) (v : Tree) (h : IsHere le
             token = token.Key;
             awaits = awaits.Colon;
             string = s;
-            tape = b;
+            buffer = b;
           }) v 1
       key-kept s b fresh =
-          let j = record i { begin = i.base + i.at; token = token.Key; awaits = awaits.Colon; string = s; tape = b } in
+          let j = record i { begin = i.base + i.at; token = token.Key; awaits = awaits.Colon; string = s; buffer = b } in
           let moves = moves-one level chunk i h.here h.low j h.inside (refl, refl, refl) refl in
           steps-one level chunk i v j v h.inside moves (hidden-here level chunk i v h none)
           (λ x unset. shown-key (document j x) refl)
@@ -99,7 +99,7 @@ module _ (level : ℕ) (chunk : List ℕ) (i : Reader) (v : Tree) (h : IsHere le
           record {
             opened = o;
             known =
-                known-in (with_byte c) anything d e t (c ∷ []) o tt (refl, refl, refl) (follows-byte c) a.2.known;
+                known-in (with_byte c) any_bytes d e t (c ∷ []) o tt (refl, refl, refl) (follows-byte c) a.2.known;
             held = λ unset. (
               c ∷ [],
               record { prefix = t; is = refl; begin = refl; place = a.2.position },
@@ -116,10 +116,10 @@ module _ (level : ℕ) (chunk : List ℕ) (i : Reader) (v : Tree) (h : IsHere le
         where
           -- One that lies whole in the chunk is read:
           abbrev ended : Reader
-          ended = record i { awaits = awaits.Colon; key = k; tape = s }
+          ended = record i { awaits = awaits.Colon; key = k; buffer = s }
 
           key-there : (t : List ℕ) (outer : List OpenFrame) → IsAt level outer → HasReadTo chunk i (filled outer v) t
-              → HasTakenIn anything (document ended (filled outer v)) (t ++ slice_range chunk i.at e)
+              → HasTakenIn any_bytes (document ended (filled outer v)) (t ++ slice_range chunk i.at e)
           key-there t outer at r =
               let x = filled outer v in
               let d = document i x in
@@ -128,11 +128,11 @@ module _ (level : ℕ) (chunk : List ℕ) (i : Reader) (v : Tree) (h : IsHere le
               let u = t ++ slice_range chunk i.at e in
               let left : IsLeft new.value (at_value awaits.Colon (members_frame a.1 (text_of text) ∷ a.0)) =
               (refl, tt, (a.2.deep, a.2.tree), sym named) in
-              let all = key-taken d new.value (with_byte c) anything t (slice_range chunk i.at e) a.0 a.1 (length t)
+              let all = key-taken d new.value (with_byte c) any_bytes t (slice_range chunk i.at e) a.0 a.1 (length t)
               (text_of text) a.2.known (text-follows chunk i.at text e within) h.unset left
               (text-some chunk i.at text e within t) (text-key chunk i.at text e within t d)
               (λ p t j e ms fs. key-read p t j e ms fs (text_of text)) in
-              subst (λ o. HasTakenIn anything (record new { token = o }) u) (sym none) all
+              subst (λ o. HasTakenIn any_bytes (record new { token = o }) u) (sym none) all
 
           pub key-whole : Steps level chunk i v ended v (e - i.at)
           key-whole =
@@ -143,8 +143,8 @@ module _ (level : ℕ) (chunk : List ℕ) (i : Reader) (v : Tree) (h : IsHere le
                     let d = document ended (filled outer v) in
                     let u = t ++ slice_range chunk i.at (i.at + (e - i.at)) in
                     read-any (ahead ended chunk (i.at + (e - i.at))) d u
-                    (reads-apart anything d u
-                    (subst (λ m. HasTakenIn anything d (t ++ slice_range chunk i.at m)) (sym end)
+                    (reads-apart any_bytes d u
+                    (subst (λ m. HasTakenIn any_bytes d (t ++ slice_range chunk i.at m)) (sym end)
                     (key-there t outer at r))
                     (hidden-here level chunk i v h none));
                 moves =
@@ -171,16 +171,16 @@ module _ (level : ℕ) (chunk : List ℕ) (i : Reader) (v : Tree) (h : IsHere le
                     let a = at-value was.value awaits.Colon s refl tt left in
                     subst (λ y. TakesByte new y 58) (sym a.all)
                     (goes-colon new a.frames 58 refl refl a.left a.key refl) in
-                    let one : HasTakenIn anything d (u ++ 58 ∷ []) =
+                    let one : HasTakenIn any_bytes d (u ++ 58 ∷ []) =
                     takes-here 58 was new u (key-there t outer at r) h.unset none passes in
                     let bytes : u ++ 58 ∷ [] ≡ t ++ slice_range chunk i.at (e + 1) =
                     ap (λ b. u ++ b ∷ []) (sym colon)
                     ∙ range-after t chunk i.at e (omega (arith, within.within.0)) more in
                     let all = t ++ slice_range chunk i.at (i.at + (e + 1 - i.at)) in
                     read-any (ahead j chunk (i.at + (e + 1 - i.at))) d all
-                    (reads-apart anything d all
-                    (subst (λ m. HasTakenIn anything d (t ++ slice_range chunk i.at m)) (sym end)
-                    (subst (HasTakenIn anything d) bytes one))
+                    (reads-apart any_bytes d all
+                    (subst (λ m. HasTakenIn any_bytes d (t ++ slice_range chunk i.at m)) (sym end)
+                    (subst (HasTakenIn any_bytes d) bytes one))
                     (hidden-here level chunk i v h none));
                 moves =
                     moves-here level chunk i h.here h.low j (e + 1 - i.at) (omega (arith, within.within.0)) (omega (arith, end, more)) (refl, refl, refl)

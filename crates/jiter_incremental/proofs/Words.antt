@@ -1,15 +1,15 @@
 -- The words that the proofs of this crate cite, passed on from one place. Declares nothing.
 pub use Rattle.jiter_incremental.specs.Arrived.{Arrived, HasRead, IsBeforeValue, IsBetweenParts, IsLeft, OpenValue, at_end, at_value, between_parts, container_of, end_of, leads_on, owned, part_row, shown, value_then}
 pub use Rattle.jiter_incremental.specs.Between.{ClosesBefore, EndsHere, Everywhere, IsBeforePart, IsScalarStart, TakesByte, after_value, completed, passed, text_of}
-pub use Rattle.jiter_incremental.specs.Document.{BeginsAs, BeginsHere, Comes, Document, EndsRight, Follows, HasArrived, HasCome, HasMoved, HasReadIn, HasTakenIn, Holding, HoldsMinus, HoldsScalar, HoldsString, HoldsWord, IsAllowed, IsMoved, IsNumberWithin, IsOver, IsReadAs, IsReading, IsRefused, IsScalarWithin, Known, MayRefuseAt, NameBegins, Next, Opened, Parted, ReadsAt, Settled, StandsAt, Strictness, TakenFrom, WordBegins, anything, between_tokens, by_mode, fault_by, in_key, in_scalar, is_shown, noted_in, opened_to, own_number, settings_by, shown_as, strict, strictly, token_tree, with_byte, with_first, with_parts}
+pub use Rattle.jiter_incremental.specs.Document.{BeginsAs, BeginsHere, MayFollow, Document, EndsRight, Follows, HasArrived, HasTakenAll, HasMoved, HasReadIn, HasTakenIn, HoldsOpened, HoldsMinus, HoldsScalar, HoldsString, HoldsWord, IsAllowed, IsMoved, IsNumberWithin, IsOver, IsReadAs, IsReading, IsRefused, IsScalarWithin, ReadSoFar, MayRefuseAt, NameBegins, Next, Opened, Parted, ReadsAt, Settled, StandsAt, Strictness, TakenFrom, WordBegins, any_bytes, between_tokens, by_mode, fault_by, in_key, in_scalar, is_shown, noted_in, opened_to, own_number, settings_by, shown_as, strict, strictly, token_tree, with_byte, with_first, with_parts}
 pub use Rattle.jiter_incremental.specs.Ends.{AnswersSo, IsEndFault, KeepsText, broken_as, is_broken, kind_at_end, so_far}
 pub use Rattle.jiter_incremental.specs.IncrementalParser.{HasReceived}
 pub use Rattle.jiter_incremental.specs.LineIndex.{feeds_from}
 pub use Rattle.jiter_incremental.specs.Names.{name_start, name_tree, name_word}
-pub use Rattle.jiter_incremental.specs.Reader.{AsRead, AwaitsKey, AwaitsValue, HasReadTo, IsAt, IsComplete, IsHere, IsStill, Moves, Ready, Refuses, Stays, Steps, Went, after_level, ahead, ahead_as, document, next_of, noted, refused, with_shown}
+pub use Rattle.jiter_incremental.specs.Reader.{AsRead, AwaitsKey, AwaitsValue, HasReadTo, IsAt, IsComplete, IsHere, IsStill, MovesBy, Ready, Refuses, ReadsAsBefore, Steps, Advanced, after_level, ahead, ahead_as, document, next_of, noted, refused, with_shown}
 pub use Rattle.jiter_incremental.specs.Slot.{AwaitsPart, HasValue, IsContainer, IsOfKey, IsPut, OpenFrame, around, begun, filled}
 pub use Rattle.jiter_incremental.specs.Strings.{IsClosedAs, IsGrown, IsKeyAs, IsOfString, IsTextAs}
-pub use Rattle.jiter_incremental.specs.declared.names.Name.{Name}
+pub use Rattle.jiter_incremental.specs.declared.names.WordValue.{WordValue}
 pub use Rattle.jiter_incremental.specs.declared.reader.Awaits.{Awaits}
 pub use Rattle.jiter_incremental.specs.declared.reader.Reader.{Reader}
 pub use Rattle.jiter_incremental.specs.declared.reader.Token.{Token}
@@ -19,14 +19,14 @@ pub use Rattle.jiter_scan.proofs.WordLaws.{word_at-complete, word_at-sound}
 pub use Rattle.jiter_scan.specs.Kind.{Kind, eof_object, eof_value, expected_value, fault_kind, invalid_code_point, invalid_number, is_forgiven, trailing_comma}
 pub use Rattle.jiter_scan.specs.Number.{Number}
 unfoldable pub use Rattle.jiter_scan.specs.Number.{number_value}
-pub use Rattle.jiter_scan.specs.NumberReading.{after_minus, extent_from, extent_then, number_extent}
+pub use Rattle.jiter_scan.specs.NumberReading.{after_minus, span_from, span_then, number_span}
 pub use Rattle.jiter_scan.specs.PartialMode.{allows_trailing_strings, is_active}
-pub use Rattle.jiter_scan.specs.PartialNumber.{HoldsNumber, IsBegun, Leads, begins_decimal, is_whole, number_by, number_from}
+pub use Rattle.jiter_scan.specs.PartialNumber.{HoldsNumber, IsBegun, StepsTo, begins_decimal, is_whole, number_by, number_from}
 pub use Rattle.jiter_scan.specs.PartialWord.{word_by, word_from}
 pub use Rattle.jiter_scan.specs.Scan.{Pass, is_plain_ascii}
 pub use Rattle.jiter_scan.specs.Scanned.{failed, taken}
 pub use Rattle.jiter_scan.specs.Stands.{Stands}
-pub use Rattle.jiter_scan.specs.Word.{Extent, word_at}
+pub use Rattle.jiter_scan.specs.Word.{Span, word_at}
 pub use Rattle.jiter_scan.specs.declared.errors.Fault.{Fault}
 pub use Rattle.jiter_scan.specs.declared.errors.FaultKind.{FaultKind}
 pub use Rattle.jiter_scan.specs.declared.errors.JsonError.{JsonError}
@@ -44,7 +44,7 @@ unfoldable pub use Rattle.jiter_steps.specs.Blank.{past_blanks}
 pub use Rattle.jiter_steps.specs.Frames.{array_in, items_frame, key_from, members_frame, object_in, parts_from, parts_step, resume, value_from, value_in}
 pub use Rattle.jiter_steps.specs.Literal.{literal_at, literal_tree, start_of, word_of}
 pub use Rattle.jiter_steps.specs.Node.{nesting_limit, number_tree}
-pub use Rattle.jiter_steps.specs.PartialString.{Goes, HasTaken, IsTextWithin, text_or}
+pub use Rattle.jiter_steps.specs.PartialString.{GoesOnWith, HasTaken, IsTextWithin, text_or}
 pub use Rattle.jiter_steps.specs.Read.{Rules, done, fault, if_last, scalar_at, to_end, whole_answer}
 unfoldable pub use Rattle.jiter_steps.specs.Read.{prefix_answer}
 pub use Rattle.jiter_steps.specs.Step.{Step, begins_part, closed, closer_of, colon, comma_kind_of, container_comma, container_step, end_kind_of, opening, step, stuck, value_first}

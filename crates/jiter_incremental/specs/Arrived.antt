@@ -2,7 +2,7 @@
 use Rattle.std.specs.Prelude.{◌≡◌, ℕ, ◌+◌, ◌-◌, List, [], ◌∷◌, ◌++◌, length, Option, Some, None}
 use Rattle.jiter_scan.specs.Kind.{Kind, eof_object, eof_value}
 use Rattle.jiter_scan.specs.Scanned.{taken, failed}
-use Rattle.jiter_scan.specs.Word.{Extent}
+use Rattle.jiter_scan.specs.Word.{Span}
 use Rattle.jiter_steps.specs.Frames.{resume, value_in, array_in, object_in, parts_step}
 use Rattle.jiter_steps.specs.Read.{Reading, done, fault, Rules, Container, prefix_answer}
 use Rattle.jiter_steps.specs.Step.{Step, step, value_first, object_colon, container_first, container_comma, end_kind_of}
@@ -11,7 +11,7 @@ use Rattle.jiter_steps.specs.Tree.{Text, Tree}
 use Rattle.jiter_steps.specs.declared.parse.ContainerKind.{ContainerKind}
 use Rattle.jiter_steps.specs.declared.parse.ContainerKind.TheVariants as shape
 use Rattle.jiter_value.specs.Owned.{owned_text}
-use Rattle.jiter_value.specs.Settings.{Keeping, each, rules_as}
+use Rattle.jiter_value.specs.Settings.{TextPolicy, each, rules_as}
 use Rattle.jiter_incremental.specs.Slot.{OpenFrame, begun, filled, AwaitsPart, IsOfKey}
 use Rattle.jiter_value.specs.Stacks.{PartTree, built}
 use Rattle.jiter_incremental.specs.declared.reader.Awaits.{Awaits}
@@ -19,7 +19,7 @@ use Rattle.jiter_incremental.specs.declared.reader.Awaits.TheVariants as awaits
 use Rattle.jiter_value.specs.declared.settings.Settings.{Settings}
 
 -- What the bytes so far leave open, where no token is unfinished: inside these containers a value is awaited, or its
--- colon; inside them stands a container of these parts, of which another is awaited, a comma or the end; or the value
+-- colon; inside them is a container of these parts, of which another is awaited, a comma or the end; or the value
 -- is whole, and ended so many bytes before.
 pub data Arrived : Type 0 where
   at_value : Awaits → List OpenFrame → Arrived
@@ -33,7 +33,7 @@ shown (at_value a (f ∷ fs)) = Some (filled fs (begun f))
 shown (between_parts a h xs fs) = Some (filled fs (built h xs))
 shown (at_end v n) = Some v
 
--- the fault where the input ends there and nothing is forgiven, unless the value is whole
+-- the error where the input ends there and nothing is forgiven, unless the value is whole
 abbrev pub end_of : Arrived → Option Kind
 end_of (at_value awaits.Colon fs) = Some eof_object
 end_of (at_value a fs) = Some eof_value
@@ -68,13 +68,13 @@ IsLeft v (between_parts b h xs fs) =
 IsLeft v (at_end x n) = (v.awaits ≡ awaits.Nothing) × (v.depth ≡ 0) × (v.tree ≡ x)
 
 module _ (r : Rules Text Tree) (t : List ℕ) where
-  -- where a value begins, or the fault there
-  abbrev pub value_extent : Awaits → ℕ → Extent
-  value_extent awaits.Colon j = object_colon t j
-  value_extent a j = step t value_first j
+  -- where a value begins, or the error there
+  abbrev pub value_span : Awaits → ℕ → Span
+  value_span awaits.Colon j = object_colon t j
+  value_span a j = step t value_first j
 
   -- and the value, inside so many containers
-  abbrev pub value_then : ℕ → Extent → Reading Tree
+  abbrev pub value_then : ℕ → Span → Reading Tree
   value_then depth (taken u j) = value_in r t depth j
   value_then depth (failed k j) = fault k j j
 
@@ -90,13 +90,13 @@ module _ (r : Rules Text Tree) (t : List ℕ) where
 
   -- What the rest of the text, from j on, completes it to.
   abbrev pub leads_on : Arrived → ℕ → Reading Tree
-  leads_on (at_value a fs) j = resume r t fs (value_then (length fs) (value_extent a j))
+  leads_on (at_value a fs) j = resume r t fs (value_then (length fs) (value_span a j))
   leads_on (between_parts a h xs fs) j =
       resume r t fs (parts_step r t (container_of h (length fs)) xs (step t (part_row a h) j))
   leads_on (at_end v n) j = done v (j - n)
 
 -- each text owned, repeated keys kept
-abbrev pub owned : Keeping
+abbrev pub owned : TextPolicy
 owned = each owned_text
 
 -- These bytes leave this open: whatever comes after them completes it to the value that the whole begins with.

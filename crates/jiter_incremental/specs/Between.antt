@@ -28,7 +28,7 @@ after_value x (members_frame ms k ∷ fs) = between_parts awaits.Comma shape.Obj
 abbrev pub text_of : List ℕ → Text
 text_of w = record { owned = true; bytes = w }
 
--- by any rules and in any text in which this byte stands at j
+-- by any rules and in any text in which this byte is at j
 abbrev pub Everywhere : ℕ → (Settings → List ℕ → ℕ → Type 0) → Type 0
 Everywhere c P = (p : Settings) (t : List ℕ) (j : ℕ) → slice_get t j ≡ Some c → P p t j
 
@@ -36,13 +36,13 @@ Everywhere c P = (p : Settings) (t : List ℕ) (j : ℕ) → slice_get t j ≡ S
 abbrev pub completed : Settings → List ℕ → Arrived → ℕ → Reading Tree
 completed p t s j = leads_on (rules_as owned p) t s j
 
--- what is left open where the blank c is passed
+-- what is left open where the whitespace byte c is passed
 abbrev pub passed : Arrived → Arrived
 passed (at_value a fs) = at_value a fs
 passed (between_parts a h xs fs) = between_parts a h xs fs
 passed (at_end v n) = at_end v (n + 1)
 
--- A value that is whole ended right here, or a blank was passed after it.
+-- A value that is whole ended right here, or whitespace was passed after it.
 abbrev pub EndsHere : Arrived → ℕ → Arrived → Type 0
 EndsHere s c (at_end v n) = (n ≡ 0) ⊎ ((is_blank c ≡ true) × (passed s ≡ at_end v n))
 EndsHere s c other = Unit {0}
@@ -61,7 +61,7 @@ IsScalarStart start.Object = ⊥
 IsScalarStart start.Nothing = ⊥
 IsScalarStart other = Unit {0}
 
--- an item may begin with the byte: it is no blank, and ends no array
+-- an item may begin with the byte: it is not whitespace, and ends no array
 abbrev pub BeginsItem : ℕ → Type 0
 BeginsItem c = (is_blank c ≡ false) × (begins_part shape.Array c ≡ true)
 
@@ -75,7 +75,7 @@ pub record BeginsKey (new : OpenValue) (s : Arrived) (c : ℕ) : Type 0 where
   pub goes : Everywhere c (λ p t j. completed p t s j ≡ key_from (rules_as owned p) t frames members j)
   pub quote : c ≡ ascii.quote
 
--- A comma or the end is missing before the byte: in a partial mode the container ends there, else that is a fault.
+-- A comma or the end is missing before the byte: in a partial mode the container ends there, else that is an error.
 pub record ClosesBefore (new : OpenValue) (s : Arrived) (c : ℕ) (k : Kind) : Type 0 where
   pub next : Arrived
   pub left : IsLeft new next

@@ -37,7 +37,7 @@ broken_as d other = false
 abbrev pub is_broken : Document → Bool
 is_broken d = broken_as d d.token
 
--- The fault where the input ends and nothing is forgiven, unless the value is whole there
+-- The error where the input ends and nothing is forgiven, unless the value is whole there
 abbrev pub kind_as : Document → Token → Opened → Option Kind
 kind_as d token.Word o = Some eof_value
 kind_as d token.Text o = Some eof_string
@@ -51,7 +51,7 @@ kind_as d token.Nothing other = None
 abbrev pub kind_at_end : Document → Opened → Option Kind
 kind_at_end d o = kind_as d d.token o
 
--- That fault, where the bytes end
+-- That error, where the bytes end
 abbrev pub IsEndFault : Document → Option Kind → Option Fault → Type 0
 IsEndFault d k None = k ≡ None
 IsEndFault d k (Some f) = (k ≡ Some (fault_kind f.kind)) × (f.index ≡ d.position)
@@ -71,7 +71,7 @@ KeepsText d =
     → content_at kept t i
     ≡ text_or (not d.string.text.broken) i (h.escaped || is_some d.string.escape) d.string.text.text j)
 
--- The text answers this fault, or, where there is none, the value.
+-- The text answers this error, or, where there is none, the value.
 abbrev pub AnswersSo : Settings → List ℕ → Option Fault → Option Tree → Type 0
 AnswersSo p t (Some f) v = (stop : ℕ) × (answer_as owned p t ≡ fault (fault_kind f.kind) f.index stop)
 AnswersSo p t None v = (w : Tree) × (v ≡ Some w) × ((e : ℕ) × (answer_as owned p t ≡ done w e))

@@ -31,7 +31,7 @@ pub record HasReceived (p : Received) (t : List ℕ) : Type 0 where
   pub position : p.position ≡ length t
   pub room : p.position < 2 ^ 64
 
--- Read as a whole with partial reading off, these bytes have this fault, or, where there is none, a value.
+-- Read as a whole with partial reading off, these bytes have this error, or, where there is none, a value.
 abbrev pub WouldFinish : Bool → List ℕ → Option JsonError → Type 0
 WouldFinish names t (Some e) = Parses owned_tree ⊥ names Off t (Err e)
 WouldFinish names t None = (v : JsonValue) × Parses owned_tree ⊥ names Off t (Ok v)

@@ -12,7 +12,7 @@ use Rattle.jiter_steps.specs.PartialString.{IsEven}
 use Rattle.jiter_steps.specs.StringDecoder.{text_view}
 use Rattle.jiter_steps.specs.Tree.{Text, Tree, members_of, null, object}
 use Rattle.jiter_incremental.specs.Arrived.{at_value}
-use Rattle.jiter_incremental.specs.Document.{Document, HasReadIn, Known, MayRefuseAt, Next, anything, between_tokens, in_key, is_shown, noted_in}
+use Rattle.jiter_incremental.specs.Document.{Document, HasReadIn, ReadSoFar, MayRefuseAt, Next, any_bytes, between_tokens, in_key, is_shown, noted_in}
 use Rattle.jiter_incremental.specs.Document.{with_byte}
 use Rattle.jiter_incremental.specs.Slot.{AwaitsPart, IsOfKey, OpenFrame, filled}
 use Rattle.jiter_scan.specs.declared.errors.FaultKind.{FaultKind}
@@ -46,12 +46,12 @@ IsAt level outer = length outer ≡ level - 1
 -- What is known of what comes next: after a value the next byte of the chunk may have decided already that it ended.
 abbrev pub next_of : Option ℕ → Next
 next_of (Some c) = with_byte c
-next_of None = anything
+next_of None = any_bytes
 
 abbrev pub ahead_as : Token → Awaits → List ℕ → ℕ → Next
 ahead_as token.Nothing awaits.Comma chunk i = next_of (slice_get chunk i)
 ahead_as token.Nothing awaits.Nothing chunk i = next_of (slice_get chunk i)
-ahead_as k a chunk i = anything
+ahead_as k a chunk i = any_bytes
 
 abbrev pub ahead : Reader → List ℕ → ℕ → Next
 ahead r chunk i = ahead_as r.token r.awaits chunk i
@@ -70,7 +70,7 @@ abbrev pub IsComplete : Reader → Type 0
 IsComplete r = r.fault ≡ None → r.shown ≡ false → is_shown (document r null) ≡ false
 
 -- It took so many bytes of the chunk, which are not counted yet: none only where it ended the container before a byte.
-pub record Moves (level : ℕ) (chunk : List ℕ) (i j : Reader) (n : ℕ) : Type 0 where
+pub record MovesBy (level : ℕ) (chunk : List ℕ) (i j : Reader) (n : ℕ) : Type 0 where
   pub within : i.at + n ≤ length chunk
   pub some : (0 < n) ⊎ (j.depth < level)
   pub still : IsStill i j
@@ -81,40 +81,40 @@ pub record Moves (level : ℕ) (chunk : List ℕ) (i j : Reader) (n : ℕ) : Typ
 pub record Steps (level : ℕ) (chunk : List ℕ) (i : Reader) (v : Tree) (j : Reader) (w : Tree) (n : ℕ) : Type 0 where
   pub goes : (t : List ℕ) (outer : List OpenFrame) → IsAt level outer → HasReadTo chunk i (filled outer v) t
       → HasReadIn (ahead j chunk (i.at + n)) (document j (filled outer w)) (t ++ slice_range chunk i.at (i.at + n))
-  pub moves : Moves level chunk i j n
+  pub moves : MovesBy level chunk i j n
   pub complete : IsComplete j
 
 -- An allocation failed: what was read is read as before, whatever comes.
-pub record Stays (level : ℕ) (chunk : List ℕ) (i : Reader) (v : Tree) (j : Reader) (w : Tree) : Type 0 where
+pub record ReadsAsBefore (level : ℕ) (chunk : List ℕ) (i : Reader) (v : Tree) (j : Reader) (w : Tree) : Type 0 where
   pub goes : (t : List ℕ) (outer : List OpenFrame) → IsAt level outer → HasReadTo chunk i (filled outer v) t
-      → HasReadIn anything (document j (filled outer w)) t
-  pub free : ahead j chunk i.at ≡ anything
+      → HasReadIn any_bytes (document j (filled outer w)) t
+  pub free : ahead j chunk i.at ≡ any_bytes
   pub still : IsStill i j
   pub depth : j.depth ≡ i.depth
   pub complete : IsComplete j
 
 -- A value is awaited with the byte c, which comes next, inside these containers.
 pub record ValueHere (c : ℕ) (d : Document) (t : List ℕ) (fs : List OpenFrame) : Type 0 where
-  pub known : Known (with_byte c) d t (between_tokens (at_value awaits.Value fs))
+  pub known : ReadSoFar (with_byte c) d t (between_tokens (at_value awaits.Value fs))
   pub part : AwaitsPart d.value.depth d.value.tree fs
   pub key : IsOfKey d.value.key fs
   pub position : d.position ≡ length t
 
 pub record AwaitsValue (level : ℕ) (chunk : List ℕ) (i : Reader) (v : Tree) : Type 0 where
-  pub free : ahead i chunk i.at ≡ anything
+  pub free : ahead i chunk i.at ≡ any_bytes
   pub goes : (t : List ℕ) (outer : List OpenFrame) → IsAt level outer → HasReadTo chunk i (filled outer v) t
       → (fs : List OpenFrame) × ValueHere (slice_index chunk i.at) (document i (filled outer v)) t fs
 
 -- A key begins with the byte c, which comes next, in an object that has these members.
 pub record KeyHere (c : ℕ) (d : Document) (t : List ℕ) (fs : List OpenFrame) (ms : List (Text × Tree)) : Type 0 where
-  pub known : Known (with_byte c) d t (in_key fs ms (length t))
+  pub known : ReadSoFar (with_byte c) d t (in_key fs ms (length t))
   pub deep : d.value.depth ≡ length fs + 1
   pub tree : d.value.tree ≡ filled fs (object (members_of ms))
   pub position : d.position ≡ length t
 
 pub record AwaitsKey (level : ℕ) (chunk : List ℕ) (i : Reader) (v : Tree) : Type 0 where
   pub quote : slice_index chunk i.at ≡ ascii.quote
-  pub free : ahead i chunk i.at ≡ anything
+  pub free : ahead i chunk i.at ≡ any_bytes
   pub goes : (t : List ℕ) (outer : List OpenFrame) → IsAt level outer → HasReadTo chunk i (filled outer v) t
       → (fs : List OpenFrame) × (ms : List (Text × Tree))
       × KeyHere (slice_index chunk i.at) (document i (filled outer v)) t fs ms
@@ -142,7 +142,7 @@ abbrev pub after_level : ℕ → Awaits
 after_level zero = awaits.Nothing
 after_level (suc n) = awaits.Comma
 
--- the same reader, with this final fault
+-- the same reader, with this final error
 abbrev pub refused : Reader → FaultKind → ℕ → Reader
 refused r k i = record r { fault = Some (record { kind = k; index = i }); first = noted_in r.first k i }
 
@@ -160,25 +160,25 @@ pub record Ready (level : ℕ) (chunk : List ℕ) (i : Reader) (v : Tree) : Type
   pub read : (t : List ℕ) × (outer : List OpenFrame) × IsAt level outer × HasReadTo chunk i (filled outer v) (t ++ take i.at chunk)
 
 -- What it has read of the chunk leads from the one to the other, whatever the container is in and whatever came before.
-pub record Leads (level : ℕ) (chunk : List ℕ) (i : Reader) (v : Tree) (j : Reader) (w : Tree) : Type 0 where
+pub record ReadsThrough (level : ℕ) (chunk : List ℕ) (i : Reader) (v : Tree) (j : Reader) (w : Tree) : Type 0 where
   pub goes : (t : List ℕ) (outer : List OpenFrame) → IsAt level outer
       → HasReadTo chunk i (filled outer v) (t ++ take i.at chunk)
       → HasReadTo chunk j (filled outer w) (t ++ take j.at chunk)
 
-pub record Went (level : ℕ) (chunk : List ℕ) (i : Reader) (v : Tree) (j : Reader) (w : Tree) : Type 0 where
+pub record Advanced (level : ℕ) (chunk : List ℕ) (i : Reader) (v : Tree) (j : Reader) (w : Tree) : Type 0 where
   pub after : i.at ≤ j.at
   pub within : j.at ≤ length chunk
   pub same : (j.settings ≡ i.settings) × (j.base ≡ i.base)
   pub depth : level ≤ j.depth + 1
   pub low : j.depth ≤ nesting_limit + 1
   pub complete : IsComplete j
-  pub reads : Leads level chunk i v j w
+  pub reads : ReadsThrough level chunk i v j w
 
--- An allocation failed before a byte of the chunk, and not before the first that is no blank.
+-- An allocation failed before a byte of the chunk, and not before the first that is not whitespace.
 pub record Refuses (level : ℕ) (chunk : List ℕ) (i : Reader) (v : Tree) (j : Reader) : Type 0 where
   pub goes : (t : List ℕ) (outer : List OpenFrame) → IsAt level outer
       → HasReadTo chunk i (filled outer v) (t ++ take i.at chunk) → MayRefuseAt (t ++ chunk) (j.base + j.at)
-  pub free : ahead j chunk j.at ≡ anything
+  pub free : ahead j chunk j.at ≡ any_bytes
 
 -- The bytes of the string that is shown are whole characters and whole escapes so far.
 abbrev pub IsGrowing : Reader → Type 0

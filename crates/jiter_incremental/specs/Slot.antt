@@ -35,7 +35,7 @@ abbrev pub AwaitsPart : ℕ → Tree → List OpenFrame → Type 0
 AwaitsPart depth v [] = depth ≡ 0
 AwaitsPart depth v (f ∷ fs) = (depth ≡ length fs + 1) × (v ≡ filled fs (begun f))
 
--- Inside them stands x as the last part of the innermost, or as the value.
+-- Inside them is x as the last part of the innermost, or as the value.
 abbrev pub HasValue : ℕ → Tree → List OpenFrame → Tree → Type 0
 HasValue depth v fs x = (depth ≡ length fs) × (v ≡ filled fs x)
 

@@ -7,7 +7,7 @@ use Rattle.jiter_steps.specs.StringReading.{content_at, text_form}
 use Rattle.jiter_steps.specs.Tree.{Text, Tree, string}
 use Rattle.jiter_steps.specs.declared.partial_string.PartialString.{PartialString}
 use Rattle.jiter_incremental.specs.Arrived.{owned}
-use Rattle.jiter_incremental.specs.Document.{Document, Comes, IsReadAs, IsReading, Next, Opened, between_tokens, in_key, in_scalar}
+use Rattle.jiter_incremental.specs.Document.{Document, MayFollow, IsReadAs, IsReading, Next, Opened, between_tokens, in_key, in_scalar}
 use Rattle.jiter_incremental.specs.Between.{text_of}
 use Rattle.jiter_incremental.specs.Slot.{OpenFrame, around}
 use Rattle.jiter_value.specs.Settings.{rules_as}
@@ -22,7 +22,7 @@ IsOfString k = (k ≡ token.Text) ⊎ (k ≡ token.Key)
 -- A key that begins at b is read as this text, to the end of these bytes.
 abbrev pub IsKeyAs : Document → Next → List ℕ → ℕ → Text → Type 0
 IsKeyAs d m t b k =
-    (p : Settings) (u : List ℕ) → IsReading d p → Comes m u
+    (p : Settings) (u : List ℕ) → IsReading d p → MayFollow m u
     → (rules_as owned p).key (t ++ u) b ≡ taken k (length t)
 
 -- The string or the key that is unfinished is read as these characters, to the end of these bytes.
@@ -33,9 +33,9 @@ IsTextAs d m t (in_key fs ms b) text = IsKeyAs d m t b (text_of text)
 
 -- Where a quote comes next and no escape is open, this is said of the whole string, or of what is kept of it.
 abbrev pub IsClosedAs : PartialString → Bool → Bool → Type 0
-IsClosedAs s keep answer =
+IsClosedAs s partial answer =
     (w : List ℕ) (h : HasTaken s w) → s.escape ≡ None → Wherever w (λ t i j. slice_get t j ≡ Some ascii.quote
-    → content_at (text_form keep) t i ≡ text_or answer i h.escaped s.text.text (j + 1))
+    → content_at (text_form partial) t i ≡ text_or answer i h.escaped s.text.text (j + 1))
 
 -- A string of these bytes is what was put into a slot at this level last.
 abbrev pub HasText : ℕ → Tree → Type 0

@@ -1,12 +1,12 @@
 -- The words that the contracts of this crate cite, passed on from one place. Declares nothing.
 pub use Rattle.jiter_incremental.specs.Arrived.{Arrived, IsLeft, end_of, shown}
 pub use Rattle.jiter_incremental.specs.Between.{IsAfter, IsBeforePart, text_of}
-pub use Rattle.jiter_incremental.specs.Document.{HasArrived, HasMoved, HasReadIn, HasTakenIn, IsOver, MayRefuseAt, Next, Opened, Settled, StandsAt, anything, bytes_in, is_shown, noted_in, strictly, token_tree}
+pub use Rattle.jiter_incremental.specs.Document.{HasArrived, HasMoved, HasReadIn, HasTakenIn, IsOver, MayRefuseAt, Next, Opened, Settled, StandsAt, any_bytes, bytes_in, is_shown, noted_in, strictly, token_tree}
 pub use Rattle.jiter_incremental.specs.Ends.{AnswersSo, IsEndFault, IsInside, kind_at_end, so_far}
 pub use Rattle.jiter_incremental.specs.IncrementalParser.{HasReceived, WouldFinish, received}
 pub use Rattle.jiter_incremental.specs.LineIndex.{HasPassed, feeds_from, line_index}
 pub use Rattle.jiter_incremental.specs.Names.{name_tree, name_word}
-pub use Rattle.jiter_incremental.specs.Reader.{AsRead, AwaitsKey, AwaitsValue, IsAt, IsComplete, IsGrowing, IsHere, IsPlainRun, IsStill, Leads, Ready, Refuses, Stays, Steps, Went, after_level, document, noted, refused, with_shown}
+pub use Rattle.jiter_incremental.specs.Reader.{AsRead, AwaitsKey, AwaitsValue, IsAt, IsComplete, IsGrowing, IsHere, IsPlainRun, IsStill, ReadsThrough, Ready, Refuses, ReadsAsBefore, Steps, Advanced, after_level, document, noted, refused, with_shown}
 pub use Rattle.jiter_incremental.specs.Slot.{HasPart, HasRoomAt, IsContainer, IsOfKey, IsPut, IsRoomy, IsTaken, OpenFrame, around, begun, filled}
 pub use Rattle.jiter_incremental.specs.Strings.{HasText, IsGrown, IsOfString}
 pub use Rattle.jiter_scan.specs.Ascii.{comma, quote}

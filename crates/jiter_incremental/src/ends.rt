@@ -91,8 +91,7 @@ impl Reader {
         0 < self.depth || self.shown || self.is_whole()
     }
 
-    // A partial mode can fail at the end for two reasons: the string that it keeps is invalid, or there is no value
-    // yet.
+    // A partial mode fails at the end for two reasons: the string that it keeps is invalid, or there is no value yet.
     #[inline(always)]
     fn partial_fault(&self, root: &JsonValue<'static>) -> Option<Fault>
         requires arrived { (t : List ℕ) × HasArrived (document self.now (view root.now)) t }

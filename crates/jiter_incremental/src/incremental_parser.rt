@@ -82,8 +82,7 @@ impl IncrementalParser {
     ///
     /// An error in the bytes isn't an error of this call: `value` and `finish` report it.
     ///
-    /// Each call goes down all open containers to the innermost one. With 200 of them that takes about a microsecond,
-    /// even for a chunk of one byte.
+    /// Each call goes down all open containers to the innermost. For 200 of them that takes about a microsecond.
     ///
     /// # Errors
     ///
@@ -91,8 +90,7 @@ impl IncrementalParser {
     ///   and [`position`](IncrementalParser::position) counts them. Push the rest of the chunk again.
     /// - `AllocError` if the position would exceed `usize::MAX`; no byte of the chunk is taken
     ///
-    /// If you ignore an error and push the next chunk, the bytes between are missing. All later results are then for
-    /// other bytes than yours.
+    /// If you ignore an error and push the next chunk, the bytes between are missing from all later results.
     pub fn push(&mut self, chunk: &[u8]) -> Result<(), AllocError>
         ensures ok { (t : List ℕ) → HasReceived self.old t → OnOk result (HasReceived self.new (t ++ chunk.now)) }
         ensures refused { (t : List ℕ) → HasReceived self.old t → OnErr result
@@ -180,8 +178,7 @@ impl IncrementalParser {
 
 /// Parses the bytes of all chunks as one document, with partial reading off. The value owns its strings.
 ///
-/// With `allow_inf_nan`, `NaN`, `Infinity` and `-Infinity` are numbers. Indices count from the first byte of the first
-/// chunk.
+/// With `allow_inf_nan`, `NaN`, `Infinity` and `-Infinity` are numbers. Indices count over all chunks.
 ///
 /// # Errors
 ///

@@ -11,7 +11,7 @@ use std::borrow::CowStr;
 
 /// A word that is a value.
 #[derive(Clone, Copy, Debug)]
-pub enum Name {
+pub enum WordValue {
     /// `null`, `true` or `false`.
     Literal(Literal),
     /// `NaN`
@@ -31,7 +31,7 @@ fn float(alloc: Global, name: &str) -> Result<JsonValue<'static>, AllocFailed>
 
 /// Returns the value of a literal.
 pub(crate) fn literal_value(literal: Literal) -> JsonValue<'static>
-    ensures { view result ≡ name_tree (Name.Literal literal) }
+    ensures { view result ≡ name_tree (WordValue.Literal literal) }
 {
     match literal {
         Literal::Null => JsonValue::Null,
@@ -40,19 +40,19 @@ pub(crate) fn literal_value(literal: Literal) -> JsonValue<'static>
     }
 }
 
-impl Name {
+impl WordValue {
     /// Returns the word with its first byte taken.
     pub fn begun(self) -> PartialWord
         ensures word { result.word.now ≡ name_word self }
         ensures seen { result.seen ≡ 1 }
     {
         match self {
-            Name::Literal(Literal::Null) => PartialWord::begun(b"null"),
-            Name::Literal(Literal::True) => PartialWord::begun(b"true"),
-            Name::Literal(Literal::False) => PartialWord::begun(b"false"),
-            Name::NaN => PartialWord::begun(b"NaN"),
-            Name::Infinity => PartialWord::begun(b"Infinity"),
-            Name::MinusInfinity => PartialWord::begun(b"Infinity"),
+            WordValue::Literal(Literal::Null) => PartialWord::begun(b"null"),
+            WordValue::Literal(Literal::True) => PartialWord::begun(b"true"),
+            WordValue::Literal(Literal::False) => PartialWord::begun(b"false"),
+            WordValue::NaN => PartialWord::begun(b"NaN"),
+            WordValue::Infinity => PartialWord::begun(b"Infinity"),
+            WordValue::MinusInfinity => PartialWord::begun(b"Infinity"),
         }
     }
 
@@ -61,10 +61,10 @@ impl Name {
         ensures { IfOk result (λ v. view v ≡ name_tree self) }
     {
         match self {
-            Name::Literal(literal) => Ok(literal_value(literal)),
-            Name::NaN => float(alloc, "NaN"),
-            Name::Infinity => float(alloc, "Infinity"),
-            Name::MinusInfinity => float(alloc, "-Infinity"),
+            WordValue::Literal(literal) => Ok(literal_value(literal)),
+            WordValue::NaN => float(alloc, "NaN"),
+            WordValue::Infinity => float(alloc, "Infinity"),
+            WordValue::MinusInfinity => float(alloc, "-Infinity"),
         }
     }
 }

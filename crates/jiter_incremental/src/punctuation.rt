@@ -2,7 +2,7 @@
 ghost use Rattle.std.specs.Prelude.{◌≡◌, ◌+◌, ◌^◌, ◌<◌, ◌++◌, ◌∷◌, [], IfOk, List, None, OnErr, false};
 ghost use Rattle.std.specs.Prelude.{slice_index, true, ℕ};
 ghost use Rattle.jiter_incremental.specs.Words.{Arrived, IsLeft, IsAfter, IsBeforePart, HasTakenIn, StandsAt};
-ghost use Rattle.jiter_incremental.specs.Words.{anything, IsHere, IsStill, Stays, Steps, document, comma};
+ghost use Rattle.jiter_incremental.specs.Words.{any_bytes, IsHere, IsStill, ReadsAsBefore, Steps, document, comma};
 ghost use Rattle.jiter_incremental.specs.Words.{is_blank, begins_part, closer_of, Tree, PartTree, built};
 ghost use Rattle.jiter_incremental.specs.Words.{view};
 ghost use Rattle.jiter_incremental.specs.declared.reader.Awaits.TheVariants as awaited;
@@ -12,8 +12,8 @@ use crate::reader::{Awaits, Reader};
 use crate::slot::kind_of;
 use jiter_scan::errors::FaultKind;
 use jiter_scan::memory::AllocFailed;
-use jiter_steps::blank::past_blanks;
 use jiter_steps::parse::ContainerKind;
+use jiter_steps::whitespace::past_blanks;
 use jiter_value::value::JsonValue;
 
 // Whitespace (RFC 8259, 2).
@@ -39,7 +39,7 @@ impl Reader {
         requires room { self.old.base + self.old.at < 2 ^ 64 }
         ensures taken { (c : ℕ) → (t : List ℕ) → (v : Tree) → (s : Arrived) → StandsAt c (document self.old v) t s
             → IsLeft (document self.old v).value s → self.old.awaits ≡ awaited.Nothing → is_blank c ≡ false
-            → HasTakenIn anything (document self.new v) (t ++ c ∷ []) }
+            → HasTakenIn any_bytes (document self.new v) (t ++ c ∷ []) }
         ensures still { IsStill self.old self.new }
         ensures same { (self.new.depth ≡ self.old.depth) × (self.new.token ≡ self.old.token)
             × (self.new.shown ≡ self.old.shown) }
@@ -156,7 +156,7 @@ impl Reader {
         requires before { IsBeforePart self.old.awaits }
         requires other { is_blank (slice_index chunk.now self.old.at) ≡ false }
         ensures steps { IfOk result (λ n. Steps level chunk.now self.old (view slot.old) self.new (view slot.new) n) }
-        ensures stays { OnErr result (Stays level chunk.now self.old (view slot.old) self.new (view slot.new)) }
+        ensures stays { OnErr result (ReadsAsBefore level chunk.now self.old (view slot.old) self.new (view slot.new)) }
     {
         let kind = kind_of(slot);
         if !kind.begins_part(chunk[self.at]) {
@@ -179,7 +179,7 @@ impl Reader {
         requires here { IsHere level chunk.now self.old (view slot.old) }
         requires token { self.old.token ≡ kind.Nothing }
         ensures steps { IfOk result (λ n. Steps level chunk.now self.old (view slot.old) self.new (view slot.new) n) }
-        ensures stays { OnErr result (Stays level chunk.now self.old (view slot.old) self.new (view slot.new)) }
+        ensures stays { OnErr result (ReadsAsBefore level chunk.now self.old (view slot.old) self.new (view slot.new)) }
         ensures wanted { OnErr result (is_blank (slice_index chunk.now self.old.at) ≡ false) }
     {
         let end = past_blanks(chunk, self.at);

@@ -1,15 +1,14 @@
-//! Reads a document that comes in chunks (RFC 8259). A push goes down the open path of the value so far by recursion,
-//! and goes on there: the value is never taken apart.
+//! Reads a document that comes in chunks (RFC 8259). A push goes down the open containers by recursion and reads on.
 ghost use Rattle.std.specs.Prelude.{◌≡◌, ◌⊎◌, ◌+◌, ◌-◌, ◌^◌, ◌<◌, ◌≤◌, ◌++◌, [], IfOk, List, None, Ok, OnErr};
 ghost use Rattle.std.specs.Prelude.{OnOk, Some, length, false, take, true, ℕ};
-ghost use Rattle.jiter_incremental.specs.Words.{HasArrived, IsOver, MayRefuseAt, noted_in, Leads, Ready};
-ghost use Rattle.jiter_incremental.specs.Words.{Refuses, Stays, Steps, Went, after_level, document, noted};
+ghost use Rattle.jiter_incremental.specs.Words.{HasArrived, IsOver, MayRefuseAt, noted_in, ReadsThrough, Ready};
+ghost use Rattle.jiter_incremental.specs.Words.{Refuses, ReadsAsBefore, Steps, Advanced, after_level, document, noted};
 ghost use Rattle.jiter_incremental.specs.Words.{refused, HasPart, HasRoomAt, IsPut, nesting_limit, text_view};
 ghost use Rattle.jiter_incremental.specs.Words.{Tree, null, view};
 ghost use Rattle.jiter_incremental.specs.declared.reader.Awaits.TheVariants as awaited;
 ghost use Rattle.jiter_incremental.specs.declared.reader.Token.TheVariants as kind;
 
-use crate::names::Name;
+use crate::names::WordValue;
 use crate::slot::put_in;
 use jiter_scan::errors::{Fault, FaultKind, fault_at};
 use jiter_scan::memory::AllocFailed;
@@ -69,11 +68,11 @@ pub struct Reader {
     pub(crate) token: Token,
     // whether the value holds the unfinished token
     pub(crate) shown: bool,
-    pub(crate) name: Name,
+    pub(crate) name: WordValue,
     pub(crate) word: PartialWord,
     pub(crate) number: PartialNumber,
     pub(crate) string: PartialString,
-    pub(crate) tape: Vec<u8>,
+    pub(crate) buffer: Vec<u8>,
     pub(crate) key: CowStr<'static>,
     // the first error in the document's mode; no later byte changes it
     pub(crate) fault: Option<Fault>,
@@ -120,11 +119,11 @@ impl Reader {
             awaits: Awaits::Value,
             token: Token::Nothing,
             shown: false,
-            name: Name::NaN,
-            word: Name::NaN.begun(),
+            name: WordValue::NaN,
+            word: WordValue::NaN.begun(),
             number: PartialNumber::new(alloc),
             string: PartialString::new(alloc),
-            tape: Vec::new(alloc),
+            buffer: Vec::new(alloc),
             key: CowStr::Borrowed(""),
             fault: None,
             first: None,
@@ -217,8 +216,7 @@ impl Reader {
         self.awaits = after_part(self.depth);
     }
 
-    // Takes bytes of the chunk and returns how many: none only where a container ends before the byte. If an allocation
-    // fails, nothing is taken.
+    // Takes bytes of the chunk and returns how many: none only where a container ends before one. `Err` takes none.
     #[inline(always)]
     fn step(
         &mut self,
@@ -230,7 +228,7 @@ impl Reader {
         requires here { self.old.depth ≡ level }
         requires inside { self.old.at < length chunk.now }
         ensures steps { IfOk result (λ n. Steps level chunk.now self.old (view slot.old) self.new (view slot.new) n) }
-        ensures stays { OnErr result (Stays level chunk.now self.old (view slot.old) self.new (view slot.new)) }
+        ensures stays { OnErr result (ReadsAsBefore level chunk.now self.old (view slot.old) self.new (view slot.new)) }
         ensures wanted { OnErr result (Refuses level chunk.now self.old (view slot.old) self.new) }
         ensures opened { level < self.new.depth → self.new.fault ≡ None }
     {
@@ -253,7 +251,7 @@ impl Reader {
         requires ready { Ready level chunk.now self.old (view slot.old) }
         requires here { self.old.depth ≡ level }
         requires inside { self.old.at < length chunk.now }
-        ensures went { Went level chunk.now self.old (view slot.old) self.new (view slot.new) }
+        ensures went { Advanced level chunk.now self.old (view slot.old) self.new (view slot.new) }
         ensures wanted { OnErr result (Refuses level chunk.now self.old (view slot.old) self.new) }
         ensures opened { level < self.new.depth → self.new.fault ≡ None }
         ensures near { OnOk result (self.new.depth ≤ level + 1) }
@@ -277,7 +275,7 @@ impl Reader {
         requires deeper { level < self.old.depth }
         requires unset { self.old.fault ≡ None }
         requires part { HasPart (view slot.old) }
-        ensures went { Went level chunk.now self.old (view slot.old) self.new (view slot.new) }
+        ensures went { Advanced level chunk.now self.old (view slot.old) self.new (view slot.new) }
         ensures wanted { OnErr result (Refuses level chunk.now self.old (view slot.old) self.new) }
         ensures depth { level ≤ self.new.depth }
         ensures all { OnOk result (level < self.new.depth → self.new.at ≡ length chunk.now) }
@@ -306,7 +304,7 @@ impl Reader {
         requires some { 0 < level }
         requires ready { Ready level chunk.now self.old (view slot.old) }
         requires unset { level < self.old.depth → self.old.fault ≡ None }
-        ensures went { Went level chunk.now self.old (view slot.old) self.new (view slot.new) }
+        ensures went { Advanced level chunk.now self.old (view slot.old) self.new (view slot.new) }
         ensures wanted { OnErr result (Refuses level chunk.now self.old (view slot.old) self.new) }
         ensures all { OnOk result (level ≤ self.new.depth → self.new.at ≡ length chunk.now) }
     {
@@ -329,8 +327,7 @@ impl Reader {
         self.at = 0;
     }
 
-    /// Takes a chunk. If an allocation fails, the position counts the bytes that were taken; the rest can be taken
-    /// again.
+    /// Takes a chunk. If an allocation fails, the position counts the bytes taken; the rest can be pushed again.
     pub fn read(&mut self, root: &mut JsonValue<'static>, chunk: &[u8]) -> Result<(), AllocFailed>
         requires arrived { (t : List ℕ) × HasArrived (document self.old (view root.old)) t }
         requires start { self.old.at ≡ 0 }

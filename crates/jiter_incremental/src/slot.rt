@@ -1,6 +1,5 @@
-//! The places of the value so far. Each open container is the last item or member of the one outside it, and the
-//! outermost is the root. A slot is an open container, or the root while no container is open. Its level is how many
-//! containers are open there: 0 for the root.
+//! The open containers of the value so far: the first is the root, and each other the last item or member of one.
+//! A slot is an open container, or the root if none is open. Its level counts the open containers down to it.
 ghost use Rattle.std.specs.Prelude.{◌≡◌, ◌+◌, ◌<◌, ◌++◌, ◌∷◌, [], List, OnErr, OnOk, length, vec_capacity};
 ghost use Rattle.std.specs.Prelude.{vec_len, ℕ, IsAscii};
 ghost use Rattle.jiter_incremental.specs.Words.{text_of, HasText, IsGrown, HasPart, HasRoomAt, IsContainer};

@@ -1,10 +1,9 @@
-//! Goes on with the token that the last chunk cut (RFC 8259, 3, 6 and 7). A number and a string that are a value if the
-//! input ends here are in the value so far.
+//! Goes on with the token that the last chunk cut (RFC 8259, 3, 6 and 7). Numbers and strings that may end are shown.
 ghost use Rattle.std.specs.Prelude.{◌≡◌, ◌⊎◌, ◌+◌, ◌^◌, ◌<◌, IfOk, List, None, OnErr, OnOk, length};
 ghost use Rattle.std.specs.Prelude.{slice_get, slice_index, Some, string_bytes, false, true, ℕ};
 ghost use Rattle.jiter_incremental.specs.Words.{text_of, Next, HasMoved, HasReadIn, bytes_in, is_shown};
 ghost use Rattle.jiter_incremental.specs.Words.{token_tree, name_word, AsRead, IsAt, IsComplete, IsGrowing};
-ghost use Rattle.jiter_incremental.specs.Words.{IsHere, IsPlainRun, Stays, Steps, after_level, IsOfString};
+ghost use Rattle.jiter_incremental.specs.Words.{IsHere, IsPlainRun, ReadsAsBefore, Steps, after_level, IsOfString};
 ghost use Rattle.jiter_incremental.specs.Words.{document, with_shown, HasRoomAt, IsContainer, IsPut};
 ghost use Rattle.jiter_incremental.specs.Words.{OpenFrame, filled, Number, allows_trailing_strings, Fits};
 ghost use Rattle.jiter_incremental.specs.Words.{IsBegun, is_whole, kept_bytes, own_view, number_tree};
@@ -12,20 +11,20 @@ ghost use Rattle.jiter_incremental.specs.Words.{with_text, text_view, Tree, null
 ghost use Rattle.jiter_incremental.specs.Words.{tree_as, view};
 ghost use Rattle.jiter_incremental.specs.declared.reader.Token.TheVariants as token_kind;
 ghost use Rattle.jiter_scan.specs.Ascii as ascii;
-ghost use Rattle.jiter_scan.specs.declared.partial_number.Went.TheVariants as number_went;
-ghost use Rattle.jiter_scan.specs.PartialNumber.{Leads};
+ghost use Rattle.jiter_scan.specs.declared.partial_number.NumberStep.TheVariants as number_went;
+ghost use Rattle.jiter_scan.specs.PartialNumber.{StepsTo};
 
-use crate::names::Name;
+use crate::names::WordValue;
 use crate::punctuation::is_blank;
 use crate::reader::{Reader, Token};
 use crate::slot::{append_in, put_in, reserve_in, take_from};
 use crate::values::text_value;
 use jiter_scan::errors::FaultKind;
 use jiter_scan::memory::AllocFailed;
-use jiter_scan::partial_number::{OwnNumber, Went as NumberWent};
-use jiter_scan::partial_word::Seen;
+use jiter_scan::partial_number::{NumberStep, OwnNumber};
+use jiter_scan::partial_word::WordStep;
 use jiter_scan::simd::scan_string;
-use jiter_steps::partial_string::Went as StringWent;
+use jiter_steps::partial_string::StringStep;
 use jiter_value::value::JsonValue;
 use std::alloc::Global;
 use std::borrow::CowStr;
@@ -181,17 +180,17 @@ impl Reader {
         requires here { IsHere level chunk.now self.old (view slot.old) }
         requires token { self.old.token ≡ token_kind.Word }
         ensures steps { IfOk result (λ n. Steps level chunk.now self.old (view slot.old) self.new (view slot.new) n) }
-        ensures stays { OnErr result (Stays level chunk.now self.old (view slot.old) self.new (view slot.new)) }
+        ensures stays { OnErr result (ReadsAsBefore level chunk.now self.old (view slot.old) self.new (view slot.new)) }
     {
         let mut word = self.word;
         match word.next(chunk[self.at]) {
-            Seen::Part => self.word = word,
-            Seen::Last => {
+            WordStep::Part => self.word = word,
+            WordStep::Last => {
                 reserve_in(slot)?;
                 let value = self.name.value(self.alloc)?;
                 self.put(slot, level, value);
             }
-            Seen::Other => self.refuse(FaultKind::ExpectedSomeIdent, self.position()),
+            WordStep::Other => self.refuse(FaultKind::ExpectedSomeIdent, self.position()),
         }
         Ok(1)
     }
@@ -201,13 +200,13 @@ impl Reader {
         requires here { IsHere level chunk.now self.old (view slot.now) }
         requires hidden { self.old.shown ≡ false }
         requires token { self.old.token ≡ token_kind.Number }
-        requires leads { Leads self.old.number.stage (slice_index chunk.now self.old.at) number_went.Named }
+        requires leads { StepsTo self.old.number.stage (slice_index chunk.now self.old.at) number_went.Named }
         requires fits { Fits self.old.number.stage (slice_index chunk.now self.old.at) number_went.Named }
         ensures { Steps level chunk.now self.old (view slot.now) self.new (view slot.now) result }
     {
         if self.settings.allow_inf_nan {
-            self.name = Name::MinusInfinity;
-            self.word = Name::MinusInfinity.begun();
+            self.name = WordValue::MinusInfinity;
+            self.word = WordValue::MinusInfinity.begun();
             self.token = Token::Word;
         } else {
             self.refuse(FaultKind::InvalidNumber, self.position());
@@ -220,7 +219,7 @@ impl Reader {
         requires here { IsHere level chunk.now self.old (view slot.old) }
         requires hidden { self.old.shown ≡ false }
         requires token { self.old.token ≡ token_kind.Number }
-        requires leads { Leads self.old.number.stage (slice_index chunk.now self.old.at) number_went.Over }
+        requires leads { StepsTo self.old.number.stage (slice_index chunk.now self.old.at) number_went.Over }
         requires fits { Fits self.old.number.stage (slice_index chunk.now self.old.at) number_went.Over }
         requires space { HasRoomAt level slot.old }
         ensures { Steps level chunk.now self.old (view slot.old) self.new (view slot.new) result }
@@ -239,25 +238,24 @@ impl Reader {
         slot: &JsonValue<'static>,
         level: usize,
         chunk: &[u8],
-        went: NumberWent,
+        went: NumberStep,
     ) -> usize
         requires here { IsHere level chunk.now self.old (view slot.now) }
         requires hidden { self.old.shown ≡ false }
         requires token { self.old.token ≡ token_kind.Number }
-        requires leads { Leads self.old.number.stage (slice_index chunk.now self.old.at) went }
+        requires leads { StepsTo self.old.number.stage (slice_index chunk.now self.old.at) went }
         requires fits { Fits self.old.number.stage (slice_index chunk.now self.old.at) went }
         requires wrong { (went ≡ number_went.Invalid) ⊎ (went ≡ number_went.TooLong) }
         ensures { Steps level chunk.now self.old (view slot.now) self.new (view slot.now) result }
     {
         match went {
-            NumberWent::TooLong => self.refuse(FaultKind::NumberOutOfRange, self.position() + 1),
+            NumberStep::TooLong => self.refuse(FaultKind::NumberOutOfRange, self.position() + 1),
             _ => self.refuse(FaultKind::InvalidNumber, self.position()),
         }
         1
     }
 
-    // Takes bytes of the number, or the byte after it. The index of `NumberOutOfRange` is one past the digit that is
-    // too many.
+    // Takes bytes of the number, or the byte after it. `NumberOutOfRange` is at one past the first digit too many.
     fn take_number(
         &mut self,
         slot: &mut JsonValue<'static>,
@@ -269,16 +267,16 @@ impl Reader {
         requires token { self.old.token ≡ token_kind.Number }
         requires space { HasRoomAt level slot.old }
         ensures steps { IfOk result (λ n. Steps level chunk.now self.old (view slot.old) self.new (view slot.new) n) }
-        ensures stays { OnErr result (Stays level chunk.now self.old (view slot.old) self.new (view slot.new)) }
+        ensures stays { OnErr result (ReadsAsBefore level chunk.now self.old (view slot.old) self.new (view slot.new)) }
     {
         match self.number.next(chunk[self.at]) {
-            NumberWent::Taken(stage) => {
+            NumberStep::Taken(stage) => {
                 let taken = self.number.more(stage, chunk, self.at);
                 self.show(slot, level);
                 taken
             }
-            NumberWent::Over => Ok(self.end_number(slot, level, chunk)),
-            NumberWent::Named => Ok(self.take_name(slot, level, chunk)),
+            NumberStep::Over => Ok(self.end_number(slot, level, chunk)),
+            NumberStep::Named => Ok(self.take_name(slot, level, chunk)),
             wrong => Ok(self.end_invalid(slot, level, chunk, wrong)),
         }
     }
@@ -306,8 +304,7 @@ impl Reader {
         }
     }
 
-    // `TrailingStrings` drops an incomplete character before the closing quote. With partial reading off that is an
-    // error.
+    // `TrailingStrings` drops an incomplete character before the quote. With partial reading off it is an error.
     fn close_string(&mut self, slot: &mut JsonValue<'static>, level: usize, chunk: &[u8]) -> usize
         requires here { IsHere level chunk.now self.old (view slot.old) }
         requires hidden { self.old.shown ≡ false }
@@ -331,8 +328,7 @@ impl Reader {
         1
     }
 
-    // How many bytes of the chunk can be appended to the string where it is in the value: plain ASCII, after complete
-    // characters and escapes.
+    // How many bytes can be appended to the string in the value: plain ASCII, after complete characters and escapes.
     #[inline(always)]
     fn growth(&self, chunk: &[u8]) -> usize
         requires { self.now.at < length chunk.now }
@@ -357,15 +353,15 @@ impl Reader {
         requires token { (self.old.token ≡ token_kind.Text) ⊎ (self.old.token ≡ token_kind.Key) }
         requires space { HasRoomAt level slot.old }
         ensures steps { IfOk result (λ n. Steps level chunk.now self.old (view slot.old) self.new (view slot.new) n) }
-        ensures stays { OnErr result (Stays level chunk.now self.old (view slot.old) self.new (view slot.new)) }
+        ensures stays { OnErr result (ReadsAsBefore level chunk.now self.old (view slot.old) self.new (view slot.new)) }
     {
         match self.string.next(chunk, self.at) {
-            Ok(StringWent::Taken(count)) => {
+            Ok(StringStep::Taken(count)) => {
                 self.show(slot, level);
                 Ok(count)
             }
-            Ok(StringWent::Quote) => Ok(self.close_string(slot, level, chunk)),
-            Ok(StringWent::Wrong(kind, back)) => {
+            Ok(StringStep::Quote) => Ok(self.close_string(slot, level, chunk)),
+            Ok(StringStep::Wrong(kind, back)) => {
                 self.refuse(kind, self.position() - back);
                 Ok(1)
             }
@@ -388,7 +384,7 @@ impl Reader {
         requires token { (self.old.token ≡ token_kind.Number) ⊎ IsOfString self.old.token }
         requires complete { IsComplete self.old }
         ensures steps { IfOk result (λ n. Steps level chunk.now self.old (view slot.old) self.new (view slot.new) n) }
-        ensures stays { OnErr result (Stays level chunk.now self.old (view slot.old) self.new (view slot.new)) }
+        ensures stays { OnErr result (ReadsAsBefore level chunk.now self.old (view slot.old) self.new (view slot.new)) }
     {
         self.hide(slot, level)?;
         if matches!(self.token, Token::Number) {
@@ -408,7 +404,7 @@ impl Reader {
         requires token { (self.old.token ≡ token_kind.Text) ⊎ (self.old.token ≡ token_kind.Key) }
         requires complete { IsComplete self.old }
         ensures steps { IfOk result (λ n. Steps level chunk.now self.old (view slot.old) self.new (view slot.new) n) }
-        ensures stays { OnErr result (Stays level chunk.now self.old (view slot.old) self.new (view slot.new)) }
+        ensures stays { OnErr result (ReadsAsBefore level chunk.now self.old (view slot.old) self.new (view slot.new)) }
     {
         let count = self.growth(chunk);
         if count == 0 {
@@ -430,7 +426,7 @@ impl Reader {
         requires token { ¬ (self.old.token ≡ token_kind.Nothing) }
         requires complete { IsComplete self.old }
         ensures steps { IfOk result (λ n. Steps level chunk.now self.old (view slot.old) self.new (view slot.new) n) }
-        ensures stays { OnErr result (Stays level chunk.now self.old (view slot.old) self.new (view slot.new)) }
+        ensures stays { OnErr result (ReadsAsBefore level chunk.now self.old (view slot.old) self.new (view slot.new)) }
     {
         match self.token {
             Token::Word => self.take_word(slot, level, chunk),

@@ -1,8 +1,7 @@
-//! Begins what stands between the punctuation: containers, keys and scalars (RFC 8259, 3 to 7). A scalar or key that is
-//! complete in the chunk is read at once.
+//! Begins containers, keys and scalars (RFC 8259, 3 to 7). A scalar or key that is all in the chunk is read at once.
 ghost use Rattle.std.specs.Prelude.{◌≡◌, ◌+◌, ◌-◌, ◌^◌, ◌<◌, ◌≤◌, ◌++◌, [], IfOk, OnErr, OnOk, length};
 ghost use Rattle.std.specs.Prelude.{slice_index, true, false, string_bytes};
-ghost use Rattle.jiter_incremental.specs.Words.{text_of, name_word, AwaitsKey, AwaitsValue, IsHere, Stays};
+ghost use Rattle.jiter_incremental.specs.Words.{text_of, name_word, AwaitsKey, AwaitsValue, IsHere, ReadsAsBefore};
 ghost use Rattle.jiter_incremental.specs.Words.{Steps, HasRoomAt, quote, number_view, begins_decimal};
 ghost use Rattle.jiter_incremental.specs.Words.{is_blank, start_of, nesting_limit, number_tree, HasTaken};
 ghost use Rattle.jiter_incremental.specs.Words.{opening, string, owned_text, tree_as, view};
@@ -10,7 +9,7 @@ ghost use Rattle.jiter_incremental.specs.declared.reader.Awaits.TheVariants as a
 ghost use Rattle.jiter_incremental.specs.declared.reader.Token.TheVariants as token_kind;
 ghost use Rattle.jiter_steps.specs.declared.parse.Start.TheVariants as start;
 
-use crate::names::{Name, literal_value};
+use crate::names::{WordValue, literal_value};
 use crate::reader::{Awaits, Reader, Token};
 use crate::slot::{empty, reserve_in};
 use jiter_scan::errors::FaultKind;
@@ -88,7 +87,7 @@ impl Reader {
         1
     }
 
-    fn begin_word(&mut self, name: Name)
+    fn begin_word(&mut self, name: WordValue)
         requires { self.old.base + self.old.at < 2 ^ 64 }
         ensures is { self.new ≡ record self.old {
           begin = self.old.base + self.old.at;
@@ -119,9 +118,9 @@ impl Reader {
         if !self.settings.allow_inf_nan {
             self.refuse(FaultKind::ExpectedSomeValue, self.position());
         } else if chunk[self.at] == b'N' {
-            self.begin_word(Name::NaN);
+            self.begin_word(WordValue::NaN);
         } else {
-            self.begin_word(Name::Infinity);
+            self.begin_word(WordValue::Infinity);
         }
         1
     }
@@ -142,7 +141,7 @@ impl Reader {
         requires low { level ≤ nesting_limit }
         requires begins { begins_decimal (slice_index chunk.now self.old.at) ≡ true }
         ensures steps { IfOk result (λ n. Steps level chunk.now self.old (view slot.old) self.new (view slot.new) n) }
-        ensures stays { OnErr result (Stays level chunk.now self.old (view slot.old) self.new (view slot.new)) }
+        ensures stays { OnErr result (ReadsAsBefore level chunk.now self.old (view slot.old) self.new (view slot.new)) }
     {
         let (stage, end) = begun_at(chunk, self.at);
         self.number.clear();
@@ -168,7 +167,7 @@ impl Reader {
         requires low { level ≤ nesting_limit }
         requires begins { begins_decimal (slice_index chunk.now self.old.at) ≡ true }
         ensures steps { IfOk result (λ n. Steps level chunk.now self.old (view slot.old) self.new (view slot.new) n) }
-        ensures stays { OnErr result (Stays level chunk.now self.old (view slot.old) self.new (view slot.new)) }
+        ensures stays { OnErr result (ReadsAsBefore level chunk.now self.old (view slot.old) self.new (view slot.new)) }
     {
         match number_within(chunk, self.at) {
             Some((number, end)) => {
@@ -208,9 +207,9 @@ impl Reader {
         requires low { level ≤ nesting_limit }
         requires quote { slice_index chunk.now self.old.at ≡ quote }
         ensures steps { IfOk result (λ n. Steps level chunk.now self.old (view slot.old) self.new (view slot.new) n) }
-        ensures stays { OnErr result (Stays level chunk.now self.old (view slot.old) self.new (view slot.new)) }
+        ensures stays { OnErr result (ReadsAsBefore level chunk.now self.old (view slot.old) self.new (view slot.new)) }
     {
-        match text_within(self.alloc, &mut self.tape, chunk, self.at)? {
+        match text_within(self.alloc, &mut self.buffer, chunk, self.at)? {
             Some((text, end)) => {
                 self.put(slot, level, text_value(text));
                 Ok(end - self.at)
@@ -247,7 +246,7 @@ impl Reader {
                 end - self.at
             }
             None => {
-                self.begin_word(Name::Literal(literal));
+                self.begin_word(WordValue::Literal(literal));
                 1
             }
         }
@@ -268,7 +267,7 @@ impl Reader {
         requires awaited { AwaitsValue level chunk.now self.old (view slot.old) }
         requires other { is_blank (slice_index chunk.now self.old.at) ≡ false }
         ensures steps { IfOk result (λ n. Steps level chunk.now self.old (view slot.old) self.new (view slot.new) n) }
-        ensures stays { OnErr result (Stays level chunk.now self.old (view slot.old) self.new (view slot.new)) }
+        ensures stays { OnErr result (ReadsAsBefore level chunk.now self.old (view slot.old) self.new (view slot.new)) }
     {
         if level > NESTING_LIMIT {
             self.refuse(FaultKind::RecursionLimitExceeded, self.position());
@@ -303,9 +302,9 @@ impl Reader {
         requires token { self.old.token ≡ token_kind.Nothing }
         requires awaited { AwaitsKey level chunk.now self.old (view slot.now) }
         ensures steps { IfOk result (λ n. Steps level chunk.now self.old (view slot.now) self.new (view slot.now) n) }
-        ensures stays { OnErr result (Stays level chunk.now self.old (view slot.now) self.new (view slot.now)) }
+        ensures stays { OnErr result (ReadsAsBefore level chunk.now self.old (view slot.now) self.new (view slot.now)) }
     {
-        match text_within(self.alloc, &mut self.tape, chunk, self.at)? {
+        match text_within(self.alloc, &mut self.buffer, chunk, self.at)? {
             Some((text, end)) => {
                 self.key = CowStr::Owned(text);
                 if end < chunk.len() && chunk[end] == b':' {

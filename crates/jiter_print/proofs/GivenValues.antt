@@ -4,7 +4,7 @@ use Rattle.std.specs.Prelude.{slice_get, slice_index, Option, Some, None}
 use Rattle.jiter_steps.proofs.Reading.Values.{part_after}
 use Rattle.jiter_scan.specs.Kind.{Kind}
 use Rattle.jiter_scan.specs.Scanned.{Scanned, taken, failed}
-use Rattle.jiter_scan.specs.Word.{Extent}
+use Rattle.jiter_scan.specs.Word.{Span}
 use Rattle.jiter_steps.specs.Blank.{past_blanks}
 use Rattle.jiter_steps.specs.Literal.{start_of}
 use Rattle.jiter_steps.specs.Node.{nesting_limit}
@@ -100,7 +100,7 @@ module _ {K A : Type 0} (r : Rules K A) (t : List ℕ) where
     with_key-gives k is (done a e) h = (is, h)
     with_key-gives k is (fault kind i stop) h = tt
 
-    after_colon-gives : (k : K) → IsKey k → (x : Extent) → Gives (Both IsKey Is) (after_colon k inner x)
+    after_colon-gives : (k : K) → IsKey k → (x : Span) → Gives (Both IsKey Is) (after_colon k inner x)
     after_colon-gives k is (taken u j) = with_key-gives k is (inner j) (each j)
     after_colon-gives k is (failed kind j) = tt
 

@@ -191,14 +191,14 @@ module _ (names : Bool) (u : List ℕ) where
       record { again = a.again; spelled = (a.spelled.0, omega (arith, a.spelled.1)); like = a.like }
 
 -- ---- the whole text
--- the print stands before its line feed
+-- the print is before its line feed
 print-stands : (w : List ℕ) → Stands (with_line_feed w) 0 (length w) w
 print-stands w =
     let n = length-append w (10 ∷ []) in
     subst (Stands (with_line_feed w) 0 (length w)) (take_at w (10 ∷ []) (length w - 0) (omega arith))
     (stands-slice (with_line_feed w) 0 (length w) (omega arith) (omega arith))
 
--- nothing but the line feed stands after it
+-- nothing but the line feed is after it
 feed-blank : (w : List ℕ) (e : ℕ) → e ≡ length w → IsBlank (with_line_feed w) e (length (with_line_feed w))
 feed-blank w e is =
     let n = length-append w (10 ∷ []) in

@@ -14,7 +14,7 @@ use Rattle.jiter_print.proofs.GivenValues.{Each}
 pub no_blank : (u : List ℕ) (i : ℕ) → i ≤ length u → IsBlank u i i
 no_blank u i h = record { ordered = omega arith; within = h; each = λ k l m. absurd (omega arith) }
 
--- the byte stands right here
+-- the byte is right here
 pub stands_here : (u : List ℕ) (i c j : ℕ) → slice_get u i ≡ Some c → j ≡ i + 1 → StandsAfter u i c j
 stands_here u i c j h e =
     let lt = slice_get_within u i c h in record { at = i; blanks = no_blank u i (omega arith); here = h; ends = e }
@@ -35,14 +35,14 @@ blank-more u i c j h is rest =
           subst (λ x. IsBlankByte (slice_index u x)) same
           (subst IsBlankByte (sym (get_or_from_slice_get u i c 0 h)) is)
 
--- where whitespace stands, there is whitespace
+-- where whitespace is, there is whitespace
 pub stands-blank : (u w : List ℕ) (i j : ℕ) → i ≤ length u → AreBlank w → Stands u i j w → IsBlank u i j
 stands-blank u [] i j l blank h = subst (IsBlank u i) h (no_blank u i l)
 stands-blank u (c ∷ w) i j l blank h =
     let lt = slice_get_within u i c h.0 in
     blank-more u i c j h.0 blank.0 (stands-blank u w (i + 1) j (omega arith) blank.1 h.1)
 
--- the byte stands after whitespace
+-- the byte is after whitespace
 pub stands-closer : (u w : List ℕ) (i c j : ℕ) → i ≤ length u → AreBlank w → Stands u i j (w ++ c ∷ [])
     → StandsAfter u i c j
 stands-closer u w i c j l blank h =
@@ -54,8 +54,8 @@ stands-closer u w i c j l blank h =
       ends = sym parts.2.1;
     }
 
--- ---- what stands wherever something is printed
--- wherever w stands, this is so of its place and of the place after it
+-- ---- what is wherever something is printed
+-- wherever w is, this is so of its place and of the place after it
 abbrev pub Wherever : List ℕ → List ℕ → (ℕ → ℕ → Type 0) → Type 0
 Wherever u w So = (i j : ℕ) → i ≤ length u → Stands u i j w → So i j
 

@@ -7,7 +7,7 @@ use Rattle.jiter_scan.specs.Kind.{Kind, invalid_code_point, is_forgiven}
 use Rattle.jiter_scan.specs.Number.{Number, integer, big, float, IsNumberText, number_value}
 use Rattle.jiter_scan.specs.NumberReading.{number_at}
 use Rattle.jiter_scan.specs.Scanned.{Scanned, taken, failed}
-use Rattle.jiter_scan.specs.Word.{Extent}
+use Rattle.jiter_scan.specs.Word.{Span}
 use Rattle.jiter_scan.specs.declared.partial_mode.PartialMode.{PartialMode}
 use Rattle.jiter_scan.specs.declared.partial_mode.PartialMode.TheVariants.{Off, On, TrailingStrings}
 use Rattle.jiter_scan.proofs.Choices.{if_case}
@@ -52,7 +52,7 @@ abbrev pub FitsInside : Bool → ℕ → Tree → Type 0
 FitsInside names zero v = ⊥
 FitsInside names (suc left) v = FitsWith names (λ w. FitsInside names left w) v
 
--- No more containers than there are levels stand one inside another, empty ones left out.
+-- No more containers than there are levels are one inside another, empty ones left out.
 abbrev pub Fits : Bool → ℕ → Tree → Type 0
 Fits names levels v = FitsWith names (λ w. FitsInside names levels w) v
 
@@ -62,7 +62,7 @@ literal-fits names levels name.Null = tt
 literal-fits names levels name.True = tt
 literal-fits names levels name.False = tt
 
-literal_at-fits : (names : Bool) (levels : ℕ) (l : Literal) (x : Extent)
+literal_at-fits : (names : Bool) (levels : ℕ) (l : Literal) (x : Span)
     → Takes (Fits names levels) (seen_as (λ u e. literal_tree l) x)
 literal_at-fits names levels l (taken u e) = literal-fits names levels l
 literal_at-fits names levels l (failed k j) = tt

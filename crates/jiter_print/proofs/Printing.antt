@@ -100,7 +100,7 @@ plain-prints (b ∷ bs) h =
     ap (λ w. w ++ flat_map print_byte bs) (if-false (needs_escape b) (escape_of b) (b ∷ []) (plain-stays b h.0))
     ∙ ap (λ w. b ∷ w) (plain-prints bs h.1)
 
--- what stands after the first bytes of a tape
+-- what is after the first bytes of a tape
 stands-after : (line before text : List ℕ) (at : ℕ) → length before ≡ at
     → take (at + length text) line ≡ before ++ text
     → take (length text) (drop at line) ≡ text

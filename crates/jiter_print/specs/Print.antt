@@ -7,7 +7,7 @@ pub use Rattle.jiter_scan.specs.Quoted.{hex_digit}
 use Rattle.jiter_steps.specs.Tree.{Tree, null, boolean, int, big, float, string, array, object, Items, no_items, item}
 use Rattle.jiter_steps.specs.Tree.{Members, no_members, member}
 
--- a quote, a backslash or a control character: it can't stand in a text as it is
+-- a quote, a backslash or a control character: it can't be in a text as it is
 abbrev pub needs_escape : ℕ → Bool
 needs_escape b = nat_eq b 34 || nat_eq b 92 || nat_lt b 32
 
@@ -26,7 +26,7 @@ print_byte b = if needs_escape b then escape_of b else (b ∷ [])
 abbrev pub print_text : List ℕ → List ℕ
 print_text bs = 34 ∷ flat_map print_byte bs ++ 34 ∷ []
 
--- a comma, where something stands before
+-- a comma, where something is before
 abbrev pub comma : ℕ → List ℕ
 comma zero = []
 comma (suc n) = 44 ∷ []
@@ -59,6 +59,6 @@ abbrev mutual
 abbrev pub with_line_feed : List ℕ → List ℕ
 with_line_feed bs = bs ++ 10 ∷ []
 
--- the first bytes of a tape, of which count many stand, are followed by these, and room for one more
+-- the first bytes of a tape, of which count many are, are followed by these, and room for one more
 abbrev pub Appends : List ℕ → List ℕ → ℕ → List ℕ → ℕ → Type 0
 Appends old new count text end = (take end new ≡ take count old ++ text) × (end < length new)

@@ -51,8 +51,7 @@ module _ (p q : ℕ → Bool) (weaker : (c : ℕ) → p c ≡ true → q c ≡ t
   shorter (c ∷ w) = by (p c) refl (shorter w) where
     by : (b : Bool) → p c ≡ b → prefix_len p w ≤ prefix_len q w
         → cond b (1 + prefix_len p w) 0 ≤ cond (q c) (1 + prefix_len q w) 0
-    by true e rest =
-        subst (λ x. 1 + prefix_len p w ≤ cond x (1 + prefix_len q w) 0) (sym (weaker c e)) (omega arith)
+    by true e rest = rw (weaker c e) (omega arith)
     by false e rest = omega arith
 
   -- if that one fails the weaker too, both runs end there

@@ -1,6 +1,6 @@
 -- What follows from a reading that chooses by a test.
-use Rattle.jiter_scan.proofs.Words.{◌≡◌, ℕ, Bool, true, false, refl, ap, if◌then◌else◌, Kind, taken, failed, Extent}
-use Rattle.jiter_scan.proofs.Words.{extent_then}
+use Rattle.jiter_scan.proofs.Words.{◌≡◌, ℕ, Bool, true, false, refl, ap, if◌then◌else◌, Kind, taken, failed, Span}
+use Rattle.jiter_scan.proofs.Words.{span_then}
 
 -- what holds of both choices holds of the choice
 pub if_case : {A : Type 0} (P : A → Type 0) (b : Bool) (x y : A) → (b ≡ true → P x) → (b ≡ false → P y)
@@ -26,7 +26,7 @@ if-true b x y e = ap (λ (c : Bool). if c then x else y) e
 pub if-false : {A : Type 0} (b : Bool) (x y : A) → b ≡ false → (if b then x else y) ≡ y
 if-false b x y e = ap (λ (c : Bool). if c then x else y) e
 
--- a fault is nothing taken
+-- an error is nothing taken
 pub failed-taken : {A : Type 0} (k : Kind) (j : ℕ) (a : A) (e : ℕ) → failed k j ≡ taken a e → ⊥
 failed-taken k j a e h = cc
 
@@ -35,7 +35,7 @@ pub same_taken : {A : Type 0} (a b : A) (i j : ℕ) → taken a i ≡ taken b j 
 same_taken a b i j h = (cc, cc)
 
 -- where a part and what follows are read, the part ends somewhere
-pub extent_then-taken : (x : Extent) (next : ℕ → Extent) (u : Unit {0}) (e : ℕ) → extent_then x next ≡ taken u e
+pub span_then-taken : (x : Span) (next : ℕ → Span) (u : Unit {0}) (e : ℕ) → span_then x next ≡ taken u e
     → (j : ℕ) × (x ≡ taken tt j) × (next j ≡ taken u e)
-extent_then-taken (taken v j) next u e h = (j, refl, h)
-extent_then-taken (failed k j) next u e h = absurd (failed-taken k j u e h)
+span_then-taken (taken v j) next u e h = (j, refl, h)
+span_then-taken (failed k j) next u e h = absurd (failed-taken k j u e h)

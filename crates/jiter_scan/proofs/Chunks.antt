@@ -3,10 +3,7 @@ use Rattle.jiter_scan.proofs.Words.{◌≡◌, ℕ, ◌+◌, ◌*◌, ◌/◌, �
 use Rattle.jiter_scan.proofs.Words.{[], ◌∷◌, length, drop, take, refl, sym, ap, ap₂, take-add, drop-drop, ◌∙◌, arith}
 use Rattle.jiter_scan.proofs.Words.{zero, suc, drop-take, length-chunk, list_all-append, and_parts, eq-eqb, ne_eqb}
 use Rattle.jiter_scan.proofs.Words.{false≢true, nat_tests, prefix_len, list_all, chunk, count_trailing_zeros, run_end}
-use Rattle.jiter_scan.proofs.Words.{Pass, failing}
-use Rattle.std.proofs.lemmas.Nat.{shr-shr, shr_le}
-use Rattle.std.proofs.lemmas.Simd.{chunk-drop, trailing_mask_l}
-use Rattle.std.proofs.lemmas.List.Folds.{prefix_len-append}
+use Rattle.jiter_scan.proofs.Words.{Pass, failing, shr-shr, shr_le, chunk-drop, trailing_mask_l, prefix_len-append}
 use Rattle.jiter_scan.proofs.Runs.{run_end-passes, run_end-passing}
 
 one-more : (b : Bool) (m : ℕ) → (b && eqb m 0) ≡ eqb (cond (not b) 1 0 + 2 * m) 0
@@ -135,17 +132,16 @@ module _ (test : ℕ → Bool) where
       ≡ ((list_all test (chunk i 16 t) && list_all test (chunk (i + 16) 16 t))
       && (list_all test (chunk (i + 32) 16 t) && list_all test (chunk (i + 48) 16 t)))
   list_all-four t i =
-      let place : i + 32 + 16 ≡ i + 48 = omega arith in
       list_all-halves t i 32 ∙ ap₂ (λ a b. a && b) (list_all-halves t i 16)
       (list_all-halves t (i + 32) 16 ∙ ap
-      (λ k. list_all test (chunk (i + 32) 16 t) && list_all test (chunk k 16 t)) place)
+      (λ k. list_all test (chunk (i + 32) 16 t) && list_all test (chunk k 16 t)) (omega arith))
 
   -- all of them pass
   pub all-pass : (w : List ℕ) → list_all test w ≡ true → Pass test w
   all-pass [] h = tt
   all-pass (c ∷ w) h = let parts = and_parts (test c) (list_all test w) h in (parts.0, all-pass w parts.1)
 
-  -- the first n pass where no more than the first to fail stand after them
+  -- the first n pass where no more than the first to fail are after them
   pub prefix_len-pass : (n : ℕ) (w : List ℕ) → n ≤ prefix_len test w → Pass test (take n w)
   prefix_len-pass zero w h = tt
   prefix_len-pass (suc n) [] h = tt

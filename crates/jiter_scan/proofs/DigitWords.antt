@@ -3,19 +3,13 @@ use Rattle.jiter_scan.proofs.Words.{◌≡◌, ℕ, zero, suc, ◌+◌, ◌-◌,
 use Rattle.jiter_scan.proofs.Words.{eqb, List, [], ◌∷◌, ◌++◌, map, length, get_or, take, drop, replicate, refl, sym, ap}
 use Rattle.jiter_scan.proofs.Words.{ap₂, ◌∙◌, min, arith, take-add, length-append, length-drop, pow-suc, take-take}
 use Rattle.jiter_scan.proofs.Words.{eqb-true, agree_below_at, prefix_len, number_from_digits, AllBelowBase, number_l}
-use Rattle.jiter_scan.proofs.Words.{take_all, drop-take, is_digit, decimal_of, less_zero}
-use Rattle.std.proofs.Common.{add-zero, lit<}
-use Rattle.std.proofs.Common.{mod-lt, zero-lt-suc}
-use Rattle.std.specs.Int.Digits.{number_from_digits_after}
-use Rattle.std.proofs.lemmas.Int.Digits.{number_lt, number_after_append}
-use Rattle.std.proofs.lemmas.Simd.{length-replicate}
-use lib.Arith.{digits_div, digits_mod, mod-mul}
-use lib.Bits.{bit_and, and_block, and_mask}
+use Rattle.jiter_scan.proofs.Words.{take_all, drop-take, is_digit, decimal_of, less_zero, add-zero, lit<, mod-lt}
+use Rattle.jiter_scan.proofs.Words.{zero-lt-suc, number_from_digits_after, number_lt, number_after_append}
+use Rattle.jiter_scan.proofs.Words.{length-replicate, digits_div, digits_mod, mod-mul, bit_and, and_block, and_mask}
+use Rattle.jiter_scan.proofs.Words.{one-le-pow, mod-eq_of_lt, zero-mod, zero-div, mul-div_cancel, mul-mod_left}
+use Rattle.jiter_scan.proofs.Words.{pow-succ', div-div-eq-div-mul, IsEightBytes}
 use lib.Pow.{pow-add}
 use lib.ListN.{length-take, length-map}
-use Rattle.std.proofs.Math.Nat.{one-le-pow}
-use native.Mathlib.Nat.{mod-eq_of_lt, zero-mod, zero-div, mul-div_cancel, mul-mod_left, pow-succ', div-div-eq-div-mul}
-use Rattle.jiter_scan.specs.Simd.{IsEightBytes}
 use Rattle.jiter_scan.proofs.Digits.{digit-bounds}
 
 -- the mask keeps bytes 0 and 4
@@ -140,7 +134,6 @@ number_l-shifted xs n word eight digits some few e =
     let ds : List ℕ = zeros ++ take n xs in
     let p = padded (8 - n) (take n xs) digits in
     let count = length-replicate {A = ℕ} (8 - n) 0 in
-    let long : length ds ≡ 8 = omega (arith, length-append zeros (take n xs), count, length-take n xs, eight.0) in
     let shift : 2 ^ (64 - 8 * n) ≡ 256 ^ (8 - n) =
     ap (λ k. 2 ^ k) {x = 64 - 8 * n} {y = 8 * (8 - n)} (omega arith) ∙ bits-of_bytes (8 - n) in
     let all : 256 ^ n * 256 ^ (8 - n) ≡ 2 ^ 64 =
@@ -148,7 +141,7 @@ number_l-shifted xs n word eight digits some few e =
     let same : word * 2 ^ (64 - 8 * n) % 2 ^ 64 ≡ number_l 256 ds =
     rw (e, shift, ← all, mod-scaled _ _ _ (power-positive n) (power-positive (8 - n)), number_l-prefix _ n eight.1)
     (sym p.1) in
-    (ds, long, p.0, same, p.2)
+    (ds, omega (arith, length-append zeros (take n xs), count, length-take n xs, eight.0), p.0, same, p.2)
 
 number_l-drop : (k : ℕ) (xs : List ℕ) → AllBelowBase 256 xs → number_l 256 xs / 256 ^ k ≡ number_l 256 (drop k xs)
 number_l-drop zero xs h = omega arith
@@ -238,11 +231,10 @@ number-in_two zs n some few =
 pub AllBelowBase-in_two : (zs : List ℕ) (n : ℕ) → 8 ≤ n → AllBelowBase 10 (take n zs)
     → AllBelowBase 10 (take 8 zs) × AllBelowBase 10 (take (n - 8) (drop 8 zs))
 AllBelowBase-in_two zs n some h =
-    let a = AllBelowBase-take 10 8 (take n zs) h in
     let b = AllBelowBase-drop 10 8 (take n zs) h in
     let after : drop 8 (take n zs) ≡ take (n - 8) (drop 8 zs) =
     ap (λ k. drop 8 (take k zs)) {x = n} {y = 8 + (n - 8)} (omega arith) ∙ drop-take 8 (n - 8) zs in
-    (rw (take-take 8 n zs some) at a, rw after at b)
+    (rw (take-take 8 n zs some) at (AllBelowBase-take 10 8 (take n zs) h), rw after at b)
 
 pub number-eight_below : (ds : List ℕ) → length ds ≡ 8 → AllBelowBase 10 ds → number_from_digits 10 ds < 100000000
 number-eight_below ds long h = omega (arith, rw long at (number_lt 10 ds h))

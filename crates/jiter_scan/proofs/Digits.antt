@@ -1,8 +1,7 @@
 -- The values of decimal digits.
 use Rattle.jiter_scan.proofs.Words.{◌≡◌, ℕ, ◌+◌, ◌-◌, ◌*◌, ◌^◌, ◌<◌, ◌≤◌, length, List, [], ◌∷◌, ◌++◌, sym, ap, ◌∙◌}
 use Rattle.jiter_scan.proofs.Words.{leb, true, arith, pow-suc, leb-true, and_parts, length-append, is_digit, decimal_of}
-use Rattle.jiter_scan.proofs.Words.{AreDigits}
-use Rattle.std.proofs.Math.Nat.{mul_assoc, add-mul, mul-le-mul_right}
+use Rattle.jiter_scan.proofs.Words.{AreDigits, mul_assoc, add-mul, mul-le-mul_right}
 use Rattle.std.proofs.lemmas.Nat.{pow-add}
 
 -- `0` to `9` by their codes

@@ -2,38 +2,37 @@
 use Rattle.jiter_scan.proofs.Words.{◌≡◌, inl, inr, ℕ, ◌+◌, ◌≤◌, Bool, true, false, List, refl, sym, ap, ◌∙◌}
 use Rattle.jiter_scan.proofs.Words.{slice_range, arith, ◌^◌, slice_get, Some, pos, nat_lt, nat_le, if◌then◌else◌}
 use Rattle.jiter_scan.proofs.Words.{lt-ltb, le-leb, nat_tests, integer, float, number_value, minus_of, IsMinusTo}
-use Rattle.jiter_scan.proofs.Words.{number_extent, with_value, number_at, taken, IsPlainInteger}
-use Rattle.jiter_scan.specs.FastNumber.{IsPlainFloat}
+use Rattle.jiter_scan.proofs.Words.{number_span, with_value, number_at, taken, IsPlainInteger, IsPlainFloat}
 use Rattle.jiter_scan.proofs.Choices.{if-true}
-use Rattle.jiter_scan.proofs.NumberExtents.{extent-decimal, extent-minus}
+use Rattle.jiter_scan.proofs.NumberSpans.{span-decimal, span-minus}
 use Rattle.jiter_scan.proofs.NumberValues.{integer_value-positive, integer_value-negative}
 
 module _ (t : List ℕ) (names : Bool) (e : ℕ) where
-  pub number_at-extent : (i : ℕ) → number_extent names t i ≡ taken tt e
+  pub number_at-span : (i : ℕ) → number_span names t i ≡ taken tt e
       → number_at names t i ≡ taken (number_value (slice_range t i e)) e
   unfolding number_at
-  number_at-extent i h = ap (with_value t i) h
+  number_at-span i h = ap (with_value t i) h
 
   pub plain-integer : (i n : ℕ) → IsPlainInteger t i n e → number_at names t i ≡ taken (integer (pos n)) e
   plain-integer i n s =
-      number_at-extent i (extent-decimal t names i e s.decimal)
+      number_at-span i (span-decimal t names i e s.decimal)
       ∙ ap (λ x. taken x e)
       (sym (integer_value-positive t i i e n refl s.int_part s.magnitude)
       ∙ if-true (nat_lt n (2 ^ 63)) _ _ (lt-ltb n (2 ^ 63) s.small))
 
   pub plain-float : (i : ℕ) → IsPlainFloat t i e → number_at names t i ≡ taken (float (slice_range t i e)) e
   plain-float i s =
-      number_at-extent i (extent-decimal t names i e s.decimal) ∙ ap (λ x. taken x e) (s.value i (omega arith))
+      number_at-span i (span-decimal t names i e s.decimal) ∙ ap (λ x. taken x e) (s.value i (omega arith))
 
   module _ (i : ℕ) (minus : slice_get t i ≡ Some 45) where
     pub plain-negative_float : IsPlainFloat t (i + 1) e → number_at names t i ≡ taken (float (slice_range t i e)) e
     plain-negative_float s =
-        number_at-extent i (extent-minus t names i e minus s.decimal) ∙ ap (λ x. taken x e) (s.value i (omega arith))
+        number_at-span i (span-minus t names i e minus s.decimal) ∙ ap (λ x. taken x e) (s.value i (omega arith))
 
     pub plain-negative : (n : ℕ) → IsPlainInteger t (i + 1) n e → number_at names t i ≡ taken (integer (minus_of n)) e
     plain-negative n s =
         let small : n ≤ 2 ^ 63 = omega (arith, s.small) in
-        number_at-extent i (extent-minus t names i e minus s.decimal)
+        number_at-span i (span-minus t names i e minus s.decimal)
         ∙ ap (λ x. taken x e)
         (sym (integer_value-negative t i (i + 1) e n (inr (refl, minus)) (omega arith) s.int_part s.magnitude)
         ∙ if-true (nat_le n (2 ^ 63)) _ _ (le-leb n (2 ^ 63) small))

@@ -2,19 +2,17 @@
 use Rattle.jiter_scan.proofs.Words.{◌≡◌, ◌≢◌, ◌⊎◌, inl, inr, ℕ, ◌+◌, ◌-◌, ◌<◌, ◌≤◌, ◌==◌, ◌||◌, Bool, true, false, List}
 use Rattle.jiter_scan.proofs.Words.{[], ◌∷◌, subst, length, take, drop, get_or, refl, sym, ap, ◌∙◌, slice_range, arith}
 use Rattle.jiter_scan.proofs.Words.{slice_get, Option, Some, None, prefix_len, cases_lt, nat_tests, length-take}
-use Rattle.jiter_scan.proofs.Words.{get_or-drop, slice_get-get_or, slice_get_past, slice_get_within, is_digit}
-use Rattle.jiter_scan.proofs.Words.{digit_run_end, IsDigits, magnitude_of, IsPlainInteger, extent_then, int_part_at}
+use Rattle.jiter_scan.proofs.Words.{slice_get-get_or, slice_get_past, slice_get_within, is_digit}
+use Rattle.jiter_scan.proofs.Words.{decimal_of, digit_run_end, IsDigits, IsPlainInteger, span_then, int_part_at}
 use Rattle.jiter_scan.proofs.Words.{fraction_at, exponent_at, decimal_at, fraction_from, exponent_from, digits_from}
 use Rattle.jiter_scan.proofs.Words.{power_from, is_float_sign, taken, Stands}
-use Rattle.std.proofs.lemmas.List.{get_or-take}
-use Rattle.jiter_scan.specs.FastNumber.{IsAlone}
 use Rattle.jiter_scan.proofs.Choices.{if-false, if-true}
 use Rattle.jiter_scan.proofs.Chunks.{prefix_len-prefix, prefix_len-pass, run_end-on}
-use Rattle.jiter_scan.proofs.Magnitudes.{slice_range-count}
+use Rattle.jiter_scan.proofs.Magnitudes.{decimal_of-few, magnitude_of-short, slice_range-count}
 use Rattle.jiter_scan.proofs.NumberComplete.{int_part_at-complete}
-use Rattle.jiter_scan.proofs.NumberExtents.{decimal_at-tail, tail-parts}
+use Rattle.jiter_scan.proofs.NumberSpans.{decimal_at-tail, tail-parts}
 use Rattle.jiter_scan.proofs.NumberSound.{IsPast, digits-past, power-past}
-use Rattle.jiter_scan.proofs.Runs.{run_end-ahead, run_end-passes, run_end-passing, run_end-stops, run_end-within, NoDigit}
+use Rattle.jiter_scan.proofs.Runs.{run_end-ahead, run_end-passes, run_end-passing, run_end-stops, NoDigit}
 use Rattle.jiter_scan.proofs.Standing.{stands-slice}
 
 module _ (t : List ℕ) where
@@ -32,9 +30,9 @@ module _ (t : List ℕ) where
       ]
 
   -- digits of a chunk are digits of the text
-  pub digits-of_chunk : (chunk : List ℕ) (i n : ℕ) → n ≤ digit_run_end chunk 0 → take n chunk ≡ slice_range t i (i + n)
+  pub digits-of_block : (chunk : List ℕ) (i n : ℕ) → n ≤ digit_run_end chunk 0 → take n chunk ≡ slice_range t i (i + n)
       → i + n ≤ digit_run_end t i
-  digits-of_chunk chunk i n counted prefix =
+  digits-of_block chunk i n counted prefix =
       let here : n ≤ prefix_len is_digit (drop i t) =
       prefix_len-prefix is_digit n chunk (drop i t) (prefix ∙ slice_range-count t i n) (omega arith) in
       omega arith
@@ -101,9 +99,8 @@ module _ (t : List ℕ) where
   digits_from-run : (i e : ℕ) → digit_run_end t i ≡ e → i < e → i < length t
       → digits_from t i (slice_get t i) ≡ taken tt e
   digits_from-run i e run some inside =
-      let digit = run_end-passes is_digit t i i (omega arith) (omega arith) in
       ap (digits_from t i) (slice_get-get_or t i 0 inside)
-      ∙ if-true (is_digit (get_or t i 0)) _ _ digit
+      ∙ if-true (is_digit (get_or t i 0)) _ _ (run_end-passes is_digit t i i (omega arith) (omega arith))
       ∙ ap (taken tt) run
 
   -- a point and digits
@@ -139,10 +136,9 @@ module _ (t : List ℕ) where
       → is_float_sign c ≡ false
       → decimal_at t i ≡ taken tt e
   decimal_at-int_part i e c int_part here no_sign =
-      let point : (c == 46) ≡ false = grind (arith, nat_tests) in
       let letter : ((c == 101) || (c == 69)) ≡ false = grind (arith, nat_tests) in
       decimal_at-tail t i e e int_part
-      (tail-parts t e e e (fraction_at-none e c here point) (exponent_at-none e c here letter))
+      (tail-parts t e e e (fraction_at-none e c here (grind (arith, nat_tests))) (exponent_at-none e c here letter))
 
   -- the text ends after it
   pub decimal_at-over : (i e : ℕ) → int_part_at t i ≡ taken tt e → slice_get t e ≡ None → decimal_at t i ≡ taken tt e
@@ -150,70 +146,37 @@ module _ (t : List ℕ) where
       decimal_at-tail t i e e int_part
       (tail-parts t e e e (ap (fraction_from t e) none) (ap (exponent_from t e) none))
 
-  -- an integer in a chunk of the last bytes is one in the text
-  module _ (chunk : List ℕ) (i m e : ℕ) (found : IsPlainInteger chunk 0 m e) (alone : IsAlone chunk 0 e)
-      (within : i + e ≤ length t) (last : length t < i + 16)
-      (prefix : (n : ℕ) → n ≤ 16 → i + n ≤ length t → take n chunk ≡ slice_range t i (i + n)) where
-    same : (n : ℕ) → i + n < length t → get_or chunk n 0 ≡ get_or t (i + n) 0
-    same n inside =
-        sym (get_or-take (n + 1) chunk n 0 (omega arith))
-        ∙ ap (λ xs. get_or xs n 0) (prefix (n + 1) (omega arith) (omega arith) ∙ slice_range-count t i (n + 1))
-        ∙ get_or-take (n + 1) (drop i t) n 0 (omega arith)
-        ∙ get_or-drop i t n 0
-
-    run : digit_run_end t i ≡ i + e
-    run = elim (cases_lt (i + e) (length t)) [
-      | inl inside ↦ run_end-counted chunk i e (sym alone.run) (prefix e (omega arith) (omega arith))
-          (prefix (e + 1) (omega arith) (omega arith))
-      | inr over ↦ let digits = digits-of_chunk chunk i e (omega (arith, alone.run)) (prefix e (omega arith)
-          (omega arith)) in
-          omega (arith, run_end-within is_digit t i (omega arith))
-    ]
-
-    first : (i + e ≡ i + 1) ⊎ (get_or t i 0 ≢ 48)
-    first =
-        let here : i + 0 ≡ i = omega arith in
-        elim alone.first [
-          | inl one ↦ inl (ap (λ k. i + k) one)
-          | inr other ↦ inr (λ zero. other (same 0 (omega (arith, found.some)) ∙ ap (λ k. get_or t k 0) here ∙ zero))
-        ]
-
-    int_part : int_part_at t i ≡ taken tt (i + e)
-    int_part = int_part_at-run i (i + e) run (omega (arith, found.some)) within (omega arith) first
-
-    decimal : decimal_at t i ≡ taken tt (i + e)
-    decimal = elim (cases_lt (i + e) (length t)) [
-      | inl inside ↦ decimal_at-int_part i (i + e) (get_or t (i + e) 0) int_part
-          (slice_get-get_or t (i + e) 0 inside) (ap is_float_sign (sym (same e inside)) ∙ alone.next)
-      | inr over ↦ decimal_at-over i (i + e) int_part (slice_get_past t (i + e) over)
-    ]
-
-    pub integer-last : IsPlainInteger t i m (i + e)
-    integer-last =
-        let all : e - 0 ≡ e = omega arith in
-        record {
-          int_part = int_part;
-          decimal = decimal;
-          magnitude = found.magnitude
-              ∙ ap magnitude_of (ap (λ k. take k chunk) all ∙ prefix e (omega arith) within);
-          small = found.small;
-          some = omega (arith, found.some);
-          within = within;
-        }
+  -- one digit or more, and no part of a float after them
+  pub integer-run : (i m e : ℕ) → digit_run_end t i ≡ e → i < e → e ≤ length t → e ≤ i + 15
+      → (e ≡ i + 1) ⊎ (get_or t i 0 ≢ 48) → (e < length t → is_float_sign (get_or t e 0) ≡ false)
+      → m ≡ decimal_of (slice_range t i e) → IsPlainInteger t i m e
+  integer-run i m e run some within few first next value =
+      let int_part = int_part_at-run i e run some within (omega arith) first in
+      record {
+        int_part = int_part;
+        decimal = elim (cases_lt e (length t)) [
+          | inl inside ↦ decimal_at-int_part i e (get_or t e 0) int_part (slice_get-get_or t e 0 inside) (next inside)
+          | inr over ↦ decimal_at-over i e int_part (slice_get_past t e over)
+        ];
+        magnitude = magnitude_of-short t i e (omega arith) (omega arith) within m (omega arith) value;
+        small = omega (arith, decimal_of-few t i e (omega arith) (omega arith) within 15 (omega arith), value);
+        some = some;
+        within = within;
+      }
 
   -- a point or an exponent takes a byte or more
   pub tail-past : (i c : ℕ) → slice_get t i ≡ Some c → is_float_sign c ≡ true
-      → IsPast (i + 1) (length t) (extent_then (fraction_at t i) (exponent_at t))
+      → IsPast (i + 1) (length t) (span_then (fraction_at t i) (exponent_at t))
   tail-past i c here sign = by (c == 46) refl where
     inside : i + 1 ≤ length t
     inside = let within = slice_get_within t i c here in omega arith
 
-    by : (b : Bool) → (c == 46) ≡ b → IsPast (i + 1) (length t) (extent_then (fraction_at t i) (exponent_at t))
+    by : (b : Bool) → (c == 46) ≡ b → IsPast (i + 1) (length t) (span_then (fraction_at t i) (exponent_at t))
     by true point =
         let read = ap (fraction_from t i) here ∙ if-true (c == 46) _ _ point in
-        subst (λ x. IsPast (i + 1) (length t) (extent_then x (exponent_at t))) (sym read) (digits-past t (i + 1) inside)
+        subst (λ x. IsPast (i + 1) (length t) (span_then x (exponent_at t))) (sym read) (digits-past t (i + 1) inside)
     by false no_point =
         let letter : ((c == 101) || (c == 69)) ≡ true = grind (arith, nat_tests) in
         let power = ap (exponent_from t i) here ∙ if-true ((c == 101) || (c == 69)) _ _ letter in
-        let none = ap (λ x. extent_then x (exponent_at t)) (fraction_at-none i c here no_point) in
+        let none = ap (λ x. span_then x (exponent_at t)) (fraction_at-none i c here no_point) in
         subst (IsPast (i + 1) (length t)) (sym (none ∙ power)) (power-past t (i + 1) inside)

@@ -2,12 +2,9 @@
 use Rattle.jiter_scan.proofs.Words.{◌≡◌, ℕ, ◌^◌, ◌%◌, leb, Bool, true, false, not, ◌&&◌, ◌||◌, cond, eqb, ◌==◌, List}
 use Rattle.jiter_scan.proofs.Words.{[], ◌∷◌, map, length, refl, sym, ap, ap₂, ◌∙◌, arith, length-map, agree_below_at}
 use Rattle.jiter_scan.proofs.Words.{replicate, list_all, nat_tests, is_plain, is_ascii, failing, is_no_mark}
-use Rattle.jiter_scan.proofs.Words.{is_no_control}
-use Rattle.std.proofs.Common.{ltb}
-use Rattle.std.proofs.Common.{w8, Fits}
-use Rattle.std.proofs.lemmas.Simd.{mask_l-mod}
-use Rattle.std.proofs.lemmas.Bool.{agree_below}
-use lib.Lanes.{mask_l, sel_l, zip2, top, Each1}
+use Rattle.jiter_scan.proofs.Words.{is_no_control, ltb, w8, mask_l-mod, agree_below, mask_l, sel_l, top, Each1}
+use Rattle.std.proofs.Common.{Fits}
+use lib.Lanes.{zip2}
 
 -- all ones where two bytes are equal, where the first is less, and where it is no greater
 abbrev pub if_equal : ℕ → ℕ → ℕ
@@ -112,6 +109,5 @@ list_all-plain-four a b c d =
     let two = λ (u v : List ℕ). and-swap (list_all is_no_mark u) (list_all is_no_mark v) (list_all is_no_control u)
     (list_all is_no_control v)
     ∙ ap₂ both (sym (list_all-plain u)) (sym (list_all-plain v)) in
-    and-swap (list_all is_no_mark a && list_all is_no_mark b) (list_all is_no_mark c && list_all is_no_mark d)
-    (list_all is_no_control a && list_all is_no_control b) (list_all is_no_control c && list_all is_no_control d)
+    and-swap (list_all is_no_mark a && list_all is_no_mark b) (list_all is_no_mark c && list_all is_no_mark d) _ _
     ∙ ap₂ both (two a b) (two c d)

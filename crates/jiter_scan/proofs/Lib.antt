@@ -12,7 +12,7 @@ pub mod NumberStarts
 pub mod NumberBounds
 pub mod NumberValues
 pub mod NumberEnds
-pub mod NumberExtents
+pub mod NumberSpans
 pub mod NumberTests
 pub mod OpenNumbers
 pub mod NumberParts

@@ -1,8 +1,8 @@
 -- The magnitude of a run of digits, by words of sixteen.
 use Rattle.jiter_scan.proofs.Words.{◌≡◌, ℕ, ◌+◌, ◌-◌, ◌*◌, ◌^◌, ◌<◌, ◌≤◌, length, take, drop, get_or, List, [], ◌∷◌}
 use Rattle.jiter_scan.proofs.Words.{◌++◌, sym, ap, ap₂, ◌∙◌, subst, slice_range, arith, drop-cons, pow-le-pow_right}
-use Rattle.jiter_scan.proofs.Words.{length-take, length-drop, prefix_len, is_digit, digit_run_end}
-use Rattle.jiter_scan.proofs.Words.{decimal_of, AreDigits, magnitude_of}
+use Rattle.jiter_scan.proofs.Words.{length-take, length-drop, prefix_len, is_digit, digit_run_end, decimal_of}
+use Rattle.jiter_scan.proofs.Words.{AreDigits, magnitude_of}
 use Rattle.jiter_scan.proofs.Chunks.{prefix_len-prefix, prefix_len-pass}
 use Rattle.jiter_scan.proofs.Standing.{slice_range-split}
 use Rattle.jiter_scan.proofs.Digits.{decimal_of-append, decimal_of-below, decimal_of-above}
@@ -23,6 +23,16 @@ module _ (t : List ℕ) where
   pub digits-value : (chunk : List ℕ) (i n e : ℕ) → take n chunk ≡ slice_range t i (i + n) → i + n ≡ e
       → decimal_of (take n chunk) ≡ decimal_of (slice_range t i e)
   digits-value chunk i n e prefix end = ap decimal_of prefix ∙ ap (λ k. decimal_of (slice_range t i k)) end
+
+  -- one digit more
+  pub decimal_of-next : (i e m : ℕ) → i ≤ e → e < length t → m ≡ decimal_of (slice_range t i e)
+      → m * 10 + (get_or t e 0 - 48) ≡ decimal_of (slice_range t i (e + 1))
+  decimal_of-next i e m from inside value =
+      let one : slice_range t e (e + 1) ≡ get_or t e 0 ∷ [] =
+      slice_range-count t e 1 ∙ ap (take 1) (drop-cons t e 0 inside) in
+      let whole = ap decimal_of
+      (slice_range-split t i e from (e + 1) (omega arith) ∙ ap (λ w. slice_range t i e ++ w) one) in
+      omega (arith, whole, decimal_of-append (slice_range t i e) (get_or t e 0 ∷ []), value)
 
   module _ (i e : ℕ) (some : i ≤ e) (run : e ≤ digit_run_end t i) (within : e ≤ length t) where
     long : length (slice_range t i e) ≡ e - i

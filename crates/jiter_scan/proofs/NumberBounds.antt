@@ -1,13 +1,10 @@
 -- How far the reading of a number gets.
 use Rattle.jiter_scan.proofs.Words.{◌≡◌, ℕ, ◌+◌, ◌<◌, ◌≤◌, Bool, ◌||◌, List, [], ◌∷◌, length, refl, arith, slice_get}
 use Rattle.jiter_scan.proofs.Words.{Option, Some, None, ◌==◌, false≢true, slice_get_within, eof_value, invalid_number}
-use Rattle.jiter_scan.proofs.Words.{Number, IsNumberText, int_part_at, number_extent, with_value, number_at, int_seen}
+use Rattle.jiter_scan.proofs.Words.{Number, IsNumberText, int_part_at, number_span, with_value, number_at, int_seen}
 use Rattle.jiter_scan.proofs.Words.{is_float_sign, integer_or_float, integer_after, integer_after_minus, integer_from}
 use Rattle.jiter_scan.proofs.Words.{int_at, begins_number, number_alone, int_alone, Scanned, taken, failed, Stands}
-use Rattle.jiter_scan.proofs.Words.{Extent}
-use Rattle.jiter_scan.specs.NumberReading.{Integer, float_seen}
-use Rattle.jiter_scan.specs.NumberReading.{alone}
-use Rattle.jiter_scan.specs.NumberReading.{integer_alone, if_number}
+use Rattle.jiter_scan.proofs.Words.{Span, Integer, float_seen, alone, integer_alone, if_number}
 use Rattle.jiter_scan.proofs.Choices.{if_case}
 use Rattle.jiter_scan.proofs.NumberBytes.{number-not_empty}
 use Rattle.jiter_scan.proofs.NumberSound.{Spelled, int_part-spelled, number-spelled}
@@ -23,7 +20,7 @@ module _ (t : List ℕ) where
   refused : (i : ℕ) → i ≤ length t → FaultAt t invalid_number i
   refused i le = record { within = le; ends = λ h. absurd (false≢true h); bytes = λ e. cc }
 
-  spelled-within : (Is : Part) (i : ℕ) (x : Extent) → i ≤ length t → Spelled t Is i x → Within t x
+  spelled-within : (Is : Part) (i : ℕ) (x : Span) → i ≤ length t → Spelled t Is i x → Within t x
   spelled-within Is i (taken u e) le s = stands-within t i e s.0 le s.1
   spelled-within Is i (failed k j) le s = (s.0 le).1
 
@@ -35,7 +32,7 @@ module _ (t : List ℕ) where
   integer_or_float-within i e (Some c) h =
       if_case (Within t) (is_float_sign c) _ _ (λ _. h) (λ _. h)
 
-  integer_after-within : (i : ℕ) (x : Extent) → Within t x → Within t (integer_after t i x)
+  integer_after-within : (i : ℕ) (x : Span) → Within t x → Within t (integer_after t i x)
   integer_after-within i (taken u e) h = integer_or_float-within i e (slice_get t e) h
   integer_after-within i (failed k e) h = h
 
@@ -75,7 +72,7 @@ module _ (t : List ℕ) where
   ahead names i e [] s is = absurd (number-not_empty names is)
   ahead names i e (c ∷ w) s is = let n = stands-length t i e (c ∷ w) s in omega arith
 
-  with_value-within : (names : Bool) (i : ℕ) (x : Extent) → i ≤ length t → Spelled t (IsNumberText names) i x
+  with_value-within : (names : Bool) (i : ℕ) (x : Span) → i ≤ length t → Spelled t (IsNumberText names) i x
       → ScalarWithin t i (with_value t i x)
   with_value-within names i (taken u e) le s = (ahead names i e s.0 s.1 s.2, stands-within t i e s.0 le s.1)
   with_value-within names i (failed k j) le s = s.0 le
@@ -87,7 +84,7 @@ module _ (t : List ℕ) where
   -- a number takes a byte or more, and no step leaves the text
   scalar-within : (names : Bool) (i : ℕ) → i ≤ length t → ScalarWithin t i (number_at names t i)
   unfolding number_at
-  scalar-within names i le = with_value-within names i (number_extent names t i) le (number-spelled t names i)
+  scalar-within names i le = with_value-within names i (number_span names t i) le (number-spelled t names i)
 
 pub number_at-within : (names : Bool) (t : List ℕ) (i : ℕ) → i < length t → ScalarWithin t i (number_at names t i)
 number_at-within names t i lt = scalar-within t names i (omega arith)
@@ -97,7 +94,7 @@ pub int_at-within : (t : List ℕ) (i : ℕ) → i ≤ length t → Within t (in
 unfolding int_at
 int_at-within t i le = integer_from-within t i (slice_get t i) refl le
 
--- what is refused of a whole text is a fault of its bytes
+-- what is refused of a whole text is an error of its bytes
 pub number_alone-within : (names : Bool) (t : List ℕ) → Within t (number_alone names t)
 number_alone-within names t =
     if_number-within t (slice_get t 0) (alone t (number_at names t 0))

@@ -4,10 +4,7 @@ use Rattle.jiter_scan.proofs.Words.{sym, ap, ◌∙◌, subst, arith, ◌==◌, 
 use Rattle.jiter_scan.proofs.Words.{AllPass-from_list_all, IsAscii-append, IsAscii-nil, IsAscii-cons, is_digit}
 use Rattle.jiter_scan.proofs.Words.{AreDigits, IsDigits, IsMinus, IsIntPart, IsFraction, IsSign, IsExponent}
 use Rattle.jiter_scan.proofs.Words.{IsNumberText, begins_number, int_part_at, decimal_at, IsMinusTo, is_ascii, taken}
-use Rattle.jiter_scan.proofs.Words.{Stands, word_at}
-use Rattle.std.proofs.lemmas.Bool.{ltb-true}
-use Rattle.std.proofs.lemmas.List.Elements.{All-weaker}
-use Rattle.std.proofs.lemmas.Str.Ascii.{IsAscii-from_all}
+use Rattle.jiter_scan.proofs.Words.{Stands, word_at, ltb-true, All-weaker, IsAscii-from_all}
 use Rattle.jiter_scan.proofs.Digits.{digit-bounds}
 use Rattle.jiter_scan.proofs.NumberRows.{decimal-is}
 use Rattle.jiter_scan.proofs.NumberSound.{decimal_at-sound, int_part_at-sound}
@@ -17,9 +14,7 @@ use Rattle.jiter_scan.proofs.WordLaws.{word_at-sound}
 -- a text that is given byte by byte
 pub given-ascii : (w v : List ℕ) → w ≡ v → list_all is_ascii v ≡ true → IsAscii w
 given-ascii w v e h =
-    subst IsAscii (sym e)
-    (IsAscii-from_all v
-    (All-weaker (λ c. is_ascii c ≡ true) (λ c. c < 128) (λ c low. ltb-true c 128 low) v
+    rw e (IsAscii-from_all v (All-weaker (λ c. is_ascii c ≡ true) (λ c. c < 128) (λ c low. ltb-true c 128 low) v
     (AllPass-from_list_all is_ascii v h)))
 
 pub digits-ascii : (w : List ℕ) → AreDigits w → IsAscii w
@@ -55,15 +50,13 @@ letter-ascii c (inr e) = omega arith
 exponent-ascii : (w : List ℕ) → IsExponent w → IsAscii w
 exponent-ascii w (inl e) = given-ascii w [] e refl
 exponent-ascii w (inr p) =
-    subst IsAscii (sym p.is)
-    (IsAscii-cons p.letter (p.sign ++ p.digits) (letter-ascii p.letter p.is_letter)
+    rw p.is (IsAscii-cons p.letter (p.sign ++ p.digits) (letter-ascii p.letter p.is_letter)
     (IsAscii-append p.sign p.digits (sign-ascii p.sign p.is_sign) (some_digits-ascii p.digits p.are_digits)))
 
 -- each byte of a number's text is below 80 hex
 pub number-ascii : (names : Bool) (w : List ℕ) → IsNumberText names w → IsAscii w
 number-ascii names w (inl d) =
-    subst IsAscii (sym d.is)
-    (IsAscii-append d.minus (d.int_part ++ (d.fraction ++ d.exponent)) (minus-ascii d.minus d.is_minus)
+    rw d.is (IsAscii-append d.minus (d.int_part ++ (d.fraction ++ d.exponent)) (minus-ascii d.minus d.is_minus)
     (IsAscii-append d.int_part (d.fraction ++ d.exponent) (int_part-ascii d.int_part d.is_int_part)
     (IsAscii-append d.fraction d.exponent (fraction-ascii d.fraction d.is_fraction)
     (exponent-ascii d.exponent d.is_exponent))))
@@ -71,14 +64,12 @@ number-ascii names w (inr (n, inl e)) = given-ascii w (codes "NaN") e refl
 number-ascii names w (inr (n, inr (inl e))) = given-ascii w (codes "Infinity") e refl
 number-ascii names w (inr (n, inr (inr e))) = given-ascii w (codes "-Infinity") e refl
 
-digit-begins : (c : ℕ) → is_digit c ≡ true → begins_number c ≡ true
-digit-begins c h = ap (λ b. b || (c == 45) || (c == 78) || (c == 73)) h
-
 decimal-first : (minus int_part rest w : List ℕ) (c : ℕ) → c ∷ w ≡ minus ++ (int_part ++ rest) → IsMinus minus
     → IsIntPart int_part
     → begins_number c ≡ true
 decimal-first [] [] rest w c e m h = absurd h
-decimal-first [] (d ∷ int_part) rest w c e m h = let same : c ≡ d = cc in digit-begins c (ap is_digit same ∙ h.0.0)
+decimal-first [] (d ∷ int_part) rest w c e m h =
+    let same : c ≡ d = cc in ap (λ b. b || (c == 45) || (c == 78) || (c == 73)) (ap is_digit same ∙ h.0.0)
 decimal-first (d ∷ minus) int_part rest w c e (inl m) h = absurd (cc)
 decimal-first (d ∷ minus) int_part rest w c e (inr m) h = let same : c ≡ 45 = cc in ap begins_number same
 

@@ -5,10 +5,10 @@ use Rattle.jiter_scan.proofs.Words.{None, IfSome, ◌==◌, nat_le, codes, nat_t
 use Rattle.jiter_scan.proofs.Words.{is_digit, digit_run_end, number_value, IsDigits, IsMinus, IsIntPart, IsFraction}
 use Rattle.jiter_scan.proofs.Words.{IsSign, IsExponent, IsDecimal, IsName, IsNumberText, digit_limit, digits_from}
 use Rattle.jiter_scan.proofs.Words.{after_zero, int_part_from, int_part_at, fraction_from, fraction_at, power_from}
-use Rattle.jiter_scan.proofs.Words.{exponent_from, exponent_at, decimal_at, after_minus, extent_from, number_extent}
+use Rattle.jiter_scan.proofs.Words.{exponent_from, exponent_at, decimal_at, after_minus, span_from, number_span}
 use Rattle.jiter_scan.proofs.Words.{with_value, number_at, continues_number, taken, Stands}
 use Rattle.jiter_scan.proofs.Choices.{if-true, if-false}
-use Rattle.jiter_scan.proofs.NumberExtents.{decimal_at-tail, tail-parts, extent-decimal, extent-minus}
+use Rattle.jiter_scan.proofs.NumberSpans.{decimal_at-tail, tail-parts, span-decimal, span-minus}
 use Rattle.jiter_scan.proofs.Runs.{NoDigit, run_end-complete}
 use Rattle.jiter_scan.proofs.Standing.{First, stands-length, stands-split, stands-slice, stands-next}
 use Rattle.jiter_scan.proofs.WordLaws.{word_at-complete}
@@ -96,9 +96,6 @@ module _ (t : List ℕ) where
       ap (fraction_from t i) (h.0 ∙ ap Some is.0)
       ∙ digits_from-complete (i + 1) j w h.1 is.1 (IfSome_then (slice_get t j) n (λ c p. p.0))
 
-  unsigned : (c : ℕ) → is_digit c ≡ true → ((c == 43) || (c == 45)) ≡ false
-  unsigned c d = grind (arith, nat_tests)
-
   power-signed : (i j s : ℕ) (digits : List ℕ) → ((s == 43) || (s == 45)) ≡ true → Stands t i j (s ∷ digits)
       → IsDigits digits → NoDigit (slice_get t j) → power_from t i (slice_get t i) ≡ taken tt j
   power-signed i j s digits is h d n =
@@ -111,7 +108,7 @@ module _ (t : List ℕ) where
   power-unsigned i j [] h d n = absurd d
   power-unsigned i j (c ∷ w) h d n =
       ap (power_from t i) h.0
-      ∙ if-false ((c == 43) || (c == 45)) _ _ (unsigned c d.0)
+      ∙ if-false ((c == 43) || (c == 45)) _ _ (grind (arith, nat_tests))
       ∙ ap (digits_from t i) (sym h.0) ∙ digits_from-complete i j (c ∷ w) h d n
 
   -- the sign and the digits of an exponent
@@ -143,8 +140,7 @@ module _ (t : List ℕ) where
   exponent_at-complete i j w h (inr p) n =
       let s : Stands t i j (p.letter ∷ (p.sign ++ p.digits)) = subst (Stands t i j) p.is h in
       ap (exponent_from t i) s.0 ∙ exponent-letter i p.letter p.is_letter
-      ∙ power_from-complete (i + 1) j p.sign p.digits p.is_sign p.are_digits s.1
-      (IfSome_then (slice_get t j) n (λ c q. q.0))
+      ∙ power_from-complete _ j p.sign p.digits p.is_sign p.are_digits s.1 (IfSome_then (slice_get t j) n (λ c q. q.0))
 
   -- the parts after a minus
   pub decimal_at-complete : (i e : ℕ) (int_part fraction exponent : List ℕ) → IsIntPart int_part
@@ -165,43 +161,43 @@ module _ (t : List ℕ) where
       (tail-parts t a.0 b.0 e (fraction_at-complete a.0 b.0 fraction b.1 f k)
       (exponent_at-complete b.0 e exponent b.2 x after))
 
-  number_extent-decimal : (names : Bool) (i e : ℕ) (w : List ℕ) → Stands t i e w → IsDecimal w
-      → EndsNumber (slice_get t e) → number_extent names t i ≡ taken tt e
-  number_extent-decimal names i e w h d n = by d.is_minus where
+  number_span-decimal : (names : Bool) (i e : ℕ) (w : List ℕ) → Stands t i e w → IsDecimal w
+      → EndsNumber (slice_get t e) → number_span names t i ≡ taken tt e
+  number_span-decimal names i e w h d n = by d.is_minus where
     all : Stands t i e (d.minus ++ (d.int_part ++ (d.fraction ++ d.exponent)))
     all = subst (Stands t i e) d.is h
 
-    by : IsMinus d.minus → number_extent names t i ≡ taken tt e
+    by : IsMinus d.minus → number_span names t i ≡ taken tt e
     by (inl m) =
         let s : Stands t i e (d.int_part ++ (d.fraction ++ d.exponent)) =
         subst (λ x. Stands t i e (x ++ (d.int_part ++ (d.fraction ++ d.exponent)))) m all in
-        extent-decimal t names i e
+        span-decimal t names i e
         (decimal_at-complete i e d.int_part d.fraction d.exponent d.is_int_part d.limit d.is_fraction d.is_exponent s n)
     by (inr m) =
         let s : Stands t i e (45 ∷ (d.int_part ++ (d.fraction ++ d.exponent))) =
         subst (λ x. Stands t i e (x ++ (d.int_part ++ (d.fraction ++ d.exponent)))) m all in
-        extent-minus t names i e s.0
+        span-minus t names i e s.0
         (decimal_at-complete (i + 1) e d.int_part d.fraction d.exponent d.is_int_part d.limit d.is_fraction
         d.is_exponent
         s.1 n)
 
-  extent-name : (i e : ℕ) (w : List ℕ) → Stands t i e w → IsName w → number_extent true t i ≡ taken tt e
-  extent-name i e w h (inl is) =
+  span-name : (i e : ℕ) (w : List ℕ) → Stands t i e w → IsName w → number_span true t i ≡ taken tt e
+  span-name i e w h (inl is) =
       let s : Stands t i e (codes "NaN") = subst (Stands t i e) is h in
-      ap (extent_from true t i) s.0 ∙ word_at-complete t (codes "NaN") i e s
-  extent-name i e w h (inr (inl is)) =
+      ap (span_from true t i) s.0 ∙ word_at-complete t (codes "NaN") i e s
+  span-name i e w h (inr (inl is)) =
       let s : Stands t i e (codes "Infinity") = subst (Stands t i e) is h in
-      ap (extent_from true t i) s.0 ∙ word_at-complete t (codes "Infinity") i e s
-  extent-name i e w h (inr (inr is)) =
+      ap (span_from true t i) s.0 ∙ word_at-complete t (codes "Infinity") i e s
+  span-name i e w h (inr (inr is)) =
       let s : Stands t i e (codes "-Infinity") = subst (Stands t i e) is h in
-      ap (extent_from true t i) s.0 ∙ ap (after_minus true t (i + 1)) s.1.0
+      ap (span_from true t i) s.0 ∙ ap (after_minus true t (i + 1)) s.1.0
       ∙ word_at-complete t (codes "Infinity") (i + 1) e s.1
 
   -- all of a number
-  pub number_extent-complete : (names : Bool) (i e : ℕ) (w : List ℕ) → Stands t i e w → IsNumberText names w
-      → EndsNumber (slice_get t e) → number_extent names t i ≡ taken tt e
-  number_extent-complete names i e w h (inl d) n = number_extent-decimal names i e w h d n
-  number_extent-complete names i e w h (inr x) n = ap (λ b. number_extent b t i) x.0 ∙ extent-name i e w h x.1
+  pub number_span-complete : (names : Bool) (i e : ℕ) (w : List ℕ) → Stands t i e w → IsNumberText names w
+      → EndsNumber (slice_get t e) → number_span names t i ≡ taken tt e
+  number_span-complete names i e w h (inl d) n = number_span-decimal names i e w h d n
+  number_span-complete names i e w h (inr x) n = ap (λ b. number_span b t i) x.0 ∙ span-name i e w h x.1
 
 -- a number's text is read whole, where the byte after it does not go on it
 pub number_at-complete : (names : Bool) (t : List ℕ) (i e : ℕ) → i ≤ e → e ≤ length t
@@ -209,4 +205,4 @@ pub number_at-complete : (names : Bool) (t : List ℕ) (i e : ℕ) → i ≤ e �
     → number_at names t i ≡ taken (number_value (slice_range t i e)) e
 unfolding number_at
 number_at-complete names t i e p q is n =
-    ap (with_value t i) (number_extent-complete t names i e (slice_range t i e) (stands-slice t i e p q) is n)
+    ap (with_value t i) (number_span-complete t names i e (slice_range t i e) (stands-slice t i e p q) is n)

@@ -1,9 +1,7 @@
--- Numbers that end within a piece.
-use Rattle.jiter_scan.proofs.Words.{◌≡◌, ◌+◌, ◌-◌, ◌∙◌, ◌<◌, ℕ, Bool, true, false, List, inl, inr, subst, sym}
-use Rattle.jiter_scan.proofs.Words.{slice_get-get_or, IfSome, slice_range, IsNumberText, Number, number_at}
-use Rattle.jiter_scan.proofs.Words.{continues_number, taken}
-use Rattle.jiter_scan.specs.NumberWithin.{EndsNumber, EndsWithin}
-use Rattle.jiter_scan.proofs.NumberComplete.{number_extent-complete}
+-- Numbers that end within a chunk.
+use Rattle.jiter_scan.proofs.Words.{◌≡◌, ◌+◌, ◌-◌, ◌∙◌, ◌<◌, ℕ, Bool, true, false, List, inl, inr, slice_get-get_or}
+use Rattle.jiter_scan.proofs.Words.{slice_range, IsNumberText, Number, number_at, taken, EndsNumber, EndsWithin}
+use Rattle.jiter_scan.proofs.NumberComplete.{number_span-complete}
 use Rattle.jiter_scan.proofs.NumberSound.{number_at-sound}
 
 no_names : false ≡ true → ⊥
@@ -14,18 +12,17 @@ any_names : (names : Bool) (w : List ℕ) → IsNumberText false w → IsNumberT
 any_names names w (inl d) = inl d
 any_names names w (inr x) = absurd (no_names x.0)
 
--- a number that is read in a piece, and a byte after it with which none goes on
-pub ends-within : (piece : List ℕ) (at : ℕ) (n : Number) (e : ℕ) → number_at false piece at ≡ taken n e → at < e
-    → EndsNumber piece e → EndsWithin piece at n e
-ends-within piece at n e read ahead ends =
-    let is = number_at-sound false piece at n e read in
-    let here = slice_get-get_or piece e 0 ends.within in
+-- a number that is read in a chunk, and a byte after it with which none goes on
+pub ends-within : (chunk : List ℕ) (at : ℕ) (n : Number) (e : ℕ) → number_at false chunk at ≡ taken n e → at < e
+    → EndsNumber chunk e → EndsWithin chunk at n e
+ends-within chunk at n e read ahead ends =
+    let is = number_at-sound false chunk at n e read in
+    let here = slice_get-get_or chunk e 0 ends.within in
     record {
       begins = ahead;
       within = ends.within;
       value = is.1;
       reads = λ names t b stands same.
-          number_extent-complete t names b (b + (e - at)) (slice_range piece at e) stands
-          (any_names names (slice_range piece at e) is.0)
-          (subst (λ o. IfSome o (λ x. continues_number x ≡ false)) (sym (same ∙ here)) ends.stops);
+          number_span-complete t names b (b + (e - at)) (slice_range chunk at e) stands
+          (any_names names (slice_range chunk at e) is.0) (rw (same ∙ here) ends.stops);
     }

@@ -1,17 +1,15 @@
--- The parts of a number that arrives in pieces: each goes on with the ones before it.
+-- The parts of a number that arrives in chunks: each goes on with the ones before it.
 use Rattle.jiter_scan.proofs.Words.{◌≡◌, ℕ, ◌+◌, ◌-◌, ◌<◌, ◌≤◌, ◌⊎◌, inl, inr, ◌||◌, ◌&&◌, Bool, true, false, not, List}
 use Rattle.jiter_scan.proofs.Words.{[], ◌∷◌, ◌++◌, append_assoc, drop, get_or, take, zero, suc, length, length-append}
 use Rattle.jiter_scan.proofs.Words.{refl, sym, ap, ap₂, subst, ◌∙◌, arith, slice_get, slice_range, string_bytes, Some}
 use Rattle.jiter_scan.proofs.Words.{if◌then◌else◌, list_any, IsAscii, nat_tests, slice_get-get_or, slice_get_within}
 use Rattle.jiter_scan.proofs.Words.{IsAscii-append, IsAscii-cons, IsAscii-nil, is_digit, digit_run_end, is_float_byte}
-use Rattle.jiter_scan.proofs.Words.{is_integral, exponent_at, extent_then, number_extent, GoesTo, HoldsNumber, IsBegun}
-use Rattle.jiter_scan.proofs.Words.{is_int_stage, number_from, tail_at, within_room, taken, Stands, Extent, Stage}
-use Rattle.std.proofs.lemmas.List.Folds.{list_any-append}
-use Rattle.jiter_scan.specs.PartialNumber.{BeginsThere, BeginsTo, Fits, Leads}
-use Rattle.jiter_scan.specs.PartialNumber.{LeadsOver}
-use Rattle.jiter_scan.specs.declared.partial_number.PartialNumber.{PartialNumber}
+use Rattle.jiter_scan.proofs.Words.{is_integral, exponent_at, span_then, number_span, GoesTo, HoldsNumber, IsBegun}
+use Rattle.jiter_scan.proofs.Words.{is_int_stage, number_from, tail_at, within_room, taken, Stands, Span, Stage}
+use Rattle.jiter_scan.proofs.Words.{list_any-append, BeginsThere, BeginsTo, StepsTo, LeadsOver, PartialNumber}
+use Rattle.jiter_scan.specs.PartialNumber.{Fits}
 use Rattle.jiter_scan.specs.declared.partial_number.Stage.TheVariants as stage
-use Rattle.jiter_scan.specs.declared.partial_number.Went.TheVariants as went
+use Rattle.jiter_scan.specs.declared.partial_number.NumberStep.TheVariants as went
 use Rattle.jiter_scan.proofs.Digits.{digit-bounds}
 use Rattle.jiter_scan.proofs.OpenNumbers.{run-on, room-on}
 use Rattle.jiter_scan.proofs.OpenValues.{stands-last}
@@ -42,8 +40,8 @@ three false y z = refl
 
 -- ---- one part after the other
 
--- what is read where some bytes stand, and others after them
-joined : (read : Bool → List ℕ → ℕ → Extent) (m new : Stage) (w v : List ℕ)
+-- what is read where some bytes are, and others after them
+joined : (read : Bool → List ℕ → ℕ → Span) (m new : Stage) (w v : List ℕ)
     → ((names : Bool) (t : List ℕ) (j : ℕ) → Stands t j (j + length w) w
     → read names t j ≡ number_from names m t (j + length w))
     → LeadsOver m v new
@@ -53,17 +51,12 @@ joined read m new w v first leads = λ names t j h.
     let r = stands-split t j (j + length (w ++ v)) w v h in
     let place = stands-length t j r.0 w r.1 in
     let more : j + length (w ++ v) ≡ j + length w + length v = omega (arith, length-append w v) in
-    first names t j (subst (λ k. Stands t j k w) place r.1)
-    ∙ leads names t (j + length w)
-    (subst (λ k. Stands t (j + length w) k v) more
-    (subst (λ k. Stands t k (j + length (w ++ v)) v) place r.2))
+    first names t j (rw (← place) r.1)
+    ∙ leads names t _ (rw (← more) (rw (← place) r.2))
     ∙ ap (number_from names new t) (sym more)
 
-over-over : (s m new : Stage) (w v : List ℕ) → LeadsOver s w m → LeadsOver m v new → LeadsOver s (w ++ v) new
-over-over s m new w v a b = joined (λ names t. number_from names s t) m new w v a b
-
 begins-over : (s new : Stage) (w v : List ℕ) → BeginsTo w s → LeadsOver s v new → BeginsTo (w ++ v) new
-begins-over s new w v a b = joined number_extent s new w v a b
+begins-over s new w v a b = joined number_span s new w v a b
 
 pub goes-on : (s m new : Stage) (t : List ℕ) (i j e : ℕ) → GoesTo s t i m j → GoesTo m t j new e → GoesTo s t i new e
 goes-on s m new t i j e a b =
@@ -73,8 +66,8 @@ goes-on s m new t i j e a b =
     record {
       ahead = omega (arith, a.ahead, b.ahead);
       within = b.within;
-      ascii = subst IsAscii (sym is) (IsAscii-append w v a.ascii b.ascii);
-      leads = subst (λ x. LeadsOver s x new) (sym is) (over-over s m new w v a.leads b.leads);
+      ascii = rw is (IsAscii-append w v a.ascii b.ascii);
+      leads = rw is (joined (λ names t. number_from names s t) m new w v a.leads b.leads);
       int = b.int ∙ ap (λ x. x && is_integral v) a.int ∙ three (is_int_stage s) (is_integral w) (is_integral v)
           ∙ ap (λ x. is_int_stage s && x) (sym (ap is_integral is ∙ integral-append w v));
     }
@@ -98,14 +91,13 @@ goes-none s t i within =
     record {
       ahead = omega arith;
       within = within;
-      ascii = subst IsAscii (sym none) IsAscii-nil;
-      leads = subst (λ w. LeadsOver s w s) (sym none)
-          (λ names u j h. let place : j ≡ j + 0 = omega arith in ap (number_from names s u) place);
+      ascii = rw none IsAscii-nil;
+      leads = rw none (λ names u j h. let place : j ≡ j + 0 = omega arith in ap (number_from names s u) place);
       int = all-of (is_int_stage s) (is_integral (slice_range t i i)) (ap is_integral none);
     }
 
 -- one that is taken
-pub goes-byte : (s new : Stage) (t : List ℕ) (i b : ℕ) → slice_get t i ≡ Some b → Leads s b (went.Taken new)
+pub goes-byte : (s new : Stage) (t : List ℕ) (i b : ℕ) → slice_get t i ≡ Some b → StepsTo s b (went.Taken new)
     → Fits s b (went.Taken new) → GoesTo s t i new (i + 1)
 goes-byte s new t i b here leads fits =
     let one = sym (slice-one t i b here) in
@@ -119,7 +111,7 @@ goes-byte s new t i b here leads fits =
 
 -- and the bytes after it
 pub goes_next : (s m next new : Stage) (t : List ℕ) (i j e : ℕ) → GoesTo s t i m j → j < length t
-    → Leads m (get_or t j 0) (went.Taken next) → Fits m (get_or t j 0) (went.Taken next) → GoesTo next t (j + 1) new e
+    → StepsTo m (get_or t j 0) (went.Taken next) → Fits m (get_or t j 0) (went.Taken next) → GoesTo next t (j + 1) new e
     → GoesTo s t i new e
 goes_next s m next new t i j e before here leads fits after =
     goes-on s m new t i j e before
@@ -136,7 +128,7 @@ digit-fits s new b d same =
 -- as many as the stages have room for
 pub goes-digits : (s : ℕ → Stage) (t : List ℕ) (i n : ℕ) → i + n ≤ length t → i + n ≤ digit_run_end t i
     → ((k b : ℕ) → k < n → is_digit b ≡ true
-    → Leads (s k) b (went.Taken (s (k + 1))) × (is_int_stage (s (k + 1)) ≡ is_int_stage (s k)))
+    → StepsTo (s k) b (went.Taken (s (k + 1))) × (is_int_stage (s (k + 1)) ≡ is_int_stage (s k)))
     → GoesTo (s 0) t i (s n) (i + n)
 goes-digits s t i zero within run leads =
     subst (GoesTo (s 0) t i (s 0)) (omega arith) (goes-none (s 0) t i (omega arith))
@@ -163,7 +155,7 @@ goes-room room n t i most within run =
     (λ k b l d.
     let less : room - k - 1 ≡ room - (k + 1) = omega arith in (
       λ names u j h.
-          ap (λ x. extent_then x (tail_at u))
+          ap (λ x. span_then x (tail_at u))
           (room-on u j (room - k) (digit_run_end u j) (omega arith)
           ∙ ap₂ (λ r e. within_room r (j + 1) e) less (run-on u j b h d)),
       refl,
@@ -174,18 +166,16 @@ pub goes-run : (s : Stage) (t : List ℕ) (i e : ℕ) → i ≤ e → e ≤ leng
     → (s ≡ stage.Fraction) ⊎ (s ≡ stage.Exponent) → GoesTo s t i s e
 goes-run s t i e ahead within run is =
     let end : i + (e - i) ≡ e = omega arith in
-    subst (GoesTo s t i s) end
-    (goes-digits (λ _. s) t i (e - i) (omega arith) (omega arith) (λ k b l d. (stays is b d, refl)))
+    rw (← end) (goes-digits (λ _. s) t i (e - i) (omega arith) (omega arith) (λ k b l d. (stays is b d, refl)))
   where
-    stays : (s ≡ stage.Fraction) ⊎ (s ≡ stage.Exponent) → (b : ℕ) → is_digit b ≡ true → Leads s b (went.Taken s)
-    stays (inl is) b d = subst (λ s. Leads s b (went.Taken s)) (sym is)
+    stays : (s ≡ stage.Fraction) ⊎ (s ≡ stage.Exponent) → (b : ℕ) → is_digit b ≡ true → StepsTo s b (went.Taken s)
+    stays (inl is) b d = subst (λ s. StepsTo s b (went.Taken s)) (sym is)
         (λ names u j h. ap (exponent_at u) (run-on u j b h d))
-    stays (inr is) b d = subst (λ s. Leads s b (went.Taken s)) (sym is)
-        (λ names u j h. ap (taken tt) (run-on u j b h d))
+    stays (inr is) b d = rw is (λ names u j h. ap (taken tt) (run-on u j b h d))
 
 -- ---- a number that has begun
 
--- bytes stand between those before them and those after
+-- bytes are between those before them and those after
 stands-between : (w v u : List ℕ) → Stands (w ++ (v ++ u)) (length w) (length w + length v) v
 stands-between w v u =
     let t = w ++ (v ++ u) in
@@ -200,7 +190,7 @@ begun-goes w s new t i e begun go =
     record {
       goes = λ names u.
           let same : (w ++ v) ++ u ≡ w ++ (v ++ u) = append_assoc w v u in
-          ap (λ x. number_extent names x 0) same
+          ap (λ x. number_span names x 0) same
           ∙ begun.goes names (v ++ u)
           ∙ go.leads names (w ++ (v ++ u)) (length w) (stands-between w v u)
           ∙ ap₂ (number_from names new) (sym same) (sym long);
@@ -221,7 +211,7 @@ held-on n m w t i e h go text =
 -- and so it does after its first byte.
 pub begins-there : (s new : Stage) (t : List ℕ) (i b e : ℕ) → slice_get t i ≡ Some b
     → ((names : Bool) (u : List ℕ) (j : ℕ) → slice_get u j ≡ Some b
-    → number_extent names u j ≡ number_from names s u (j + 1))
+    → number_span names u j ≡ number_from names s u (j + 1))
     → is_int_stage s ≡ true → b < 128 → is_float_byte b ≡ false → GoesTo s t (i + 1) new e → BeginsThere t i new e
 begins-there s new t i b e here leads int small float go =
     let v = slice_range t (i + 1) e in

@@ -10,9 +10,9 @@ use Rattle.jiter_scan.proofs.Words.{refl, sym, ap, ◌∙◌, subst, arith, slic
 use Rattle.jiter_scan.proofs.Words.{if◌then◌else◌, codes, nat_tests, eqb-true, eqb-false, is_digit, digit_run_end, Kind}
 use Rattle.jiter_scan.proofs.Words.{eof_value, expected_ident, expected_value, invalid_number, IsDigits, IsMinus}
 use Rattle.jiter_scan.proofs.Words.{IsIntPart, IsFraction, IsSign, IsExponent, IsDecimal, IsNumberText, digit_limit}
-use Rattle.jiter_scan.proofs.Words.{extent_then, digits_from, after_zero, within_limit, int_part_from, int_part_at}
+use Rattle.jiter_scan.proofs.Words.{span_then, digits_from, after_zero, within_limit, int_part_from, int_part_at}
 use Rattle.jiter_scan.proofs.Words.{fraction_from, fraction_at, power_from, exponent_from, exponent_at, decimal_at}
-use Rattle.jiter_scan.proofs.Words.{after_minus, extent_from, number_extent, taken, failed, Extent, byte_then, word_at}
+use Rattle.jiter_scan.proofs.Words.{after_minus, span_from, number_span, taken, failed, Span, byte_then, word_at}
 use Rattle.std.proofs.lemmas.Bool.{or_cases}
 use Rattle.jiter_scan.proofs.Choices.{if_both}
 
@@ -92,7 +92,7 @@ minus-is names v (inr n) = inr (n.0, inr (inr (ap (λ w. 45 ∷ w) n.1)))
 
 -- ---- what a relation is asked
 -- where no byte is left: nothing is taken, or the input ends too early
-abbrev pub Over : Part → ℕ → Extent → Type 0
+abbrev pub Over : Part → ℕ → Span → Type 0
 Over Is i (taken u e) = (e ≡ i) × Is []
 Over Is i (failed k j) = (k ≡ eof_value) × (j ≡ i)
 
@@ -100,17 +100,17 @@ Over Is i (failed k j) = (k ≡ eof_value) × (j ≡ i)
 abbrev pub Ended : Part → Type 0
 Ended Is = Is [] ⊎ Is (codes "0")
 
--- what a fault at a byte says of the part that is read
+-- what an error at a byte says of the part that is read
 abbrev pub AllocFailed : Part → Kind → Type 0
 AllocFailed Is expected_ident = Unit {0}
 AllocFailed Is expected_value = Ended Is
 AllocFailed Is invalid_number = Ended Is
 AllocFailed Is k = ⊥
 
--- R is kept by what the rows do, in t and in u, where Here says of a byte that it stands at a place.
-pub record Rows (t u : List ℕ) (Here : ℕ → ℕ → Type 0) (R : Part → ℕ → Extent → Extent → Type 0) : Type 1 where
+-- R is kept by what the rows do, in t and in u, where Here says of a byte that it is at a place.
+pub record Rows (t u : List ℕ) (Here : ℕ → ℕ → Type 0) (R : Part → ℕ → Span → Span → Type 0) : Type 1 where
   -- a byte chooses, or there is none
-  pub byte : (Is : Part) (F G : Option ℕ → Extent) (i : ℕ) → Over Is i (F None) → Over Is i (G None)
+  pub byte : (Is : Part) (F G : Option ℕ → Span) (i : ℕ) → Over Is i (F None) → Over Is i (G None)
       → ((c : ℕ) → Here i c → R Is i (F (Some c)) (G (Some c))) → R Is i (F (slice_get t i)) (G (slice_get u i))
   -- nothing is taken; a byte is refused; digits are taken, and those of an integer part if they are few
   pub none : (Is : Part) (i : ℕ) → Is [] → R Is i (taken tt i) (taken tt i)
@@ -120,14 +120,14 @@ pub record Rows (t u : List ℕ) (Here : ℕ → ℕ → Type 0) (R : Part → �
   pub limit : (i c : ℕ) → Here i c → is_digit c ≡ true → c ≢ 48
       → R IntPart i (within_limit i (digit_run_end t i)) (within_limit i (digit_run_end u i))
   -- a part after a byte; a part of one kind as one of another; a part after a part, where the second may be nothing
-  pub after : (Is Then : Part) (i c : ℕ) (x y : Extent) → Here i c → ((v : List ℕ) → Is v → Then (c ∷ v))
+  pub after : (Is Then : Part) (i c : ℕ) (x y : Span) → Here i c → ((v : List ℕ) → Is v → Then (c ∷ v))
       → R Is (i + 1) x y → R Then i x y
-  pub weaker : (Is Then : Part) (i : ℕ) (x y : Extent) → ((v : List ℕ) → Is v → Then v) → R Is i x y → R Then i x y
-  pub joined : (A B : Part) (i : ℕ) (x y : Extent) (f g : ℕ → Extent) → B [] → R A i x y
-      → ((j : ℕ) → R B j (f j) (g j)) → R (Joined A B) i (extent_then x f) (extent_then y g)
+  pub weaker : (Is Then : Part) (i : ℕ) (x y : Span) → ((v : List ℕ) → Is v → Then v) → R Is i x y → R Then i x y
+  pub joined : (A B : Part) (i : ℕ) (x y : Span) (f g : ℕ → Span) → B [] → R A i x y
+      → ((j : ℕ) → R B j (f j) (g j)) → R (Joined A B) i (span_then x f) (span_then y g)
 
 -- ---- the walk
-module _ (t u : List ℕ) (Here : ℕ → ℕ → Type 0) (R : Part → ℕ → Extent → Extent → Type 0) (rows : Rows t u Here R) where
+module _ (t u : List ℕ) (Here : ℕ → ℕ → Type 0) (R : Part → ℕ → Span → Span → Type 0) (rows : Rows t u Here R) where
   pub digit : (i c : ℕ) → Here i c → R IsDigits i (digits_from t i (Some c)) (digits_from u i (Some c))
   digit i c h =
       if_both (R IsDigits i) (is_digit c) _ _ _ _ (rows.run i c h)
@@ -147,8 +147,7 @@ module _ (t u : List ℕ) (Here : ℕ → ℕ → Type 0) (R : Part → ℕ → 
   int_part i =
       rows.byte IntPart (int_part_from t i) (int_part_from u i) i (refl, refl) (refl, refl)
       (λ c h. if_both (R IntPart i) (c == 48) _ _ _ _
-      (λ z. rows.after (IsWord []) IntPart i c _ _ h
-      (λ v e. subst (λ w. IntPart (c ∷ w)) (sym e) (zero-int_part c (eqb-true c 48 z))) (zero (i + 1)))
+      (λ z. rows.after (IsWord []) IntPart i c _ _ h (λ v e. rw e (zero-int_part c (eqb-true c 48 z))) (zero (i + 1)))
       (λ z. if_both (R IntPart i) (is_digit c) _ _ _ _ (λ d. rows.limit i c h d (eqb-false c 48 z))
       (λ d. rows.fault IntPart invalid_number i c h (inr (zero-int_part 48 refl)))))
 
@@ -176,14 +175,14 @@ module _ (t u : List ℕ) (Here : ℕ → ℕ → Type 0) (R : Part → ℕ → 
       (λ l. rows.none IsExponent i (inl refl)))
 
   -- the parts of a decimal number, one after another
-  pub tail : (i : ℕ) → R Tail i (extent_then (fraction_at t i) (exponent_at t))
-      (extent_then (fraction_at u i) (exponent_at u))
+  pub tail : (i : ℕ) → R Tail i (span_then (fraction_at t i) (exponent_at t))
+      (span_then (fraction_at u i) (exponent_at u))
   tail i = rows.joined IsFraction IsExponent i _ _ (exponent_at t) (exponent_at u) (inl refl) (fraction i) exponent
 
   pub decimal : (i : ℕ) → R Magnitude i (decimal_at t i) (decimal_at u i)
   decimal i =
-      rows.joined IntPart Tail i _ _ (λ j. extent_then (fraction_at t j) (exponent_at t))
-      (λ j. extent_then (fraction_at u j) (exponent_at u)) no_tail (int_part i) tail
+      rows.joined IntPart Tail i _ _ (λ j. span_then (fraction_at t j) (exponent_at t))
+      (λ j. span_then (fraction_at u j) (exponent_at u)) no_tail (int_part i) tail
 
   -- words and names
   pub word : (w : List ℕ) (i : ℕ) → R (IsWord w) i (word_at t w i) (word_at u w i)
@@ -204,8 +203,7 @@ module _ (t u : List ℕ) (Here : ℕ → ℕ → Type 0) (R : Part → ℕ → 
       → (names ≡ true → Is w)
       → R Is i (if names then word_at t w i else failed k i) (if names then word_at u w i else failed k i)
   name Is names w k i c h refused is =
-      if_both (R Is i) names _ _ _ _
-      (λ n. rows.weaker (IsWord w) Is i _ _ (λ v e. subst Is (sym e) (is n)) (word w i))
+      if_both (R Is i) names _ _ _ _ (λ n. rows.weaker (IsWord w) Is i _ _ (λ v e. rw e (is n)) (word w i))
       (λ n. rows.fault Is k i c h refused)
 
   signed : (names : Bool) (i : ℕ)
@@ -218,11 +216,11 @@ module _ (t u : List ℕ) (Here : ℕ → ℕ → Type 0) (R : Part → ℕ → 
       (λ n. rows.weaker Magnitude Is i _ _ (λ v m. inl m) (decimal i)))
 
   -- all of a number
-  pub number : (names : Bool) (i : ℕ) → R (IsNumberText names) i (number_extent names t i) (number_extent names u i)
+  pub number : (names : Bool) (i : ℕ) → R (IsNumberText names) i (number_span names t i) (number_span names u i)
   number names i =
       let Is = IsNumberText names in
       let zero = inr (inl (decimal-is [] (inl refl) (codes "0") zero-magnitude)) in
-      rows.byte Is (extent_from names t i) (extent_from names u i) i (refl, refl) (refl, refl)
+      rows.byte Is (span_from names t i) (span_from names u i) i (refl, refl) (refl, refl)
       (λ c h. if_both (R Is i) (c == 45) _ _ _ _
       (λ m. rows.after (AfterMinus names) Is i c _ _ h
       (λ v s. subst (λ b. Is (b ∷ v)) (sym (eqb-true c 45 m)) (minus-is names v s)) (signed names (i + 1)))

@@ -1,28 +1,23 @@
 -- What a number begins with, after its minus: a name or a digit.
-use Rattle.jiter_scan.proofs.Words.{◌≡◌, ◌≢◌, inl, inr, ℕ, ◌+◌, ◌<◌, ◌≤◌, ◌==◌, Bool, true, false, List, length, get_or}
-use Rattle.jiter_scan.proofs.Words.{◌||◌, ◌⊎◌, refl, sym, ap, ap₂, ◌∙◌, subst, arith, ◌-◌, ◌&&◌, ◌∷◌, [], drop, take, slice_range}
-use Rattle.jiter_scan.proofs.Words.{Option, Some, None, slice_get, if◌then◌else◌, codes, cases_lt, eq-eqb, eqb-true}
-use Rattle.jiter_scan.proofs.Words.{eqb-false, false≢true, ne_eqb, slice_get-get_or, slice_get_within}
-use Rattle.jiter_scan.proofs.Words.{get_or_from_slice_get, is_float_byte, is_integral, number_value, IsMinusTo}
-use Rattle.jiter_scan.proofs.Words.{IsExtent, minus_end, after_minus, extent_from, extent_then, fraction_at}
-use Rattle.jiter_scan.proofs.Words.{exponent_at, decimal_at, int_part_at, number_extent, int_at, int_part_from}
-use Rattle.jiter_scan.proofs.Words.{int_seen, integer_after, integer_after_minus, integer_from, integer_or_float}
-use Rattle.jiter_scan.proofs.Words.{is_float_sign, GoesTo, is_int_stage, number_from, tail_at, taken, Stands, Extent}
-use Rattle.jiter_scan.proofs.Words.{word_at, Stage, Kind, after_zero, digit_run_end, failed, is_digit, nat_le}
-use Rattle.std.proofs.Math.Bool.{and-false}
-use Rattle.std.proofs.lemmas.Bool.{leb-false}
-use Rattle.std.proofs.lemmas.Option.{same_Some}
-use Rattle.jiter_scan.specs.NumberExtent.{IsNameFrom, IsDecimalFrom, IsFloatText}
-use Rattle.jiter_scan.specs.NumberExtent.{name_extent}
-use Rattle.jiter_scan.specs.NumberReading.{float_seen}
-use Rattle.std.specs.Prelude.{IfNone, is_some}
+use Rattle.jiter_scan.proofs.Words.{number_span, ◌≡◌, ◌≢◌, inl, inr, ℕ, ◌+◌, ◌<◌, ◌≤◌, ◌==◌, Bool, true, false, List}
+use Rattle.jiter_scan.proofs.Words.{length, get_or, ◌||◌, ◌⊎◌, refl, sym, ap, ap₂, ◌∙◌, subst, arith, ◌-◌, ◌&&◌, ◌∷◌}
+use Rattle.jiter_scan.proofs.Words.{[], drop, take, slice_range, Option, Some, None, slice_get, if◌then◌else◌, codes}
+use Rattle.jiter_scan.proofs.Words.{cases_lt, eq-eqb, eqb-true, eqb-false, false≢true, ne_eqb, slice_get-get_or}
+use Rattle.jiter_scan.proofs.Words.{slice_get_within, get_or_from_slice_get, is_float_byte, is_integral, number_value}
+use Rattle.jiter_scan.proofs.Words.{IsMinusTo, IsSpan, skip_minus, after_minus, span_from, span_then, fraction_at}
+use Rattle.jiter_scan.proofs.Words.{exponent_at, decimal_at, int_part_at, int_at, int_part_from, int_seen}
+use Rattle.jiter_scan.proofs.Words.{integer_after, integer_after_minus, integer_from, integer_or_float, is_float_sign}
+use Rattle.jiter_scan.proofs.Words.{GoesTo, is_int_stage, number_from, tail_at, taken, Stands, Span, word_at, Stage}
+use Rattle.jiter_scan.proofs.Words.{Kind, after_zero, digit_run_end, failed, is_digit, nat_le, and-false, leb-false}
+use Rattle.jiter_scan.proofs.Words.{same_Some, IsNameFrom, IsDecimalFrom, IsFloatText, non_finite_span, float_seen, IfNone}
+use Rattle.jiter_scan.proofs.Words.{is_some}
 use Rattle.jiter_scan.specs.declared.partial_number.Stage.TheVariants as stage
-use Rattle.jiter_scan.specs.declared.number_extent.Extent.TheVariants as found
+use Rattle.jiter_scan.specs.declared.number_span.Span.TheVariants as found
 use Rattle.jiter_scan.proofs.Choices.{if_case, if_gives, if-true, if-false}
 use Rattle.jiter_scan.proofs.NumberBytes.{given-ascii, IsMinusTo-le, IsAscii-decimal, IsAscii-name}
 use Rattle.jiter_scan.proofs.Digits.{digit-bounds}
 use Rattle.jiter_scan.proofs.FastNumbers.{decimal_at-int_part, decimal_at-over, tail-past}
-use Rattle.jiter_scan.proofs.NumberExtents.{byte-got, decimal-digit}
+use Rattle.jiter_scan.proofs.NumberSpans.{byte-got, decimal-digit}
 use Rattle.jiter_scan.proofs.NumberParts.{goes-reads, integral-append}
 use Rattle.jiter_scan.proofs.Magnitudes.{are_digits}
 use Rattle.jiter_scan.proofs.NumberRows.{IntPart}
@@ -39,8 +34,8 @@ module _ (t : List ℕ) (i : ℕ) where
     minus-infinity q =
         let other = if-false ((i + 1) == i) _ _ (ne_eqb (i + 1) i (λ r. omega (arith, r))) in
         record {
-          extent = λ names.
-              ap (extent_from names t i) minus ∙ ap (after_minus names t (i + 1)) q
+          span = λ names.
+              ap (span_from names t i) minus ∙ ap (after_minus names t (i + 1)) q
               ∙ ap (λ x. if names then word_at t (codes "Infinity") (i + 1) else x) (sym other);
           integer = ap (integer_from t i) minus ∙ ap (integer_after_minus t i) q;
           minus = inr (refl, minus);
@@ -55,20 +50,20 @@ module _ (t : List ℕ) (i : ℕ) where
     unfolding int_at
     minus-decimal None q other =
         record {
-          extent = λ names.
-              ap (extent_from names t i) minus ∙ ap (after_minus names t (i + 1)) q
+          span = λ names.
+              ap (span_from names t i) minus ∙ ap (after_minus names t (i + 1)) q
               ∙ sym
               (ap
               (λ x.
-              extent_then (int_part_from t (i + 1) x) (λ j. extent_then (fraction_at t j) (λ k. exponent_at t k))) q);
+              span_then (int_part_from t (i + 1) x) (λ j. span_then (fraction_at t j) (λ k. exponent_at t k))) q);
           integer = ap (integer_from t i) minus ∙ ap (integer_after_minus t i) q
               ∙ sym (ap (λ x. integer_after t i (int_part_from t (i + 1) x)) q);
         }
     minus-decimal (Some c) q other =
         let no = ne_eqb c 73 (other c refl) in
         record {
-          extent = λ names.
-              ap (extent_from names t i) minus ∙ ap (after_minus names t (i + 1)) q ∙ if-false (c == 73) _ _ no;
+          span = λ names.
+              ap (span_from names t i) minus ∙ ap (after_minus names t (i + 1)) q ∙ if-false (c == 73) _ _ no;
           integer = ap (integer_from t i) minus ∙ ap (integer_after_minus t i) q ∙ if-false (c == 73) _ _ no;
         }
 
@@ -77,8 +72,8 @@ module _ (t : List ℕ) (i : ℕ) where
   unfolding int_at
   alone-infinity q =
       record {
-        extent = λ names.
-            ap (extent_from names t i) q
+        span = λ names.
+            ap (span_from names t i) q
             ∙ ap (λ x. if names then word_at t (codes "Infinity") i else x) (sym (if-true (i == i) _ _ (eq-eqb i i refl)));
         integer = ap (integer_from t i) q;
         minus = inl refl;
@@ -92,8 +87,8 @@ module _ (t : List ℕ) (i : ℕ) where
   unfolding int_at
   alone-nan q =
       record {
-        extent = λ names.
-            ap (extent_from names t i) q
+        span = λ names.
+            ap (span_from names t i) q
             ∙ ap (λ x. if names then word_at t (codes "NaN") i else x) (sym (if-true (i == i) _ _ (eq-eqb i i refl)));
         integer = ap (integer_from t i) q;
         minus = inl refl;
@@ -109,15 +104,15 @@ module _ (t : List ℕ) (i : ℕ) where
       let no_n = ne_eqb c 78 n in
       let no_i = ne_eqb c 73 capital in
       record {
-        extent = λ names.
-            ap (extent_from names t i) q ∙ if-false (c == 45) _ _ (ne_eqb c 45 minus) ∙ if-false (c == 78) _ _ no_n
+        span = λ names.
+            ap (span_from names t i) q ∙ if-false (c == 45) _ _ (ne_eqb c 45 minus) ∙ if-false (c == 78) _ _ no_n
             ∙ if-false (c == 73) _ _ no_i;
         integer = ap (integer_from t i) q ∙ if-false (c == 45) _ _ (ne_eqb c 45 minus)
             ∙ if-false ((c == 78) || (c == 73)) _ _ (ap (λ b. b || (c == 73)) no_n ∙ no_i);
       }
 
 -- either
-module _ (t : List ℕ) (i j : ℕ) (inside : i < length t) (start : j ≡ minus_end t i) where
+module _ (t : List ℕ) (i j : ℕ) (inside : i < length t) (start : j ≡ skip_minus t i) where
   signed : (P : ℕ → Type 0) → (slice_get t i ≡ Some 45 → P (i + 1)) → (get_or t i 0 ≢ 45 → P i) → P j
   signed P minus none =
       subst P (sym start)
@@ -130,9 +125,7 @@ module _ (t : List ℕ) (i j : ℕ) (inside : i < length t) (start : j ≡ minus
       (λ n. alone-infinity t i)
 
   pub name-nan : slice_get t j ≡ Some 78 → j ≡ i → IsNameFrom t (codes "NaN") i j
-  name-nan q same =
-      subst (λ k. IsNameFrom t (codes "NaN") i k) (sym same)
-      (alone-nan t i (subst (λ k. slice_get t k ≡ Some 78) same q))
+  name-nan q same = rw same (alone-nan t i (rw (← same) q))
 
   -- no letter of a name there: a minus and an N are no name
   pub no-name : ((c : ℕ) → slice_get t j ≡ Some c → (c ≢ 73) × (c ≡ 78 → j ≢ i)) → IsDecimalFrom t i j
@@ -145,7 +138,7 @@ module _ (t : List ℕ) (i j : ℕ) (inside : i < length t) (start : j ≡ minus
       alone-decimal t i c here n (λ q. (h c here).1 q refl) (h c here).0)
 
 -- A decimal number that is its integer part alone is read as an integer.
-module _ (t : List ℕ) (i j e : ℕ) (inside : i < length t) (start : j ≡ minus_end t i)
+module _ (t : List ℕ) (i j e : ℕ) (inside : i < length t) (start : j ≡ skip_minus t i)
     (int_part : int_part_at t j ≡ taken tt e) (decimal : decimal_at t j ≡ taken tt e) where
   -- its first byte is a digit, and no letter of a name
   decimal-begins : IsDecimalFrom t i j
@@ -164,7 +157,7 @@ module _ (t : List ℕ) (i j e : ℕ) (inside : i < length t) (start : j ≡ min
   ended (Some c) h =
       if_case (λ x. x ≡ taken (int_seen (number_value (slice_range t i e))) e) (is_float_sign c) _ _
       (λ sign.
-      let tail = ap (λ x. extent_then x (tail_at t)) (sym int_part) ∙ decimal in
+      let tail = ap (λ x. span_then x (tail_at t)) (sym int_part) ∙ decimal in
       absurd (omega (arith, (subst (IsPast (e + 1) (length t)) tail (tail-past t e c h sign)).0)))
       (λ _. refl)
 
@@ -174,8 +167,8 @@ module _ (t : List ℕ) (i j e : ℕ) (inside : i < length t) (start : j ≡ min
 -- a decimal number goes through the stages from the one after its minus
 minus-stage : (t : List ℕ) (j : ℕ) → decimal_at t j ≡ number_from false stage.Minus t j
 minus-stage t j = by (slice_get t j) refl where
-  read : Option ℕ → Extent
-  read o = extent_then (int_part_from t j o) (tail_at t)
+  read : Option ℕ → Span
+  read o = span_then (int_part_from t j o) (tail_at t)
 
   by : (o : Option ℕ) → slice_get t j ≡ o → decimal_at t j ≡ after_minus false t j o
   by None h = ap read h
@@ -187,12 +180,12 @@ pub decimal-stages : (t : List ℕ) (j : ℕ) (s : Stage) (e : ℕ) → GoesTo s
     → decimal_at t j ≡ number_from false s t e
 decimal-stages t j s e go = minus-stage t j ∙ goes-reads false stage.Minus s t j e go
 
-pub found_extent : (names : Bool) (t : List ℕ) (i j : ℕ) (s : Stage) (e : ℕ) → IsDecimalFrom t i j
-    → GoesTo stage.Minus t j s e → number_extent names t i ≡ number_from false s t e
-found_extent names t i j s e begins go = begins.extent names ∙ decimal-stages t j s e go
+pub found_span : (names : Bool) (t : List ℕ) (i j : ℕ) (s : Stage) (e : ℕ) → IsDecimalFrom t i j
+    → GoesTo stage.Minus t j s e → number_span names t i ≡ number_from false s t e
+found_span names t i j s e begins go = begins.span names ∙ decimal-stages t j s e go
 
 -- the digits of an integer part end where the run does, and what is wrong with them is no later
-abbrev IsIntRead : List ℕ → ℕ → Extent → Type 0
+abbrev IsIntRead : List ℕ → ℕ → Span → Type 0
 IsIntRead t j (taken u e) = e ≡ digit_run_end t j
 IsIntRead t j (failed k m) = m ≤ digit_run_end t j
 
@@ -253,17 +246,17 @@ module _ (t : List ℕ) (i j : ℕ) (begins : IsDecimalFrom t i j) (s : Stage) (
         int = begins.integer ∙ ap (integer_after t i) int_part ∙ ap (integer_or_float t i digits) h
             ∙ if-true (is_float_sign c) _ _ is;
         within = slice_get_within t digits c h;
-        decimal = subst (λ x. IsPast (digits + 1) (length t) (extent_then x (tail_at t))) (sym int_part)
+        decimal = subst (λ x. IsPast (digits + 1) (length t) (span_then x (tail_at t))) (sym int_part)
             (tail-past t digits c h is);
       }))
       sign false none = inr (inr (decimal_at-int_part t j digits c int_part h none))
 
-    by : (x : Extent) → int_part_at t j ≡ x → Shape
+    by : (x : Span) → int_part_at t j ≡ x → Shape
     by (failed k m) q = inl (record {
       kind = k;
       place = m;
       int = begins.integer ∙ ap (integer_after t i) q;
-      decimal = ap (λ x. extent_then x (tail_at t)) q;
+      decimal = ap (λ x. span_then x (tail_at t)) q;
       within = subst (IsIntRead t j) q (int-read t j);
     })
     by (taken u d) q =
@@ -284,20 +277,19 @@ module _ (t : List ℕ) (i j : ℕ) (begins : IsDecimalFrom t i j) (s : Stage) (
       ]
 
   -- the number ends with a float's stage, or fails after the digits
-  abbrev pub IsFloat : Extent → Type 0
+  abbrev pub IsFloat : Span → Type 0
   IsFloat (taken u d) = (d ≡ e) × (is_int_stage s ≡ false)
   IsFloat (failed k m) = digits < m
 
   no-float : IsFloat (taken tt digits) → ⊥
   no-float float =
-      let ahead : j ≤ digits = omega arith in
       let plain = digits-no_float (slice_range t j digits)
-      (are_digits t j digits ahead (omega arith) (omega (arith, float.0, go.within))) in
+      (are_digits t j digits (omega arith) (omega arith) (omega (arith, float.0, go.within))) in
       let whole : is_integral (slice_range t j e) ≡ true =
       ap (λ k. is_integral (slice_range t j k)) (sym float.0) ∙ ap (λ (b : Bool). if b then false else true) plain in
       false≢true (sym float.1 ∙ go.int ∙ whole)
 
-  seen : (x : Extent) → number_from false s t e ≡ x → IsFloat x → (int_at t i ≡ taken float_seen digits) × (digits < length t)
+  seen : (x : Span) → number_from false s t e ≡ x → IsFloat x → (int_at t i ≡ taken float_seen digits) × (digits < length t)
   seen x h float =
       let read : decimal_at t j ≡ x = decimal-stages t j s e go ∙ h in
       elim shape [
@@ -306,7 +298,7 @@ module _ (t : List ℕ) (i j : ℕ) (begins : IsDecimalFrom t i j) (s : Stage) (
         | inr (inr f) ↦ absurd (no-float (subst IsFloat (sym read ∙ f) float))
       ]
 
-  pub int_at-float : (x : Extent) → number_from false s t e ≡ x → IsFloat x → i ≤ j → (run : ℕ) → run ≡ digits
+  pub int_at-float : (x : Span) → number_from false s t e ≡ x → IsFloat x → i ≤ j → (run : ℕ) → run ≡ digits
       → (int_at t i ≡ taken float_seen run) × (i ≤ run) × (run < length t)
   int_at-float x h float le run is =
       let r = seen x h float in (r.0 ∙ ap (taken float_seen) (sym is), omega arith, omega (arith, r.1))
@@ -332,20 +324,19 @@ module _ (t : List ℕ) (i j : ℕ) where
     read : decimal_at t j ≡ taken tt e
     read = decimal-stages t j s e go ∙ ends
 
-    pub found_int : is_int_stage s ≡ true → IsExtent t i (found.Int j e)
+    pub found_int : is_int_stage s ≡ true → IsSpan t i (found.Int j e)
     found_int int =
         let digits = int-digits t j j e (omega arith) go.within (sym go.int ∙ int) read in
         (minus, digits, int_part-some t j e digits, go.within)
 
-    pub found_alone : i < length t → j ≡ minus_end t i → is_int_stage s ≡ true
-        → (int_at t i ≡ taken (int_seen (number_value (slice_range t i e))) e) × IsExtent t i (found.Int j e)
+    pub found_alone : i < length t → j ≡ skip_minus t i → is_int_stage s ≡ true
+        → (int_at t i ≡ taken (int_seen (number_value (slice_range t i e))) e) × IsSpan t i (found.Int j e)
     found_alone inside start int = (int_at-alone t i j e inside start (found_int int).1 read, found_int int)
 
     pub found_float : is_int_stage s ≡ false → IsFloatText t i e
     found_float other =
-        let low = IsMinusTo-le t i j minus in
         let is : is_integral (slice_range t i e) ≡ false =
-        ap is_integral (slice_range-split t i j low e go.ahead)
+        ap is_integral (slice_range-split t i j (IsMinusTo-le t i j minus) e go.ahead)
         ∙ integral-append (slice_range t i j) (slice_range t j e)
         ∙ ap (λ b. is_integral (slice_range t i j) && b) (sym go.int ∙ other)
         ∙ and-false (is_integral (slice_range t i j)) in
@@ -356,11 +347,11 @@ module _ (t : List ℕ) (i j : ℕ) where
           within = go.within;
         }
 
-  allowed : (names : Bool) (w : List ℕ) (e : ℕ) → name_extent names t w i j ≡ taken tt e → word_at t w j ≡ taken tt e
+  allowed : (names : Bool) (w : List ℕ) (e : ℕ) → non_finite_span names t w i j ≡ taken tt e → word_at t w j ≡ taken tt e
   allowed true w e h = h
   allowed false w e h = if_gives (j == i) _ _ _ h (λ q r. absurd (cc)) (λ q r. absurd (cc))
 
-  pub name-text : (names : Bool) (w : List ℕ) (e : ℕ) → IsNameFrom t w i j → taken tt e ≡ name_extent names t w i j
+  pub name-text : (names : Bool) (w : List ℕ) (e : ℕ) → IsNameFrom t w i j → taken tt e ≡ non_finite_span names t w i j
       → e ≡ j + length w → e ≤ length t → IsFloatText t i e
   name-text names w e name read end within =
       let word = allowed names w e (sym read) in

@@ -3,18 +3,14 @@ use Rattle.jiter_scan.proofs.Words.{◌≡◌, ◌⊎◌, ℕ, ◌-◌, ◌≤�
 use Rattle.jiter_scan.proofs.Words.{ap, ◌∙◌, subst, arith, inl, inr, slice_range, IfSome, nat_le, ◌==◌, ◌&&◌, ◌||◌}
 use Rattle.jiter_scan.proofs.Words.{list_all, eqb-true, eq-eqb, false≢true, nat_tests, take_all, slice_get_past}
 use Rattle.jiter_scan.proofs.Words.{is_digit, Stands, AreDigits, IsDigits, IsMinus, IsIntPart, IsFraction, IsSign}
-use Rattle.jiter_scan.proofs.Words.{IsExponent, digit_limit, IsDecimal, IsName, IsNumberText, number_extent}
-use Rattle.jiter_scan.proofs.Words.{is_number_text, taken, failed, Extent, continues_number}
-use Rattle.std.proofs.Common.{Decides}
-use Rattle.std.proofs.lemmas.Bool.Decides.{Decides-and, Decides-or, Decides-like, Decides-eqb, Decides-not}
-use Rattle.std.proofs.lemmas.Bool.Decides.{same_from_decides}
-use Rattle.std.proofs.lemmas.Slice.Eq.{bytes_eq-Decides}
+use Rattle.jiter_scan.proofs.Words.{IsExponent, digit_limit, IsDecimal, IsNumberText, number_span, is_number_text}
+use Rattle.jiter_scan.proofs.Words.{taken, failed, Span, continues_number, Decides, Decides-and, Decides-or}
+use Rattle.jiter_scan.proofs.Words.{Decides-like, Decides-eqb, Decides-not, same_from_decides, bytes_eq-Decides}
+use Rattle.jiter_scan.proofs.Words.{is_parted, are_some_digits, is_minus, is_int_part, is_fraction, is_sign}
+use Rattle.jiter_scan.proofs.Words.{is_exponent, is_magnitude}
 use Rattle.jiter_scan.specs.Ascii as ascii
-use Rattle.jiter_scan.specs.NumberTests.{is_parted, are_some_digits, is_minus, is_int_part, is_fraction, is_sign}
-use Rattle.jiter_scan.specs.NumberTests.{is_exponent}
-use Rattle.jiter_scan.specs.NumberTests.{is_magnitude, is_name}
-use Rattle.jiter_scan.proofs.NumberComplete.{number_extent-complete}
-use Rattle.jiter_scan.proofs.NumberSound.{number_extent-sound}
+use Rattle.jiter_scan.proofs.NumberComplete.{number_span-complete}
+use Rattle.jiter_scan.proofs.NumberSound.{number_span-sound}
 use Rattle.jiter_scan.proofs.Standing.{stands-slice}
 
 -- somewhere the bytes part into two of which these facts hold
@@ -57,8 +53,7 @@ parted-decides (c ∷ cs) p q P Q hp hq =
     from [] v e a b = inl (a, subst Q (sym e) b)
     from (d ∷ u) v e a b =
         let first : d ≡ c = cc in
-        let rest : cs ≡ u ++ v = cc in
-        inr (record { prefix = u; back = v; is = rest; is_prefix = subst (λ x. P (x ∷ u)) first a; is_back = b })
+        inr (record { prefix = u; back = v; is = cc; is_prefix = subst (λ x. P (x ∷ u)) first a; is_back = b })
 
 digits-decide : (w : List ℕ) → Decides (list_all is_digit w) (AreDigits w)
 digits-decide [] = (λ h. tt, λ h. refl)
@@ -119,9 +114,6 @@ exponent-decides (c ∷ cs) =
           record { prefix = h.sign; back = h.digits; is = rest; is_prefix = h.is_sign; is_back = h.are_digits },
         )
 
-limit-decides : (n : ℕ) → Decides (nat_le n digit_limit) (n ≤ digit_limit)
-limit-decides n = (λ h. grind (arith, nat_tests), λ h. grind (arith, nat_tests))
-
 abbrev IsTail : List ℕ → Type 0
 IsTail w = IsParted IsFraction IsExponent w
 
@@ -132,7 +124,7 @@ magnitude-decides : (w : List ℕ) → Decides (is_magnitude w) (IsMagnitude w)
 magnitude-decides w =
     parted-decides w (λ u. is_int_part u && nat_le (length u) digit_limit) (λ v. is_parted v is_fraction is_exponent)
     (λ u. IsIntPart u × (length u ≤ digit_limit)) IsTail
-    (λ u. Decides-and _ _ (int_part-decides u) (limit-decides (length u)))
+    (λ u. Decides-and _ _ (int_part-decides u) (λ h. grind (arith, nat_tests), λ h. grind (arith, nat_tests)))
     (λ v. parted-decides v is_fraction is_exponent IsFraction IsExponent fraction-decides exponent-decides)
 
 decimal-decides : (w : List ℕ) → Decides (is_parted w is_minus is_magnitude) (IsDecimal w)
@@ -176,17 +168,16 @@ decimal-decides w =
       };
     }
 
-name-decides : (w : List ℕ) → Decides (is_name w) (IsName w)
-name-decides w = Decides-or _ _ (bytes_eq-Decides w _) (Decides-or _ _ (bytes_eq-Decides w _) (bytes_eq-Decides w _))
-
 -- The test is true exactly of the texts of numbers.
 pub number_text-decides : (names : Bool) (w : List ℕ) → Decides (is_number_text names w) (IsNumberText names w)
 unfolding is_number_text
 number_text-decides names w =
-    Decides-or _ _ (decimal-decides w) (Decides-and _ _ (λ h. h, λ h. h) (name-decides w))
+    Decides-or _ _ (decimal-decides w)
+    (Decides-and _ _ (λ h. h, λ h. h)
+    (Decides-or _ _ (bytes_eq-Decides w _) (Decides-or _ _ (bytes_eq-Decides w _) (bytes_eq-Decides w _))))
 
 -- this much is read, to the last byte
-abbrev pub takes_all : ℕ → Extent → Bool
+abbrev pub takes_all : ℕ → Span → Bool
 takes_all n (taken u e) = n == e
 takes_all n (failed k j) = false
 
@@ -194,26 +185,26 @@ module _ (names : Bool) (w : List ℕ) where
   slice-int_part : slice_range w 0 (length w) ≡ w
   slice-int_part = take_all (length w - 0) w (omega arith)
 
-  read : (x : Extent) → number_extent names w 0 ≡ x → takes_all (length w) x ≡ true → IsNumberText names w
+  read : (x : Span) → number_span names w 0 ≡ x → takes_all (length w) x ≡ true → IsNumberText names w
   read (taken u e) is h =
       let all : length w ≡ e = eqb-true (length w) e h in
       subst (IsNumberText names) (ap (slice_range w 0) (sym all) ∙ slice-int_part)
-      (number_extent-sound w names 0 e is)
+      (number_span-sound w names 0 e is)
   read (failed k j) is h = absurd (false≢true h)
 
-  reading-decides : Decides (takes_all (length w) (number_extent names w 0)) (IsNumberText names w)
+  reading-decides : Decides (takes_all (length w) (number_span names w 0)) (IsNumberText names w)
   reading-decides = (
-    read (number_extent names w 0) refl,
+    read (number_span names w 0) refl,
     λ h.
         let none =
         subst (λ o. IfSome o (λ c. continues_number c ≡ false)) (sym (slice_get_past w (length w) (omega arith)))
         tt in
         let stands =
         subst (Stands w 0 (length w)) slice-int_part (stands-slice w 0 (length w) (omega arith) (omega arith)) in
-        ap (takes_all (length w)) (number_extent-complete w names 0 (length w) w stands h none)
+        ap (takes_all (length w)) (number_span-complete w names 0 (length w) w stands h none)
         ∙ eq-eqb (length w) (length w) refl,
   )
 
   -- A number's text is what is read as a number to the last byte.
-  pub number_text-read : is_number_text names w ≡ takes_all (length w) (number_extent names w 0)
+  pub number_text-read : is_number_text names w ≡ takes_all (length w) (number_span names w 0)
   number_text-read = same_from_decides _ _ (number_text-decides names w) reading-decides

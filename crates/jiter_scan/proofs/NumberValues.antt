@@ -3,12 +3,10 @@ use Rattle.jiter_scan.proofs.Words.{◌≡◌, ◌≢◌, ◌⊎◌, inl, inr, �
 use Rattle.jiter_scan.proofs.Words.{length, List, [], ◌∷◌, ◌++◌, refl, sym, ap, ◌∙◌, subst, slice_range, arith, nat_le}
 use Rattle.jiter_scan.proofs.Words.{nat_lt, pos, Some, slice_get, if◌then◌else◌, list_any, cases_lt, nat_tests}
 use Rattle.jiter_scan.proofs.Words.{is_digit, decimal_of, Number, AreDigits, IsIntPart, IsFraction, IsExponent, float}
-use Rattle.jiter_scan.proofs.Words.{big, integer, is_float_byte, number_value, integral_value, minus_of, extent_then}
+use Rattle.jiter_scan.proofs.Words.{big, integer, is_float_byte, number_value, integral_value, minus_of, span_then}
 use Rattle.jiter_scan.proofs.Words.{int_part_at, fraction_at, exponent_at, magnitude_of, IsMinusTo, taken, Stands}
-use Rattle.jiter_scan.proofs.Words.{word_at}
-use Rattle.std.proofs.lemmas.Bool.{or_right}
-use Rattle.jiter_scan.specs.Number.{positive_value, negative_value}
-use Rattle.jiter_scan.proofs.Choices.{if-false, extent_then-taken}
+use Rattle.jiter_scan.proofs.Words.{word_at, or_right, positive_value, negative_value}
+use Rattle.jiter_scan.proofs.Choices.{if-false, span_then-taken}
 use Rattle.jiter_scan.proofs.NumberSound.{int_part_at-sound, fraction_at-sound, exponent_at-sound}
 use Rattle.jiter_scan.proofs.Standing.{stands-append, stands-length, stands-slice, slice-stands}
 use Rattle.jiter_scan.proofs.WordLaws.{word_at-sound}
@@ -96,12 +94,12 @@ module _ (t : List ℕ) where
       (stands-append t i j e (slice_range t i j) (c ∷ v) (stands-slice t i j low high) s) in
       subst (λ w. number_value w ≡ float w) all (number_value-float (slice_range t i j) v c is)
 
-  -- the text of a number with a fraction or an exponent, which stands from j on
+  -- the text of a number with a fraction or an exponent, which is from j on
   pub number_value-tail : (i j e : ℕ) → i ≤ j → j < e → j ≤ length t
-      → extent_then (fraction_at t j) (exponent_at t) ≡ taken tt e
+      → span_then (fraction_at t j) (exponent_at t) ≡ taken tt e
       → number_value (slice_range t i e) ≡ float (slice_range t i e)
   number_value-tail i j e low some high h =
-      let b = extent_then-taken _ _ _ _ h in
+      let b = span_then-taken _ _ _ _ h in
       let f = fraction_at-sound t j b.0 b.1 in
       let x = exponent_at-sound t b.0 e b.2 in
       by (f.0 ++ x.0) (stands-append t j b.0 e f.0 x.0 f.1 x.1) (tail f.0 x.0 f.2 x.2) where
@@ -110,7 +108,7 @@ module _ (t : List ℕ) where
             let long = stands-length t j e w s in let short = ap (λ v. length v) none in absurd (omega arith)
         by w s (a_tail c v is first) = float_at i j e c v low high (subst (Stands t j e) is s) first
 
-  -- the text of a name, which stands from j on
+  -- the text of a name, which is from j on
   pub number_value-name : (w : List ℕ) (i j e : ℕ) → i ≤ j → j ≤ length t → word_at t w j ≡ taken tt e → 0 < length w
       → ((c : ℕ) → slice_get t j ≡ Some c → is_float_byte c ≡ true)
       → number_value (slice_range t i e) ≡ float (slice_range t i e)

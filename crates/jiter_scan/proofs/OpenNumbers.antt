@@ -1,11 +1,10 @@
--- A number that arrives in pieces: what its reading is from the byte at a place on, and at the end of the input.
+-- A number that arrives in chunks: what its reading is from the byte at a place on, and at the end of the input.
 use Rattle.jiter_scan.proofs.Words.{◌≡◌, ℕ, ◌+◌, ◌-◌, ◌<◌, ◌==◌, ◌||◌, Bool, true, false, List, [], ◌∷◌, ◌++◌, length}
 use Rattle.jiter_scan.proofs.Words.{refl, sym, ap, ◌∙◌, arith, nat_le, slice_get, Some, None, if◌then◌else◌, nat_tests}
-use Rattle.jiter_scan.proofs.Words.{is_digit, digit_run_end, number_out_of_range, extent_then, after_minus, after_zero}
-use Rattle.jiter_scan.proofs.Words.{digits_from, power_from, int_part_from, int_part_at, decimal_at, extent_from}
-use Rattle.jiter_scan.proofs.Words.{number_extent, fraction_from, exponent_from, exponent_at, within_room, tail_at}
-use Rattle.jiter_scan.proofs.Words.{number_from, is_whole, at_end, Stage, taken, failed}
-use Rattle.jiter_scan.specs.PartialNumber.{begins_decimal}
+use Rattle.jiter_scan.proofs.Words.{is_digit, digit_run_end, number_out_of_range, span_then, after_minus, after_zero}
+use Rattle.jiter_scan.proofs.Words.{digits_from, power_from, int_part_from, int_part_at, decimal_at, span_from}
+use Rattle.jiter_scan.proofs.Words.{number_span, fraction_from, exponent_from, exponent_at, within_room, tail_at}
+use Rattle.jiter_scan.proofs.Words.{number_from, is_whole, at_end, Stage, taken, failed, begins_decimal}
 use Rattle.jiter_scan.specs.declared.partial_number.Stage.TheVariants as stage
 use Rattle.jiter_scan.proofs.Choices.{if-true, if-false}
 use Rattle.jiter_scan.proofs.Runs.{run_end-ahead, run_end-more, run_end-here}
@@ -37,14 +36,14 @@ module _ (t : List ℕ) (j : ℕ) where
   -- what the end of the input makes of a stage
   module _ (h : slice_get t j ≡ None) where
     tail-ended : tail_at t j ≡ taken tt j
-    tail-ended = ap (λ o. extent_then (fraction_from t j o) (exponent_at t)) h ∙ ap (exponent_from t j) h
+    tail-ended = ap (λ o. span_then (fraction_from t j o) (exponent_at t)) h ∙ ap (exponent_from t j) h
 
     pub ended : (names : Bool) (s : Stage) → number_from names s t j ≡ at_end (is_whole s) j
     ended names stage.Minus = ap (after_minus names t j) h
-    ended names stage.Zero = ap (λ o. extent_then (after_zero j o) (tail_at t)) h ∙ tail-ended
+    ended names stage.Zero = ap (λ o. span_then (after_zero j o) (tail_at t)) h ∙ tail-ended
     ended names (stage.Digits room) =
-        ap (λ x. extent_then x (tail_at t)) (room-over room (digit_run_end t j) (run-ended h)) ∙ tail-ended
-    ended names stage.Point = ap (λ o. extent_then (digits_from t j o) (exponent_at t)) h
+        ap (λ x. span_then x (tail_at t)) (room-over room (digit_run_end t j) (run-ended h)) ∙ tail-ended
+    ended names stage.Point = ap (λ o. span_then (digits_from t j o) (exponent_at t)) h
     ended names stage.Fraction = ap (exponent_at t) (run-ended h) ∙ ap (exponent_from t j) h
     ended names stage.Letter = ap (power_from t j) h
     ended names stage.Sign = ap (digits_from t j) h
@@ -60,22 +59,22 @@ module _ (t : List ℕ) (j : ℕ) where
 
   -- an integer part whose first digit is no zero
   pub decimal-begins : (b : ℕ) → slice_get t j ≡ Some b → (b == 48) ≡ false → is_digit b ≡ true
-      → decimal_at t j ≡ extent_then (within_room 4299 (j + 1) (digit_run_end t (j + 1))) (tail_at t)
+      → decimal_at t j ≡ span_then (within_room 4299 (j + 1) (digit_run_end t (j + 1))) (tail_at t)
   decimal-begins b h zero digit =
       let here : int_part_at t j ≡ within_room 4300 j (digit_run_end t j) =
       ap (int_part_from t j) h ∙ if-false (b == 48) _ _ zero ∙ if-true (is_digit b) _ _ digit in
       let on : within_room 4300 j (digit_run_end t j) ≡ within_room 4299 (j + 1) (digit_run_end t (j + 1)) =
       room-on 4300 (digit_run_end t j) (omega arith) ∙ ap (within_room 4299 (j + 1)) (run-on b h digit) in
-      ap (λ x. extent_then x (tail_at t)) (here ∙ on)
+      ap (λ x. span_then x (tail_at t)) (here ∙ on)
 
   -- a number that begins with a digit
-  pub extent-digit : (names : Bool) (b : ℕ) → slice_get t j ≡ Some b → is_digit b ≡ true
-      → number_extent names t j ≡ decimal_at t j
-  extent-digit names b h digit =
+  pub span-digit : (names : Bool) (b : ℕ) → slice_get t j ≡ Some b → is_digit b ≡ true
+      → number_span names t j ≡ decimal_at t j
+  span-digit names b h digit =
       let no_minus : (b == 45) ≡ false = grind (arith, nat_tests) in
       let no_n : (b == 78) ≡ false = grind (arith, nat_tests) in
       let no_i : (b == 73) ≡ false = grind (arith, nat_tests) in
-      ap (extent_from names t j) h ∙ if-false (b == 45) _ _ no_minus ∙ if-false (b == 78) _ _ no_n
+      ap (span_from names t j) h ∙ if-false (b == 45) _ _ no_minus ∙ if-false (b == 78) _ _ no_n
       ∙ if-false (b == 73) _ _ no_i
 
 -- what the next byte makes of the digits before it

@@ -1,18 +1,17 @@
 -- The value of a number that was read byte by byte.
 use Rattle.jiter_scan.proofs.Words.{◌≡◌, inl, inr, ℕ, ◌-◌, ◌^◌, ◌<◌, ◌≤◌, ◌==◌, Bool, true, false, List, [], ◌∷◌, ◌++◌}
 use Rattle.jiter_scan.proofs.Words.{append-nil, length, length-append, refl, sym, ap, subst, ◌∙◌, arith, nat_le, nat_lt}
-use Rattle.jiter_scan.proofs.Words.{codes, slice_get, slice_range, None, IfSome, if◌then◌else◌, take_all}
-use Rattle.jiter_scan.proofs.Words.{cases_lt, decimal_of, big, float, is_integral, integral_value}
-use Rattle.jiter_scan.proofs.Words.{number_value, IsName, IsNumberText, invalid_number, after_minus, minus_end}
-use Rattle.jiter_scan.proofs.Words.{decimal_at, int_part_at, number_extent, number_from, tail_at}
-use Rattle.jiter_scan.proofs.Words.{is_whole, is_int_stage, at_end, IsBegun, taken, failed, Stands, word_at}
-use Rattle.jiter_scan.proofs.Words.{Stage, continues_number}
+use Rattle.jiter_scan.proofs.Words.{codes, slice_get, slice_range, None, IfSome, if◌then◌else◌, take_all, cases_lt}
+use Rattle.jiter_scan.proofs.Words.{decimal_of, big, float, is_integral, integral_value, number_value, IsName}
+use Rattle.jiter_scan.proofs.Words.{IsNumberText, invalid_number, after_minus, skip_minus, decimal_at, int_part_at}
+use Rattle.jiter_scan.proofs.Words.{number_span, number_from, tail_at, is_whole, is_int_stage, at_end, IsBegun, taken}
+use Rattle.jiter_scan.proofs.Words.{failed, Stands, word_at, Stage, continues_number}
 use Rattle.jiter_scan.specs.declared.partial_number.Stage.TheVariants as stage
-use Rattle.jiter_scan.proofs.Choices.{if-true, if-false, if_case, if_gives, failed-taken, extent_then-taken}
+use Rattle.jiter_scan.proofs.Choices.{if-true, if-false, if_case, if_gives, failed-taken, span_then-taken}
 use Rattle.jiter_scan.proofs.NumberBytes.{number-not_empty}
-use Rattle.jiter_scan.proofs.NumberComplete.{number_extent-complete}
-use Rattle.jiter_scan.proofs.NumberExtents.{extent-digits}
-use Rattle.jiter_scan.proofs.NumberSound.{number_extent-sound, int_part_at-sound, fraction_at-sound, exponent_at-sound}
+use Rattle.jiter_scan.proofs.NumberComplete.{number_span-complete}
+use Rattle.jiter_scan.proofs.NumberSpans.{span-digits}
+use Rattle.jiter_scan.proofs.NumberSound.{number_span-sound, int_part_at-sound, fraction_at-sound, exponent_at-sound}
 use Rattle.jiter_scan.proofs.NumberValues.{number_value-tail}
 use Rattle.jiter_scan.proofs.Standing.{stands-length, stands-slice, stands-split}
 use Rattle.jiter_scan.proofs.WordLaws.{word_at-complete}
@@ -60,9 +59,9 @@ integral-no_float (c ∷ cs) v h =
 pub int-digits : (t : List ℕ) (i at e : ℕ) → i ≤ at → e ≤ length t → is_integral (slice_range t i e) ≡ true
     → decimal_at t at ≡ taken tt e → int_part_at t at ≡ taken tt e
 int-digits t i at e low within integral read =
-    let part : (j : ℕ) × (int_part_at t at ≡ taken tt j) × (tail_at t j ≡ taken tt e) = extent_then-taken _ _ _ _ read in
+    let part : (j : ℕ) × (int_part_at t at ≡ taken tt j) × (tail_at t j ≡ taken tt e) = span_then-taken _ _ _ _ read in
     let j = part.0 in
-    let f = extent_then-taken _ _ _ _ part.2 in
+    let f = span_then-taken _ _ _ _ part.2 in
     let digits = int_part_at-sound t at j part.1 in
     let fraction = fraction_at-sound t j f.0 f.1 in
     let exponent = exponent_at-sound t f.0 e f.2 in
@@ -81,33 +80,30 @@ int-digits t i at e low within integral read =
     ]
 
 module _ (w : List ℕ) (s : Stage) (begun : IsBegun w s) (whole : is_whole s ≡ true) where
-  extent-whole : number_extent false w 0 ≡ taken tt (length w)
-  extent-whole =
-      subst (λ v. number_extent false v 0 ≡ number_from false s v (length w)) (append-nil w) (begun.goes false [])
+  span-whole : number_span false w 0 ≡ taken tt (length w)
+  span-whole =
+      subst (λ v. number_span false v 0 ≡ number_from false s v (length w)) (append-nil w) (begun.goes false [])
       ∙ ended w (length w) (nothing-after w) false s ∙ ap (λ b. at_end b (length w)) whole
 
-  is-text : IsNumberText false w
-  is-text = subst (IsNumberText false) (whole-range w) (number_extent-sound w false 0 (length w) extent-whole)
-
   pub begun-some : 0 < length w
-  begun-some = some-bytes false w is-text
+  begun-some = some-bytes false w (rw (← whole-range w) (number_span-sound w false 0 (length w) span-whole))
 
   module _ (int : is_int_stage s ≡ true) where
     integral : is_integral w ≡ true
     integral = begun.whole ∙ int
 
     -- its digits go on to its end
-    pub begun-digits : int_part_at w (minus_end w 0) ≡ taken tt (length w)
+    pub begun-digits : int_part_at w (skip_minus w 0) ≡ taken tt (length w)
     begun-digits =
-        int-digits w 0 (minus_end w 0) (length w) (omega arith) (omega arith) (ap is_integral (whole-range w) ∙ integral)
-        (extent-digits w 0 (length w) begun-some extent-whole)
+        int-digits w 0 (skip_minus w 0) (length w) (omega arith) (omega arith) (ap is_integral (whole-range w) ∙ integral)
+        (span-digits w 0 (length w) begun-some span-whole)
 
     -- which is that of the bytes where no integer of 64 bits is
     pub begun-big : (v : List ℕ) → big v ≡ number_value w → big w ≡ number_value w
     begun-big v h = let is = integral-is w integral in integral-big w v (h ∙ is) ∙ sym is
 
 -- ---- after its minus
--- the last bytes stand after the others
+-- the last bytes are after the others
 pub stands-last : (w u : List ℕ) → Stands (w ++ u) (length w) (length (w ++ u)) u
 stands-last w u =
     let t = w ++ u in
@@ -117,7 +113,7 @@ stands-last w u =
     let place : r.0 ≡ length w = omega (arith, stands-length t 0 r.0 w r.1) in
     subst (λ j. Stands t j (length t) u) place r.2
 
--- a minus alone stands before `Infinity`
+-- a minus alone is before `Infinity`
 minus-alone : (w : List ℕ) → 0 < length w → IsName (w ++ codes "Infinity") → w ≡ 45 ∷ []
 minus-alone w some (inl e) = absurd (omega (arith, ap length e, length-append w (codes "Infinity")))
 minus-alone w some (inr (inl e)) = absurd (omega (arith, ap length e, length-append w (codes "Infinity")))
@@ -129,17 +125,12 @@ module _ (w : List ℕ) (begun : IsBegun w stage.Minus) where
   abbrev named : List ℕ
   named = w ++ codes "Infinity"
 
-  named-extent : (names : Bool)
-      → number_extent names named 0
+  named-span : (names : Bool)
+      → number_span names named 0
       ≡ (if names then word_at named (codes "Infinity") (length w) else failed invalid_number (length w))
-  named-extent names =
+  named-span names =
       begun.goes names (codes "Infinity")
       ∙ ap (after_minus names named (length w)) (get-after w (codes "nfinity") 73)
-
-  named-read : number_extent true named 0 ≡ taken tt (length named)
-  named-read =
-      named-extent true
-      ∙ word_at-complete named (codes "Infinity") (length w) (length named) (stands-last w (codes "Infinity"))
 
   -- `Infinity` after it is no decimal number
   no-decimal : IsNumberText false named → ⊥
@@ -150,7 +141,7 @@ module _ (w : List ℕ) (begun : IsBegun w stage.Minus) where
       let end : IfSome (slice_get named (length named)) (λ c. continues_number c ≡ false) =
       subst (λ o. IfSome o (λ c. continues_number c ≡ false)) (sym (nothing-after named)) tt in
       failed-taken invalid_number (length w) tt (length named)
-      (sym (named-extent false) ∙ number_extent-complete named false 0 (length named) named all text end)
+      (sym (named-span false) ∙ number_span-complete named false 0 (length named) named all text end)
 
   minus-by : 0 < length w → IsNumberText true named → w ≡ 45 ∷ []
   minus-by some (inl d) = absurd (no-decimal (inl d))
@@ -159,5 +150,6 @@ module _ (w : List ℕ) (begun : IsBegun w stage.Minus) where
   -- a number that has come no further than after its minus has that one byte
   pub begun-minus : 0 < length w → w ≡ 45 ∷ []
   begun-minus some =
-      minus-by some
-      (subst (IsNumberText true) (whole-range named) (number_extent-sound named true 0 (length named) named-read))
+      minus-by some (rw (← whole-range named) (number_span-sound named true 0 (length named)
+      (named-span true ∙ word_at-complete named (codes "Infinity") (length w) (length named)
+      (stands-last w (codes "Infinity")))))

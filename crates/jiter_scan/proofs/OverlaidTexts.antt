@@ -3,7 +3,7 @@ use Rattle.jiter_scan.proofs.Words.{◌≡◌, ℕ, ◌+◌, ◌-◌, ◌≤◌,
 use Rattle.jiter_scan.proofs.Words.{append_assoc, take-take, length-take-le, take-append-add, take_all, length-drop}
 use Rattle.std.proofs.Common.{take-append-drop}
 
--- the first half of the bytes stands, and from a place in it on the last half is laid down
+-- the first half of the bytes is, and from a place in it on the last half is laid down
 pub ends-placed : (a b c text : List ℕ) (at half : ℕ) → at ≤ length a → half ≤ length text → length text ≤ half + half
     → take (at + half) b ≡ take at a ++ take half text
     → take (at + (length text - half) + half) c

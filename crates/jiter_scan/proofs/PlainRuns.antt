@@ -4,13 +4,8 @@ use Rattle.jiter_scan.proofs.Words.{◌∷◌, length, drop, take, get_or, refl,
 use Rattle.jiter_scan.proofs.Words.{take-add, take-take, drop-drop, drop-cons, inl, inr, IsTrue, slice_range}
 use Rattle.jiter_scan.proofs.Words.{length-chunk, list_all-append, prefix_len-le-length, AllPass-from_list_all}
 use Rattle.jiter_scan.proofs.Words.{cases_eq, le-leb, nat_tests, prefix_len, list_all, chunk, count_trailing_zeros}
-use Rattle.jiter_scan.proofs.Words.{is_plain, is_ascii, scan_stop, IsAsciiTo, failing, ascii_from}
-use Rattle.std.proofs.Common.{add-one}
-use Rattle.std.specs.Prelude.{◌↔◌}
-use Rattle.std.proofs.Math.Bool.{and_assoc}
-use Rattle.std.proofs.lemmas.List.Sums.{list_all-from_AllPass}
-use Rattle.std.proofs.lemmas.Bool.{lt-leb}
-use Rattle.jiter_scan.specs.Scan.{is_stop}
+use Rattle.jiter_scan.proofs.Words.{is_plain, is_ascii, scan_stop, IsAsciiTo, failing, ascii_from, add-one, ◌↔◌}
+use Rattle.jiter_scan.proofs.Words.{and_assoc, list_all-from_AllPass, lt-leb, is_stop}
 use Rattle.jiter_scan.proofs.Chunks.{list_all-failing, prefix_len-all, prefix_len-failing, prefix_len-through}
 use Rattle.jiter_scan.proofs.Chunks.{prefix_len-inside, none_fails, one_fails}
 
@@ -91,7 +86,7 @@ ascii_from-byte t i within goes =
     ∙ ap (λ b. list_all is_ascii (take (cond (not b) (1 + n) 0) (get_or t i 0 ∷ drop (i + 1) t))) goes
     ∙ ap (λ k. list_all is_ascii (take k (get_or t i 0 ∷ drop (i + 1) t))) more
 
--- nothing stands before a stop
+-- nothing is before a stop
 pub ascii_from-stop : (t : List ℕ) (i : ℕ) → scan_stop t i ≡ i → ascii_from t i ≡ true
 ascii_from-stop t i stop =
     let none : prefix_len is_plain (drop i t) ≡ 0 = omega arith in

@@ -2,9 +2,8 @@
 use Rattle.jiter_scan.proofs.Words.{◌≡◌, ℕ, ◌+◌, ◌-◌, ◌<◌, ◌≤◌, Bool, true, false, List, [], ◌∷◌, length, drop, get_or}
 use Rattle.jiter_scan.proofs.Words.{zero, suc, refl, sym, ap, ◌∙◌, subst, arith, slice_get, Option, Some, None, IfSome}
 use Rattle.jiter_scan.proofs.Words.{prefix_len, length-drop, get_or-drop, prefix_len-le-length, slice_get_within}
-use Rattle.jiter_scan.proofs.Words.{get_or_from_slice_get, is_digit, run_end, Pass, Stands}
-use Rattle.std.proofs.lemmas.List.Sums.{prefix_len-drop_all, prefix_len-drop_no, prefix_len-drop_yes}
-use Rattle.std.proofs.lemmas.List.Sums.{prefix_len_passes, prefix_len_stops}
+use Rattle.jiter_scan.proofs.Words.{get_or_from_slice_get, is_digit, run_end, Pass, Stands, prefix_len-drop_all}
+use Rattle.jiter_scan.proofs.Words.{prefix_len-drop_no, prefix_len-drop_yes, prefix_len_passes, prefix_len_stops}
 use Rattle.jiter_scan.proofs.Standing.{get-none}
 
 -- the end, or a byte that does not pass
@@ -54,7 +53,7 @@ module _ (test : ℕ → Bool) (t : List ℕ) where
       let byte : get_or (drop i t) n 0 ≡ c = get_or-drop i t n 0 ∙ get_or_from_slice_get t (run_end test t i) c 0 h in
       subst (λ x. test x ≡ false) byte (prefix_len_stops test (drop i t) 0 (omega (arith, inside, length-drop i t)))
 
-  -- a run's bytes stand there, and pass
+  -- a run's bytes are there, and pass
   pub run_end-sound : (n i : ℕ) → run_end test t i ≡ i + n → (w : List ℕ) × Stands t i (i + n) w × Pass test w
   run_end-sound zero i h = ([], omega arith, tt)
   run_end-sound (suc n) i h = by (slice_get t i) refl (λ k e. run_end-sound n k e) where

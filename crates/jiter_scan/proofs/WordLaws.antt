@@ -1,7 +1,7 @@
--- A word is read just where its bytes stand.
+-- A word is read just where its bytes are.
 use Rattle.jiter_scan.proofs.Words.{◌≡◌, ℕ, ◌+◌, ◌<◌, ◌≤◌, ◌≢◌, Bool, cond, List, [], ◌∷◌, length, drop, get_or, refl}
 use Rattle.jiter_scan.proofs.Words.{ap, ◌∙◌, subst, arith, slice_get, Some, None, ◌==◌, drop_more, eq-eqb, ne_eqb}
-use Rattle.jiter_scan.proofs.Words.{eof_value, expected_ident, taken, failed, Stands, Extent, byte_then, word_at}
+use Rattle.jiter_scan.proofs.Words.{eof_value, expected_ident, taken, failed, Stands, Span, byte_then, word_at}
 use Rattle.std.proofs.lemmas.List.{drop_all}
 use Rattle.jiter_scan.proofs.Choices.{if-true}
 use Rattle.jiter_scan.proofs.Scanning.{FaultAt}
@@ -9,13 +9,13 @@ use Rattle.jiter_scan.proofs.NumberRows.{IsWord}
 use Rattle.jiter_scan.proofs.NumberSound.{Spelled, word-spelled}
 use Rattle.jiter_scan.proofs.Standing.{stands-length, stands-within}
 
--- the whole word, or a fault on the way
-abbrev pub WordWithin : List ℕ → List ℕ → ℕ → Extent → Type 0
+-- the whole word, or an error on the way
+abbrev pub WordWithin : List ℕ → List ℕ → ℕ → Span → Type 0
 WordWithin t w i (taken u e) = (e ≡ i + length w) × (e ≤ length t)
 WordWithin t w i (failed k j) = (i ≤ j) × FaultAt t k j
 
 module _ (t : List ℕ) where
-  spelled-within : (w : List ℕ) (i : ℕ) (x : Extent) → i ≤ length t → Spelled t (IsWord w) i x → WordWithin t w i x
+  spelled-within : (w : List ℕ) (i : ℕ) (x : Span) → i ≤ length t → Spelled t (IsWord w) i x → WordWithin t w i x
   spelled-within w i (taken u e) le s =
       let long = stands-length t i e s.0 s.1 in
       let same = ap length s.2 in
@@ -25,7 +25,7 @@ module _ (t : List ℕ) where
   pub word_at-within : (w : List ℕ) (i : ℕ) → i ≤ length t → WordWithin t w i (word_at t w i)
   word_at-within w i le = spelled-within w i (word_at t w i) le (word-spelled t w i)
 
-  -- a word that stands is read
+  -- a word that is there is read
   pub word_at-complete : (w : List ℕ) (i e : ℕ) → Stands t i e w → word_at t w i ≡ taken tt e
   unfolding word_at
   word_at-complete [] i e h = ap (taken tt) h
@@ -34,7 +34,7 @@ module _ (t : List ℕ) where
       ∙ if-true (c == c) _ _ (eq-eqb c c refl)
       ∙ word_at-complete w (i + 1) e h.1
 
-  -- a word that is read stands
+  -- a word that is read is
   pub word_at-sound : (w : List ℕ) (i e : ℕ) (u : Unit {0}) → word_at t w i ≡ taken u e → Stands t i e w
   word_at-sound w i e u h =
       let r = subst (Spelled t (IsWord w) i) h (word-spelled t w i) in subst (Stands t i e) r.2 r.1

@@ -7,7 +7,7 @@ use Rattle.jiter_scan.specs.Scan.{run_end}
 abbrev pub is_digit : ℕ → Bool
 is_digit c = nat_le ascii.digit_zero c && nat_le c ascii.digit_nine
 
--- where the digits that stand at i end
+-- where the digits that are at i end
 abbrev pub digit_run_end : List ℕ → ℕ → ℕ
 digit_run_end t i = run_end is_digit t i
 

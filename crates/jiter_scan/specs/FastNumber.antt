@@ -1,5 +1,5 @@
 -- What a plain number is, after its minus: a short one.
-use Rattle.std.specs.Prelude.{◌≡◌, ◌≢◌, ◌⊎◌, ℕ, ◌+◌, ◌^◌, ◌<◌, ◌≤◌, List, length, slice_range, slice_index, false}
+use Rattle.std.specs.Prelude.{◌≡◌, ◌≢◌, ℕ, ◌+◌, ◌^◌, ◌<◌, ◌≤◌, List, length, slice_range, slice_index, false}
 use Rattle.jiter_scan.specs.Ascii as ascii
 use Rattle.jiter_scan.specs.Digits.{digit_run_end}
 use Rattle.jiter_scan.specs.Number.{float, number_value}
@@ -32,18 +32,6 @@ pub record IsFewDigits (t : List ℕ) (i : ℕ) : Type 0 where
   pub few : digit_run_end t i ≤ i + 15
   pub first : slice_index t i ≢ ascii.digit_zero
   pub alone : is_float_sign (slice_index t (digit_run_end t i)) ≡ false
-
--- the digits from i to before e: a zero at i is the only one, and no part of a float follows
-pub record IsAlone (t : List ℕ) (i e : ℕ) : Type 0 where
-  pub run : digit_run_end t i ≡ e
-  pub first : (e ≡ i + 1) ⊎ (slice_index t i ≢ ascii.digit_zero)
-  pub next : is_float_sign (slice_index t e) ≡ false
-
--- the same of an integer that was found at i
-abbrev pub IsIntAlone : List ℕ → ℕ → FastNumber → Type 0
-IsIntAlone t i (plain.Int n e) = IsAlone t i e
-IsIntAlone t i (plain.Float e) = Unit {0}
-IsIntAlone t i plain.Other = Unit {0}
 
 -- what was found at i: such an integer always is
 abbrev pub IsFastNumber : List ℕ → ℕ → FastNumber → Type 0

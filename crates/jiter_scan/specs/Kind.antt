@@ -1,4 +1,4 @@
--- The kinds of refusal and their texts.
+-- The kinds of error and their texts.
 use Rattle.std.specs.Prelude.{ℕ, Bool, true, false, List, ◌++◌, codes}
 use Rattle.jiter_scan.specs.Quoted.{quoted}
 use Rattle.jiter_scan.specs.declared.errors.JsonErrorType.{JsonErrorType}
@@ -6,7 +6,7 @@ use Rattle.jiter_scan.specs.declared.errors.JsonErrorType.TheVariants as code
 use Rattle.jiter_scan.specs.declared.errors.FaultKind.{FaultKind}
 use Rattle.jiter_scan.specs.declared.errors.FaultKind.TheVariants as fault
 
--- why bytes are refused, and want of memory
+-- why bytes are refused, and a failed allocation
 pub data Kind : Type 0 where
   float_expecting_int : Kind
   eof_list : Kind
@@ -84,7 +84,7 @@ kind_of code.UnexpectedEndOfHexEscape = end_of_hex_escape
 kind_of code.RecursionLimitExceeded = recursion_limit
 kind_of code.OutOfMemory = out_of_memory
 
--- the kind that the code's variant of a fault of the bytes stands for
+-- the kind that the code's variant of an error of the bytes stands for
 abbrev pub fault_kind : FaultKind → Kind
 fault_kind fault.EofWhileParsingList = eof_list
 fault_kind fault.EofWhileParsingObject = eof_object
@@ -121,7 +121,7 @@ is_forgiven expected_list_comma_or_end = true
 is_forgiven expected_object_comma_or_end = true
 is_forgiven k = is_end_kind k
 
--- memory was refused: it says nothing of the bytes
+-- an allocation failed: it says nothing of the bytes
 abbrev pub is_memory : Kind → Bool
 is_memory out_of_memory = true
 is_memory k = false

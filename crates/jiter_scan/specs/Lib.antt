@@ -12,7 +12,7 @@ pub mod Number
 pub mod NumberTests
 pub mod NumberReading
 pub mod NumberDecoder
-pub mod NumberExtent
+pub mod NumberSpan
 pub mod PartialNumber
 pub mod PartialWord
 pub mod NumberWithin

@@ -35,6 +35,6 @@ EndsWithin i len (found.FloatSeen, j) = (i ≤ j) × (j < len)
 abbrev pub magnitude_of : List ℕ → ℕ
 magnitude_of w = min (decimal_of w) (10 ^ 19)
 
--- nothing, or a minus, stands from i to before j
+-- nothing, or a minus, is from i to before j
 abbrev pub IsMinusTo : List ℕ → ℕ → ℕ → Type 0
 IsMinusTo t i j = (j ≡ i) ⊎ ((j ≡ i + 1) × (slice_get t i ≡ Some ascii.minus))

@@ -3,7 +3,7 @@ use Rattle.std.specs.Prelude.{Bool, true, false}
 use Rattle.jiter_scan.specs.declared.partial_mode.PartialMode.{PartialMode}
 use Rattle.jiter_scan.specs.declared.partial_mode.PartialMode.TheVariants.{Off, On, TrailingStrings}
 
--- a cut document is read as far as it goes
+-- a cut document is read up to its end
 abbrev pub is_active : PartialMode → Bool
 is_active Off = false
 is_active On = true

@@ -1,4 +1,4 @@
--- Where an index stands in a text, by line and column, and how errors and positions print.
+-- Where an index is in a text, by line and column, and how errors and positions print.
 use Rattle.std.specs.Prelude.{ℕ, ◌+◌, ◌++◌, Bool, not, List, codes, length, take, reverse, count_by, take_while, nat_eq}
 use Rattle.std.specs.Prelude.{decimal}
 use Rattle.jiter_scan.specs.Ascii as ascii

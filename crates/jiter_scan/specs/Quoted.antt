@@ -1,4 +1,4 @@
--- A key as its fault prints it: between quotes, its quotes, backslashes and controls escaped as Rust's debug form has
+-- A key as its error prints it: between quotes, its quotes, backslashes and controls escaped as Rust's debug form has
 -- them, and all other bytes as they are.
 use Rattle.std.specs.Prelude.{ℕ, ◌+◌, ◌/◌, ◌%◌, ◌==◌, ◌||◌, if◌then◌else◌, List, [], ◌∷◌, ◌++◌, codes}
 use Rattle.std.specs.Prelude.{flat_map, nat_lt}

@@ -21,7 +21,7 @@ Pass test (c ∷ cs) = (test c ≡ true) × Pass test cs
 abbrev pub is_stop : ℕ → Bool
 is_stop c = (c == ascii.quote) || (c == ascii.backslash) || nat_lt c ascii.space
 
--- a byte that a string may hold as it stands
+-- a byte that a string may hold as it is
 abbrev pub is_plain : ℕ → Bool
 is_plain c = not (is_stop c)
 
@@ -33,7 +33,7 @@ scan_stop t i = run_end is_plain t i
 abbrev pub is_ascii : ℕ → Bool
 is_ascii c = nat_lt c 128
 
--- a byte of ASCII that a string may hold as it stands
+-- a byte of ASCII that a string may hold as it is
 abbrev pub is_plain_ascii : ℕ → Bool
 is_plain_ascii c = is_plain c && is_ascii c
 

@@ -4,7 +4,7 @@ use Rattle.jiter_scan.specs.Kind.{Kind, kind_of, fault_kind, is_end_kind, out_of
 use Rattle.jiter_scan.specs.declared.errors.Fault.{Fault}
 use Rattle.jiter_scan.specs.declared.errors.JsonError.{JsonError}
 
--- what was read and the place after it, or a fault's kind and index
+-- what was read and the place after it, or an error's kind and index
 pub data Scanned (A : Type 0) : Type 0 where
   taken : A → ℕ → Scanned A
   failed : Kind → ℕ → Scanned A
@@ -22,13 +22,13 @@ abbrev pub Scans : {X A : Type 0} → (X → Scanned A) → Result X Fault → S
 Scans seen (Ok x) s = s ≡ seen x
 Scans seen (Err f) s = s ≡ failed (fault_kind f.kind) f.index
 
--- A fault of the bytes at j: within the text, at its length where the input ended, and not want of memory.
+-- An error of the bytes at j: within the text, at its length where the input ended, and not a failed allocation.
 pub record FaultAt (t : List ℕ) (k : Kind) (j : ℕ) : Type 0 where
   pub within : j ≤ length t
   pub ends : is_end_kind k ≡ true → j ≡ length t
   pub bytes : k ≢ out_of_memory
 
--- A fault of this text's bytes.
+-- An error of this text's bytes.
 abbrev pub IsFaultOf : List ℕ → Fault → Type 0
 IsFaultOf t f = FaultAt t (fault_kind f.kind) f.index
 

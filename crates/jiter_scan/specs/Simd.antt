@@ -24,7 +24,7 @@ failing test v = mask_l (map (λ c. not (test c)) v)
 abbrev pub is_no_mark : ℕ → Bool
 is_no_mark c = not ((c == ascii.quote) || (c == ascii.backslash))
 
--- no byte below the blank
+-- no byte below the space
 abbrev pub is_no_control : ℕ → Bool
 is_no_control c = nat_le ascii.space c
 

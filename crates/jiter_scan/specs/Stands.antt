@@ -1,4 +1,4 @@
--- Bytes that stand at a place of a text.
+-- Bytes that are at a place of a text.
 use Rattle.std.specs.Prelude.{◌≡◌, ℕ, ◌+◌, List, [], ◌∷◌, slice_get, Some}
 
 -- from i to before j the text has the bytes w

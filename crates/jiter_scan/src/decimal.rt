@@ -23,7 +23,7 @@ pub(crate) fn is_digit(byte: u8) -> bool
 }
 
 #[inline(always)]
-pub(crate) fn full_chunk_at(bytes: &[u8], at: usize) -> [u8; 16]
+pub(crate) fn full_block_at(bytes: &[u8], at: usize) -> [u8; 16]
     requires { at + 16 ≤ length bytes.now }
     ensures { (n : ℕ) → n ≤ 16 → at + n ≤ length bytes.now
         → take n result ≡ slice_range bytes.now at (at + n) }
@@ -33,27 +33,27 @@ pub(crate) fn full_chunk_at(bytes: &[u8], at: usize) -> [u8; 16]
 
 // Bytes past the end of the input are 0.
 #[inline(always)]
-pub(crate) fn chunk_at(bytes: &[u8], at: usize) -> [u8; 16]
+pub(crate) fn block_at(bytes: &[u8], at: usize) -> [u8; 16]
     requires { at ≤ length bytes.now }
     ensures { (n : ℕ) → n ≤ 16 → at + n ≤ length bytes.now
         → take n result ≡ slice_range bytes.now at (at + n) }
 {
     if bytes.len() - at >= 16 {
-        full_chunk_at(bytes, at)
+        full_block_at(bytes, at)
     } else {
         let rest = &bytes[at..];
-        let mut chunk = [0; 16];
-        chunk[..rest.len()].copy_from_slice(rest);
-        chunk
+        let mut block = [0; 16];
+        block[..rest.len()].copy_from_slice(rest);
+        block
     }
 }
 
 /// Returns how many digits the sixteen bytes begin with.
 #[inline(always)]
-pub fn digit_count(chunk: [u8; 16]) -> usize
-    ensures { result ≡ digit_run_end chunk 0 }
+pub fn digit_count(block: [u8; 16]) -> usize
+    ensures { result ≡ digit_run_end block 0 }
 {
-    let others = no_digits(u8x16::from_array(chunk));
+    let others = no_digits(u8x16::from_array(block));
     if others == 0 {
         16
     } else {
@@ -152,14 +152,14 @@ pub(crate) fn joined(prefix: u64, back: u64, count: usize) -> u64
 /// - `count` is from 1 to 16.
 /// - The first `count` bytes are digits. `rt try` does not test that, and for other bytes the result is a wrong number.
 #[inline(always)]
-pub fn digit_word(chunk: [u8; 16], count: usize) -> u64
+pub fn digit_word(block: [u8; 16], count: usize) -> u64
     requires some { 1 ≤ count }
     requires most { count ≤ 16 }
-    requires digits { count ≤ digit_run_end chunk 0 }
-    ensures { result ≡ decimal_of (take count chunk) }
+    requires digits { count ≤ digit_run_end block 0 }
+    ensures { result ≡ decimal_of (take count block) }
 {
     // A digit less 30 hex is its value.
-    let digits = u8x16::from_array(chunk) - u8x16::splat(b'0');
+    let digits = u8x16::from_array(block) - u8x16::splat(b'0');
     let [low, high] = u64x2::from_le_bytes(digits).to_array();
     if count <= 8 {
         first_digits(low, count)

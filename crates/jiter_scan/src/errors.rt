@@ -123,8 +123,7 @@ impl Error for JsonError {}
 
 /// A kind of error that the bytes can cause.
 ///
-/// Each variant means what the variant of [`JsonErrorType`] with its name means. `FloatExpectingInt` and `OutOfMemory`
-/// have none here.
+/// Each variant has the meaning of its namesake in [`JsonErrorType`]. `FloatExpectingInt` and `OutOfMemory` have none.
 #[derive(Debug, Clone, Copy, PartialEq, Eq)]
 pub enum FaultKind {
     EofWhileParsingList,
@@ -243,7 +242,7 @@ impl JsonError {
         Ok(self.describe(alloc, bytes)?)
     }
 
-    // An `AllocFailed` shows that an allocation failed. The public call's `AllocError` is made of one.
+    // Fails only if an allocation failed: the error is the evidence, from which the public call makes an `AllocError`.
     fn describe(&self, alloc: Global, bytes: &[u8]) -> Result<String, AllocFailed>
         ensures { IfOk result (λ text. string_bytes text
             ≡ description_text (kind_of self.now.error_type) self.now.index bytes.now) }
@@ -255,7 +254,7 @@ impl JsonError {
     }
 }
 
-/// Appends ` at line L column C` to a string.
+/// Appends ` at line L column C` to a string. Fails only if an allocation fails.
 pub fn push_position(text: &mut String, position: &LinePosition) -> Result<(), AllocFailed>
     ensures { OnOk result (string_bytes text.new
         ≡ string_bytes text.old ++ (codes " at " ++ position_text position.now)) }

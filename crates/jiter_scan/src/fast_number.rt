@@ -2,15 +2,15 @@
 ghost use Rattle.std.specs.Prelude.{◌≡◌, ◌≢◌, ◌⊎◌, ◌==◌, ◌||◌, ◌<◌, ◌≤◌, ◌+◌, ◌^◌, IfSome, length, pos};
 ghost use Rattle.std.specs.Prelude.{slice_get, slice_range, slice_index, true, false, if◌then◌else◌};
 ghost use Rattle.jiter_scan.specs.Words.{decimal_of, digit_run_end, is_digit, minus_of, magnitude_of};
-ghost use Rattle.jiter_scan.specs.Words.{extent_then, digits_from, fraction_at, power_from, exponent_at};
-ghost use Rattle.jiter_scan.specs.Words.{is_float_sign, taken, IsPlainInteger, IsFastNumber, IsIntAlone};
+ghost use Rattle.jiter_scan.specs.Words.{span_then, digits_from, fraction_at, power_from, exponent_at};
+ghost use Rattle.jiter_scan.specs.Words.{is_float_sign, taken, IsPlainInteger, IsFastNumber};
 ghost use Rattle.jiter_scan.specs.Ascii as ascii;
 
-use crate::decimal::{chunk_at, digit_count, digit_word, full_chunk_at, is_digit};
+use crate::decimal::{digit_count, digit_word, full_block_at, is_digit};
 use crate::number_decoder::{digits_magnitude, is_float_sign};
 
 // How many bytes, from a number's first digit on, the fast path reads first.
-const REACH: usize = 16;
+const BLOCK_SIZE: usize = 16;
 
 /// What the fast path finds at a number's first digit.
 #[derive(Debug, Clone, Copy, PartialEq, Eq)]
@@ -29,8 +29,8 @@ fn few_digits_end(bytes: &[u8], at: usize) -> Option<usize>
     requires { at + 16 ≤ length bytes.now }
     ensures { IfSome result (λ e. (digit_run_end bytes.now at ≡ e) × (at < e)) }
 {
-    let chunk = full_chunk_at(bytes, at);
-    let count = digit_count(chunk);
+    let block = full_block_at(bytes, at);
+    let count = digit_count(block);
     if count == 0 || count > 15 {
         return None;
     }
@@ -45,7 +45,7 @@ fn more_digits_end(bytes: &[u8], at: usize) -> Option<usize>
     ensures { IfSome result
         (λ e. (digit_run_end bytes.now at ≡ e) × (at < e) × (e < at + 32)) }
 {
-    let back = full_chunk_at(bytes, at + 16);
+    let back = full_block_at(bytes, at + 16);
     let more = digit_count(back);
     if more > 15 {
         return None;
@@ -63,8 +63,8 @@ fn fast_fraction_end(bytes: &[u8], at: usize) -> Option<usize>
     if bytes[at] != b'.' {
         return Some(at);
     }
-    let chunk = full_chunk_at(bytes, at + 1);
-    let count = digit_count(chunk);
+    let block = full_block_at(bytes, at + 1);
+    let count = digit_count(block);
     if count == 0 {
         return None;
     }
@@ -123,7 +123,7 @@ fn fast_exponent_end(bytes: &[u8], at: usize) -> Option<usize>
 fn fast_float_end(bytes: &[u8], at: usize) -> Option<usize>
     requires { at ≤ length bytes.now }
     ensures { IfSome result
-        (λ e. extent_then (fraction_at bytes.now at) (exponent_at bytes.now) ≡ taken tt e) }
+        (λ e. span_then (fraction_at bytes.now at) (exponent_at bytes.now) ≡ taken tt e) }
 {
     if bytes.len() - at < 33 {
         return None;
@@ -136,16 +136,15 @@ fn fast_float_end(bytes: &[u8], at: usize) -> Option<usize>
 
 // Sixteen to eighteen digits: a number of nineteen may be greater than any `i64`.
 #[inline(always)]
-fn two_chunks_at(bytes: &[u8], at: usize) -> FastNumber
+fn two_blocks_at(bytes: &[u8], at: usize) -> FastNumber
     requires within { at + 16 ≤ length bytes.now }
     requires digits { at + 16 ≤ digit_run_end bytes.now at }
-    ensures number { IsFastNumber bytes.now at result }
-    ensures alone { IsIntAlone bytes.now at result }
+    ensures { IsFastNumber bytes.now at result }
 {
     if bytes.len() - at < 32 {
         return FastNumber::Other;
     }
-    let back = full_chunk_at(bytes, at + 16);
+    let back = full_block_at(bytes, at + 16);
     let more = digit_count(back);
     if more > 2 || bytes[at] <= b'0' {
         return FastNumber::Other;
@@ -176,20 +175,19 @@ fn may_lead(first: u8, count: usize) -> bool
 #[inline(always)]
 pub(crate) fn padded_number_at(bytes: &[u8], at: usize) -> FastNumber
     requires { at + 16 ≤ length bytes.now }
-    ensures number { IsFastNumber bytes.now at result }
-    ensures alone { IsIntAlone bytes.now at result }
+    ensures { IsFastNumber bytes.now at result }
 {
-    let chunk = full_chunk_at(bytes, at);
-    let count = digit_count(chunk);
+    let block = full_block_at(bytes, at);
+    let count = digit_count(block);
     if count > 15 {
-        return two_chunks_at(bytes, at);
+        return two_blocks_at(bytes, at);
     }
     if !may_lead(bytes[at], count) {
         return FastNumber::Other;
     }
     let end = at + count;
     if !goes_on(bytes[end]) {
-        return FastNumber::Int(digit_word(chunk, count), end);
+        return FastNumber::Int(digit_word(block, count), end);
     }
     match fast_float_end(bytes, end) {
         Some(after) => FastNumber::Float(after),
@@ -197,8 +195,8 @@ pub(crate) fn padded_number_at(bytes: &[u8], at: usize) -> FastNumber
     }
 }
 
-// Reads the last bytes of the input, with zeros after them. Returns an integer's magnitude and the index after it, in
-// registers. The index is 0 if the slow path must read the number.
+// Reads the last bytes of the input one by one. Returns an integer's magnitude and the index after it, or the index 0 if
+// the slow path must read the number. Two numbers are returned in registers, but not an `Option` of two.
 #[cold]
 #[inline(never)]
 fn last_integer_at(bytes: &[u8], at: usize) -> (u64, usize)
@@ -206,19 +204,28 @@ fn last_integer_at(bytes: &[u8], at: usize) -> (u64, usize)
     requires last { length bytes.now < at + 16 }
     ensures { 0 < result.1 → IsPlainInteger bytes.now at result.0 result.1 }
 {
-    match padded_number_at(&chunk_at(bytes, at), 0) {
-        FastNumber::Int(magnitude, count) if count <= bytes.len() - at => (magnitude, at + count),
-        _ => (0, 0),
+    let mut end = at;
+    let mut magnitude = 0u64;
+    'digits: while end < bytes.len() && is_digit(bytes[end]) {
+        magnitude = magnitude * 10 + (bytes[end] - b'0') as u64;
+        end += 1;
     }
+    if end == at || !may_lead(bytes[at], end - at) {
+        return (0, 0);
+    }
+    if end < bytes.len() && goes_on(bytes[end]) {
+        return (0, 0);
+    }
+    (magnitude, end)
 }
 
-/// Returns the number whose first digit is at `at`, if it is short. Its minus, if it has one, is before `at`.
+/// Returns the number whose first digit is at `at`, if it is short. A minus is before `at`. Requires `at` ≤ the length.
 #[inline(always)]
 pub fn fast_number_at(bytes: &[u8], at: usize) -> FastNumber
     requires { at ≤ length bytes.now }
     ensures { IsFastNumber bytes.now at result }
 {
-    if bytes.len() - at < REACH {
+    if bytes.len() - at < BLOCK_SIZE {
         return match last_integer_at(bytes, at) {
             (_, 0) => FastNumber::Other,
             (magnitude, end) => FastNumber::Int(magnitude, end),

@@ -1,13 +1,13 @@
-//! What all readers of JSON need: errors and positions, requests for memory, literals, numbers, scans of strings, and
-//! the modes of partial reading.
+//! What all readers of JSON need: errors, positions, allocations, literals, numbers, scans of strings, partial modes.
 #![tactic(auto)]
 
 pub mod decimal;
+pub mod decode_buffer;
 pub mod errors;
 pub mod fast_number;
 pub mod memory;
 pub mod number_decoder;
-pub mod number_extent;
+pub mod number_span;
 pub mod number_within;
 pub mod partial_mode;
 pub mod partial_number;
@@ -15,7 +15,6 @@ pub mod partial_word;
 pub mod print_buffer;
 pub mod short_scan;
 pub mod simd;
-pub mod tape;
 pub mod text;
 pub mod word;
 

@@ -1,5 +1,4 @@
-//! The requests for memory that the parser makes. One that fails returns a [`AllocFailed`], which only this module can
-//! make.
+//! The allocations that the parser makes. One that fails returns [`AllocFailed`], which only this module can make.
 ghost use Rattle.std.specs.Prelude.{◌≡◌, ◌+◌, ◌^◌, ◌<◌, ◌≤◌, ◌∷◌, ◌++◌, [], take, drop, IfOk, OnOk, OnErr};
 ghost use Rattle.std.specs.Prelude.{decimal, length, replicate, string_bytes, string_capacity, string_len};
 ghost use Rattle.std.specs.Prelude.{vec_capacity, false, not, true, vec_len, encode_utf8, IsAscii};
@@ -167,8 +166,7 @@ fn begin_text(text: &mut String, count: usize) -> Result<(), AllocFailed>
 
 /// Appends bytes below 80 hex.
 ///
-/// If they are two or more and the string has no capacity yet, it reserves 32 bytes at least. So a string that grows in
-/// chunks seldom moves.
+/// For two or more bytes, a string without capacity gets 32 bytes at least: one that grows in chunks then seldom moves.
 #[inline(always)]
 pub fn push_ascii(text: &mut String, bytes: &[u8]) -> Result<(), AllocFailed>
     requires { IsAscii bytes.now }

@@ -9,10 +9,10 @@ ghost use Rattle.jiter_scan.specs.Words.{int_alone, int_view, number_view, integ
 ghost use Rattle.jiter_scan.specs.Words.{magnitude_of, IsMinusTo, int_part_at, decimal_at};
 ghost use Rattle.jiter_scan.specs.Ascii as ascii;
 
-use crate::decimal::{chunk_at, digit_run_end, digit_word, joined};
+use crate::decimal::{block_at, digit_run_end, digit_word, joined};
 use crate::errors::{Fault, FaultKind, JsonError, JsonResult, fault_at};
 use crate::fast_number::{FastNumber, fast_number_at};
-use crate::number_extent::{Extent, minus_end, name_from, number_extent};
+use crate::number_span::{Span, non_finite_from, number_span, skip_minus};
 use crate::partial_number::{Stage, is_int_stage, stages_end};
 use crate::text::ascii_text;
 use crate::word::byte_at;
@@ -160,11 +160,11 @@ pub(crate) fn digits_magnitude(bytes: &[u8], at: usize, end: usize) -> u64
     if count > 19 {
         return MAGNITUDE_LIMIT;
     }
-    let first = digit_word(chunk_at(bytes, at), count.min(16));
+    let first = digit_word(block_at(bytes, at), count.min(16));
     if count <= 16 {
         return first;
     }
-    let back = digit_word(chunk_at(bytes, at + 16), count - 16);
+    let back = digit_word(block_at(bytes, at + 16), count - 16);
     joined(first, back, count - 16)
 }
 
@@ -222,12 +222,12 @@ pub fn slow_number_at<'j>(
     ensures value { Scans (with_end number_view) result (number_at allow_inf_nan bytes.now at) }
     ensures place { IfOk result (λ x. (at < x.1) × (x.1 ≤ length bytes.now)) }
 {
-    match number_extent(bytes, at, allow_inf_nan) {
-        Ok(Extent::Int(digits, end)) => {
+    match number_span(bytes, at, allow_inf_nan) {
+        Ok(Span::Int(digits, end)) => {
             let number = long_integer(bytes, at, digits, end);
             Ok((NumberAny::Int(number), end))
         }
-        Ok(Extent::Float(end)) => {
+        Ok(Span::Float(end)) => {
             let text = ascii_text(&bytes[at..end]);
             Ok((NumberAny::Float(text), end))
         }
@@ -235,11 +235,9 @@ pub fn slow_number_at<'j>(
     }
 }
 
-/// Returns the number at `at` and the index after it (RFC 8259, 6). With `allow_inf_nan`, `NaN`, `Infinity` and
-/// `-Infinity` are numbers too.
+/// Returns the number at `at` and the index after it (RFC 8259, 6). With `allow_inf_nan` it may be a non-finite number.
 ///
-/// Fails as [`NumberAny::from_bytes`] does, except that any byte may follow the number. Indices count from the start of
-/// `bytes`.
+/// Fails as [`NumberAny::from_bytes`] does, but any byte may follow the number. Indices count from the first byte.
 #[inline(always)]
 pub fn number_at<'j>(
     bytes: &'j [u8],
@@ -250,7 +248,7 @@ pub fn number_at<'j>(
     ensures value { Scans (with_end number_view) result (number_at allow_inf_nan bytes.now at) }
     ensures advances { IfOk result (λ x. (at < x.1) × (x.1 ≤ length bytes.now)) }
 {
-    let digits = minus_end(bytes, at);
+    let digits = skip_minus(bytes, at);
     match fast_number_at(bytes, digits) {
         FastNumber::Int(magnitude, end) => {
             let number = integer_of(bytes, at, digits, end, magnitude);
@@ -278,8 +276,8 @@ fn slow_int_at<'j>(bytes: &'j [u8], at: usize) -> Result<(Integer<'j>, usize), F
     ensures value { Scans (with_end integer_view) result (int_at bytes.now at) }
     ensures advances { IfOk result (EndsWithin at (length bytes.now)) }
 {
-    let digits = minus_end(bytes, at);
-    if name_from(bytes, at, digits).is_some() {
+    let digits = skip_minus(bytes, at);
+    if non_finite_from(bytes, at, digits).is_some() {
         return Ok((Integer::FloatSeen, digits));
     }
     let (stage, end, ended) = stages_end(Stage::Minus, bytes, digits);
@@ -309,7 +307,7 @@ pub fn int_at<'j>(bytes: &'j [u8], at: usize) -> Result<(Integer<'j>, usize), Fa
     ensures value { Scans (with_end integer_view) result (int_at bytes.now at) }
     ensures advances { IfOk result (EndsWithin at (length bytes.now)) }
 {
-    let digits = minus_end(bytes, at);
+    let digits = skip_minus(bytes, at);
     match fast_number_at(bytes, digits) {
         FastNumber::Int(magnitude, end) => {
             let number = integer_of(bytes, at, digits, end, magnitude);

@@ -7,21 +7,21 @@ use crate::number_decoder::{NumberAny, number_at};
 
 // A complete number ends with a digit, so a sign doesn't continue it.
 #[inline(always)]
-fn ends_number(piece: &[u8], end: usize) -> bool
-    ensures { result ≡ true → EndsNumber piece.now end }
+fn ends_number(chunk: &[u8], end: usize) -> bool
+    ensures { result ≡ true → EndsNumber chunk.now end }
 {
-    end < piece.len() && !matches!(piece[end], b'0'..=b'9' | b'.' | b'e' | b'E')
+    end < chunk.len() && !matches!(chunk[end], b'0'..=b'9' | b'.' | b'e' | b'E')
 }
 
 /// Returns the number at `at` and the index after it, if the chunk also has the byte that ends it.
 ///
 /// Returns `None` if the number may go on in the next chunk, has an error, or if no number begins at `at`.
-pub fn number_within(piece: &[u8], at: usize) -> Option<(NumberAny<'_>, usize)>
-    requires { at < length piece.now }
-    ensures { IfSome result (λ found. EndsWithin piece.now at (number_view found.0) found.1) }
+pub fn number_within(chunk: &[u8], at: usize) -> Option<(NumberAny<'_>, usize)>
+    requires { at < length chunk.now }
+    ensures { IfSome result (λ found. EndsWithin chunk.now at (number_view found.0) found.1) }
 {
-    match number_at(piece, at, false) {
-        Ok((number, end)) if ends_number(piece, end) => Some((number, end)),
+    match number_at(chunk, at, false) {
+        Ok((number, end)) if ends_number(chunk, end) => Some((number, end)),
         _ => None,
     }
 }

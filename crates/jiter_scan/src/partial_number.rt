@@ -1,11 +1,10 @@
-//! Numbers that a chunk may truncate (RFC 8259, 6). All bytes of a chunk that continue a number are taken at once, and
-//! a stage says how far it was read.
+//! Numbers that a chunk may truncate (RFC 8259, 6). A chunk's bytes are taken at once; a stage says how far we read.
 ghost use Rattle.std.specs.Prelude.{◌≡◌, ◌+◌, ◌-◌, ◌<◌, ◌≤◌, ◌++◌, [], Bool, IfOk, IfSome, List, None, OnErr};
 ghost use Rattle.std.specs.Prelude.{OnOk, Some, false, length, slice_get, slice_index, slice_range};
 ghost use Rattle.std.specs.Prelude.{string_bytes, string_capacity, string_len, true, ℕ, IsAscii};
-ghost use Rattle.jiter_scan.specs.Words.{big, integer, is_float_byte, number_value, minus_end, exponent_at};
-ghost use Rattle.jiter_scan.specs.Words.{decimal_at, int_part_at, number_extent, number_at, Scans, taken};
-ghost use Rattle.jiter_scan.specs.Words.{BeginsThere, Fits, GoesTo, HoldsNumber, IsBegun, Leads, at_end};
+ghost use Rattle.jiter_scan.specs.Words.{big, integer, is_float_byte, number_value, skip_minus, exponent_at};
+ghost use Rattle.jiter_scan.specs.Words.{decimal_at, int_part_at, number_span, number_at, Scans, taken};
+ghost use Rattle.jiter_scan.specs.Words.{BeginsThere, Fits, GoesTo, HoldsNumber, IsBegun, StepsTo, at_end};
 ghost use Rattle.jiter_scan.specs.Words.{begins_decimal, is_int_stage, is_whole, kept_bytes, kind_view};
 ghost use Rattle.jiter_scan.specs.Words.{number_by, number_from, own_view, tail_at};
 
@@ -13,7 +12,7 @@ use crate::decimal::{digit_run_end, is_digit};
 use crate::errors::{Fault, FaultKind, fault_at};
 use crate::memory::{AllocFailed, push_text};
 use crate::number_decoder::{NumberInt, long_integer};
-use crate::number_extent::minus_end;
+use crate::number_span::skip_minus;
 use crate::text::ascii_text;
 use std::alloc::Global;
 use std::{cmp, mem};
@@ -44,7 +43,7 @@ pub enum Stage {
 
 /// What the next byte is to a number.
 #[derive(Clone, Copy, Debug, PartialEq, Eq)]
-pub enum Went {
+pub enum NumberStep {
     /// A byte of the number, which brings it to this stage.
     Taken(Stage),
     /// No byte of the number, which ends before it.
@@ -82,7 +81,7 @@ pub enum OwnNumber {
 fn first_stage(byte: u8) -> Stage
     requires { begins_decimal byte ≡ true }
     ensures leads { (names : Bool) (t : List ℕ) (j : ℕ) → slice_get t j ≡ Some byte
-        → number_extent names t j ≡ number_from names result t (j + 1) }
+        → number_span names t j ≡ number_from names result t (j + 1) }
     ensures whole { is_int_stage result ≡ true }
     ensures byte { (byte < 128) × (is_float_byte byte ≡ false) }
 {
@@ -97,29 +96,31 @@ fn first_stage(byte: u8) -> Stage
 
 #[inline(always)]
 #[tactic(auto, using(crate::proofs::OpenNumbers::next_digits))]
-fn next_of(stage: Stage, byte: u8) -> Went
-    ensures leads { Leads stage byte result }
+fn next_of(stage: Stage, byte: u8) -> NumberStep
+    ensures leads { StepsTo stage byte result }
     ensures fits { Fits stage byte result }
 {
     if is_digit(byte) {
         return match stage {
-            Stage::Minus if byte == b'0' => Went::Taken(Stage::Zero),
-            Stage::Minus => Went::Taken(Stage::Digits(MORE_DIGITS)),
-            Stage::Zero => Went::Invalid,
-            Stage::Digits(room) if room == 0 => Went::TooLong,
-            Stage::Digits(room) => Went::Taken(Stage::Digits(room - 1)),
-            Stage::Point | Stage::Fraction => Went::Taken(Stage::Fraction),
-            Stage::Letter | Stage::Sign | Stage::Exponent => Went::Taken(Stage::Exponent),
+            Stage::Minus if byte == b'0' => NumberStep::Taken(Stage::Zero),
+            Stage::Minus => NumberStep::Taken(Stage::Digits(MORE_DIGITS)),
+            Stage::Zero => NumberStep::Invalid,
+            Stage::Digits(room) if room == 0 => NumberStep::TooLong,
+            Stage::Digits(room) => NumberStep::Taken(Stage::Digits(room - 1)),
+            Stage::Point | Stage::Fraction => NumberStep::Taken(Stage::Fraction),
+            Stage::Letter | Stage::Sign | Stage::Exponent => NumberStep::Taken(Stage::Exponent),
         };
     }
     let letter = byte == b'e' || byte == b'E';
     match stage {
-        Stage::Minus if byte == b'I' => Went::Named,
-        Stage::Letter if byte == b'+' || byte == b'-' => Went::Taken(Stage::Sign),
-        Stage::Minus | Stage::Point | Stage::Letter | Stage::Sign => Went::Invalid,
-        Stage::Zero | Stage::Digits(_) if byte == b'.' => Went::Taken(Stage::Point),
-        Stage::Zero | Stage::Digits(_) | Stage::Fraction if letter => Went::Taken(Stage::Letter),
-        Stage::Zero | Stage::Digits(_) | Stage::Fraction | Stage::Exponent => Went::Over,
+        Stage::Minus if byte == b'I' => NumberStep::Named,
+        Stage::Letter if byte == b'+' || byte == b'-' => NumberStep::Taken(Stage::Sign),
+        Stage::Minus | Stage::Point | Stage::Letter | Stage::Sign => NumberStep::Invalid,
+        Stage::Zero | Stage::Digits(_) if byte == b'.' => NumberStep::Taken(Stage::Point),
+        Stage::Zero | Stage::Digits(_) | Stage::Fraction if letter => NumberStep::Taken(
+            Stage::Letter,
+        ),
+        Stage::Zero | Stage::Digits(_) | Stage::Fraction | Stage::Exponent => NumberStep::Over,
     }
 }
 
@@ -161,8 +162,7 @@ fn run_end(stage: Stage, bytes: &[u8], at: usize) -> (Stage, usize)
     }
 }
 
-// Returns the stage after all bytes at `at` that continue the number, the index after them, and the error if the number
-// can't end there.
+// Returns the stage after all bytes at `at` that continue the number, the index there, and the error if it can't end.
 #[tactic(auto, using(std::proofs::lemmas::Option::gets, crate::proofs::NumberParts::goes_next))]
 pub(crate) fn stages_end(stage: Stage, bytes: &[u8], at: usize) -> (Stage, usize, Result<(), Fault>)
     requires { at ≤ length bytes.now }
@@ -173,16 +173,16 @@ pub(crate) fn stages_end(stage: Stage, bytes: &[u8], at: usize) -> (Stage, usize
     let mut end = at;
     while end < bytes.len() {
         match next_of(reached, bytes[end]) {
-            Went::Taken(next) => (reached, end) = run_end(next, bytes, end + 1),
-            Went::Over => return (reached, end, Ok(())),
-            Went::TooLong => {
+            NumberStep::Taken(next) => (reached, end) = run_end(next, bytes, end + 1),
+            NumberStep::Over => return (reached, end, Ok(())),
+            NumberStep::TooLong => {
                 return (
                     reached,
                     end,
                     Err(fault_at(FaultKind::NumberOutOfRange, end + 1)),
                 );
             }
-            Went::Named | Went::Invalid => {
+            NumberStep::Named | NumberStep::Invalid => {
                 return (reached, end, Err(fault_at(FaultKind::InvalidNumber, end)));
             }
         }
@@ -198,15 +198,14 @@ pub(crate) fn stages_end(stage: Stage, bytes: &[u8], at: usize) -> (Stage, usize
     }
 }
 
-/// Returns the stage that the bytes of the number at `at` reach, and the index after them. The number begins with a
-/// minus or a digit.
+/// Returns the stage and the index that the bytes of the number at `at` reach. Requires a minus or a digit there.
 #[inline(always)]
-pub fn begun_at(piece: &[u8], at: usize) -> (Stage, usize)
-    requires within { at < length piece.now }
-    requires begins { begins_decimal (slice_index piece.now at) ≡ true }
-    ensures { BeginsThere piece.now at result.0 result.1 }
+pub fn begun_at(chunk: &[u8], at: usize) -> (Stage, usize)
+    requires within { at < length chunk.now }
+    requires begins { begins_decimal (slice_index chunk.now at) ≡ true }
+    ensures { BeginsThere chunk.now at result.0 result.1 }
 {
-    let (stage, end, _) = stages_end(first_stage(piece[at]), piece, at + 1);
+    let (stage, end, _) = stages_end(first_stage(chunk[at]), chunk, at + 1);
     (stage, end)
 }
 
@@ -229,16 +228,16 @@ impl PartialNumber {
     }
 
     #[inline(always)]
-    fn take(&mut self, stage: Stage, piece: &[u8], at: usize, end: usize) -> Result<(), AllocFailed>
-        requires within { (at ≤ end) × (end ≤ length piece.now) }
-        requires ascii { IsAscii (slice_range piece.now at end) }
+    fn take(&mut self, stage: Stage, chunk: &[u8], at: usize, end: usize) -> Result<(), AllocFailed>
+        requires within { (at ≤ end) × (end ≤ length chunk.now) }
+        requires ascii { IsAscii (slice_range chunk.now at end) }
         ensures taken { OnOk result ((self.new.stage ≡ stage)
-            × (string_bytes self.new.text ≡ string_bytes self.old.text ++ slice_range piece.now at end)) }
+            × (string_bytes self.new.text ≡ string_bytes self.old.text ++ slice_range chunk.now at end)) }
         ensures refused { OnErr result
             ((string_bytes self.new.text ≡ string_bytes self.old.text) × (self.new.stage ≡ self.old.stage)) }
         ensures full { OnErr result (string_capacity self.old.text < string_len self.old.text + (end - at)) }
     {
-        push_text(&mut self.text, ascii_text(&piece[at..end]))?;
+        push_text(&mut self.text, ascii_text(&chunk[at..end]))?;
         self.stage = stage;
         Ok(())
     }
@@ -247,24 +246,24 @@ impl PartialNumber {
     /// `at`. If the allocation fails, nothing changes.
     pub fn begin(
         &mut self,
-        piece: &[u8],
+        chunk: &[u8],
         at: usize,
         stage: Stage,
         end: usize,
     ) -> Result<(), AllocFailed>
         requires none { string_bytes self.old.text ≡ [] }
-        requires begun { BeginsThere piece.now at stage end }
-        ensures held { OnOk result (HoldsNumber self.new (slice_range piece.now at end)) }
+        requires begun { BeginsThere chunk.now at stage end }
+        ensures held { OnOk result (HoldsNumber self.new (slice_range chunk.now at end)) }
         ensures refused { OnErr result
             ((string_bytes self.new.text ≡ []) × (self.new.stage ≡ self.old.stage)) }
         ensures full { OnErr result (string_capacity self.old.text < end - at) }
     {
-        self.take(stage, piece, at, end)
+        self.take(stage, chunk, at, end)
     }
 
     /// Returns what the next byte is to the number. The byte is not taken.
-    pub fn next(&self, byte: u8) -> Went
-        ensures leads { Leads self.now.stage byte result }
+    pub fn next(&self, byte: u8) -> NumberStep
+        ensures leads { StepsTo self.now.stage byte result }
         ensures fits { Fits self.now.stage byte result }
     {
         next_of(self.stage, byte)
@@ -272,20 +271,20 @@ impl PartialNumber {
 
     /// Takes the byte at `at` and all bytes after it that continue the number, and returns how many. `stage` is what
     /// [`next`](PartialNumber::next) returned for the byte. If the allocation fails, nothing changes.
-    pub fn more(&mut self, stage: Stage, piece: &[u8], at: usize) -> Result<usize, AllocFailed>
-        requires within { at < length piece.now }
-        requires leads { Leads self.old.stage (slice_index piece.now at) (Went.Taken stage) }
-        requires fits { Fits self.old.stage (slice_index piece.now at) (Went.Taken stage) }
-        ensures part { IfOk result (λ n. (0 < n) × (at + n ≤ length piece.now)) }
+    pub fn more(&mut self, stage: Stage, chunk: &[u8], at: usize) -> Result<usize, AllocFailed>
+        requires within { at < length chunk.now }
+        requires leads { StepsTo self.old.stage (slice_index chunk.now at) (NumberStep.Taken stage) }
+        requires fits { Fits self.old.stage (slice_index chunk.now at) (NumberStep.Taken stage) }
+        ensures part { IfOk result (λ n. (0 < n) × (at + n ≤ length chunk.now)) }
         ensures held { IfOk result (λ n. (w : List ℕ) → HoldsNumber self.old w
-            → HoldsNumber self.new (w ++ slice_range piece.now at (at + n))) }
+            → HoldsNumber self.new (w ++ slice_range chunk.now at (at + n))) }
         ensures refused { OnErr result
             ((string_bytes self.new.text ≡ string_bytes self.old.text) × (self.new.stage ≡ self.old.stage)) }
         ensures full { OnErr result (string_capacity self.old.text
-            < string_len self.old.text + (length piece.now - at)) }
+            < string_len self.old.text + (length chunk.now - at)) }
     {
-        let (after, end, _) = stages_end(stage, piece, at + 1);
-        self.take(after, piece, at, end)?;
+        let (after, end, _) = stages_end(stage, chunk, at + 1);
+        self.take(after, chunk, at, end)?;
         Ok(end - at)
     }
 
@@ -308,7 +307,7 @@ impl PartialNumber {
             return NumberKind::Float;
         }
         let text = self.text.as_bytes();
-        match long_integer(text, 0, minus_end(text, 0), text.len()) {
+        match long_integer(text, 0, skip_minus(text, 0), text.len()) {
             NumberInt::Int(number) => NumberKind::Int(number),
             NumberInt::BigInt(_) => NumberKind::BigInt,
         }
@@ -331,8 +330,7 @@ impl PartialNumber {
         mem::replace(&mut self.text, String::new(alloc))
     }
 
-    /// Returns the number, and moves its source text into it. For an `i64` the bytes stay here. The bytes so far must
-    /// be a number.
+    /// Returns the number, with its source text moved out, unless it is an `i64`. Requires that the bytes are a number.
     ///
     /// Does not allocate, and reads at most 20 bytes.
     pub fn take_value(&mut self) -> OwnNumber

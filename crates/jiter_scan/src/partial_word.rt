@@ -6,7 +6,7 @@ ghost use Rattle.jiter_scan.specs.PartialWord.{word_by, word_from};
 
 /// What a byte is to a word.
 #[derive(Clone, Copy, Debug, PartialEq, Eq)]
-pub enum Seen {
+pub enum WordStep {
     /// The word's next byte, and not its last one.
     Part,
     /// The word's last byte. The word ends here, whatever the next byte is.
@@ -34,20 +34,20 @@ impl PartialWord {
     }
 
     /// Returns what the next byte is to the word. A `Part` counts as read.
-    pub fn next(&mut self, byte: u8) -> Seen
+    pub fn next(&mut self, byte: u8) -> WordStep
         ensures leads { (t : List ℕ) (j : ℕ) → slice_get t j ≡ Some byte
             → word_from self.old.word.now self.old.seen t j
             ≡ word_by self.old.word.now self.new.seen t j result }
         ensures word { self.new.word ≡ self.old.word }
     {
         if self.word[self.seen] != byte {
-            return Seen::Other;
+            return WordStep::Other;
         }
         if self.seen + 1 == self.word.len() {
-            return Seen::Last;
+            return WordStep::Last;
         }
         self.seen += 1;
-        Seen::Part
+        WordStep::Part
     }
 
     /// Returns all bytes of the word.

@@ -1,4 +1,4 @@
-//! Writes strings to a tape, and tests whether bytes are plain. A short string is written by two copies of a fixed
+//! Writes strings to a buffer, and tests whether bytes are plain. A short string is written by two copies of a fixed
 //! size, which may overlap. The test reads sixteen bytes at a time, and may read past the string's end.
 ghost use Rattle.std.specs.Prelude.{◌≡◌, ◌+◌, ◌≤◌, ◌++◌, OnOk, length, nat_le, take, vec_len};
 ghost use Rattle.jiter_scan.specs.Scan.{scan_stop};
@@ -11,23 +11,23 @@ use std::simd::prelude::*;
 // The 1024 extra bytes keep this call rare.
 #[cold]
 #[inline(never)]
-fn enlarge(tape: &mut Vec<u8>, text: &[u8]) -> Result<(), AllocFailed>
-    ensures room { OnOk result (vec_len tape.old + length text.now + 32 ≤ vec_len tape.new) }
-    ensures kept { take (vec_len tape.old) tape.new.items ≡ tape.old.items }
+fn enlarge(buffer: &mut Vec<u8>, text: &[u8]) -> Result<(), AllocFailed>
+    ensures room { OnOk result (vec_len buffer.old + length text.now + 32 ≤ vec_len buffer.new) }
+    ensures kept { take (vec_len buffer.old) buffer.new.items ≡ buffer.old.items }
 {
-    lengthen(tape, 1024)?;
-    lengthen(tape, text.len())
+    lengthen(buffer, 1024)?;
+    lengthen(buffer, text.len())
 }
 
 /// Makes the tape long enough for a string after the first `count` bytes, and 32 free ones after it.
 #[inline(always)]
-pub fn make_room_for(tape: &mut Vec<u8>, count: usize, text: &[u8]) -> Result<(), AllocFailed>
-    requires { count ≤ vec_len tape.old }
-    ensures room { OnOk result (count + length text.now + 32 ≤ vec_len tape.new) }
-    ensures kept { take count tape.new.items ≡ take count tape.old.items }
+pub fn make_room_for(buffer: &mut Vec<u8>, count: usize, text: &[u8]) -> Result<(), AllocFailed>
+    requires { count ≤ vec_len buffer.old }
+    ensures room { OnOk result (count + length text.now + 32 ≤ vec_len buffer.new) }
+    ensures kept { take count buffer.new.items ≡ take count buffer.old.items }
 {
-    if tape.len() - count < text.len() + 32 {
-        return enlarge(tape, text);
+    if buffer.len() - count < text.len() + 32 {
+        return enlarge(buffer, text);
     }
     Ok(())
 }

@@ -4,8 +4,7 @@ ghost use Rattle.std.specs.Str.{IsAscii, IsUtf8};
 
 /// Returns bytes that are UTF-8 as a string.
 ///
-/// Nothing is tested at run time. This is the only unchecked conversion. Its condition, that the bytes are UTF-8, is
-/// proved at each call.
+/// This is the only unchecked conversion: nothing is tested at run time. Each call proves that the bytes are UTF-8.
 #[inline(always)]
 pub fn utf8_text(bytes: &[u8]) -> &str
     requires { IsUtf8 bytes.now }

@@ -1,8 +1,7 @@
 -- What the rows compute: of each subject the definitions that a row on literals unfolds.
 use Rattle.jiter_steps.proofs.Words.{chars, is_utf8, utf8_valid_len, utf8_error_len, encode_utf8, word_at, past_blanks}
 use Rattle.jiter_steps.proofs.Words.{event_at, body_within, body_at, content_at, parts_at, inside_at, prefix_answer}
-use Rattle.jiter_steps.proofs.Words.{whole_answer}
-use Rattle.std.specs.Prelude.{⊤}
+use Rattle.jiter_steps.proofs.Words.{whole_answer, ⊤}
 use Rattle.jiter_scan.proofs.Computed.{computed_numbers}
 
 unfoldable pub computed_literals : ⊤

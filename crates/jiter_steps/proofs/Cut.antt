@@ -1,6 +1,6 @@
 -- The cut law: of a document that is an array or an object, a partial reading of a prefix gives what `cut` leaves there.
 --
--- A prefix of a text has its bytes, blanks and steps before the place k (Prefixes). The node that the whole text spells
+-- A prefix of a text has its bytes, whitespace and steps before the place k (Prefixes). The node that the whole text spells
 -- is followed while the prefix is read, by any rules: what ends before the cut is read as before, and the value that
 -- the cut falls into meets the end of input (ReadPrefixes, PrefixNodes; CutParts for a container; NumberCut for a
 -- number, as the whole text has the prefix's bytes before the cut: Fault.SameNumbers). So a prefix without its last

@@ -1,4 +1,4 @@
--- A string that arrives in pieces: what its next bytes make of it, and what ends it.
+-- A string that arrives in chunks: what its next bytes make of it, and what ends it.
 use Rattle.jiter_steps.proofs.Words.{◌≡◌, ℕ, zero, suc, ◌+◌, ◌-◌, ◌<◌, ◌≤◌, ◌||◌, Bool, true, false, List, [], ◌∷◌}
 use Rattle.jiter_steps.proofs.Words.{◌++◌, length, take, drop, refl, sym, ap, ap₂, ◌∙◌, subst, arith, append-nil}
 use Rattle.jiter_steps.proofs.Words.{append_assoc, length-append, take-take, slice_get, slice_range, Option, Some, None}
@@ -9,15 +9,11 @@ use Rattle.jiter_steps.proofs.Words.{prefix_len-pass, stands-length, stands-appe
 use Rattle.jiter_steps.proofs.Words.{slice-one, slice-stands, IsSpelled, HasTaken, IsTextWithin, HoldsBytes, HoldsText}
 use Rattle.jiter_steps.proofs.Words.{SoFar, Body, Form, Stop, before, body_at, checked, content_at, cut, is_cut, kept}
 use Rattle.jiter_steps.proofs.Words.{over, part, event_at, text_form, text_in_form, unclosed, whole, wrong, FaultKind}
-use Rattle.jiter_steps.proofs.Words.{length-take, length-drop}
-use Rattle.std.proofs.lemmas.Str.Ascii.{IsAscii-cons, IsAscii-nil}
-use Rattle.jiter_scan.specs.Scan.{Pass, is_plain_ascii}
-use Rattle.jiter_steps.specs.PartialString.{Goes, HasTakenFrom, IsEven, grown, held_bytes}
-use Rattle.jiter_steps.specs.PartialText.{with_text}
+use Rattle.jiter_steps.proofs.Words.{length-take, length-drop, IsAscii-cons, IsAscii-nil, Pass, is_plain_ascii, GoesOnWith}
+use Rattle.jiter_steps.proofs.Words.{HasTakenFrom, IsEven, grown, held_bytes, with_text, PartialString}
 use Rattle.jiter_steps.specs.StringReading.{closed}
-use Rattle.jiter_steps.specs.declared.partial_escape.Spelled.TheVariants as spelled
-use Rattle.jiter_steps.specs.declared.partial_string.PartialString.{PartialString}
-use Rattle.jiter_steps.specs.declared.partial_string.Went.TheVariants as went
+use Rattle.jiter_steps.specs.declared.partial_escape.EscapeStep.TheVariants as spelled
+use Rattle.jiter_steps.specs.declared.partial_string.StringStep.TheVariants as went
 use Rattle.jiter_steps.proofs.Cut.DocumentPrefixes.{prefix-length, prefix-range}
 use Rattle.jiter_steps.proofs.Grammar.StringComplete.{ArePrinted, IsPrinted, bytes-read, event_by-escape}
 use Rattle.jiter_steps.proofs.Grammar.StringComplete.{event_by-quote}
@@ -47,24 +43,24 @@ plain-all : (w : List ℕ) → Pass is_plain w → ArePrinted w
 plain-all [] h = tt
 plain-all (b ∷ w) h = (plain-one b h.0, plain-all w h.1)
 
--- The first n bytes of a run that is a range of a piece are those of the piece.
-pub run-range : (piece run : List ℕ) (at n : ℕ) → run ≡ slice_range piece at (at + length run) → n ≤ length run
-    → take n run ≡ slice_range piece at (at + n)
-run-range piece run at n is few =
+-- The first n bytes of a run that is a range of a chunk are those of the chunk.
+pub run-range : (chunk run : List ℕ) (at n : ℕ) → run ≡ slice_range chunk at (at + length run) → n ≤ length run
+    → take n run ≡ slice_range chunk at (at + n)
+run-range chunk run at n is few =
     let long : n ≤ at + length run - at = omega arith in
     let count : n ≡ at + n - at = omega arith in
-    ap (take n) is ∙ take-take n (at + length run - at) (drop at piece) long ∙ ap (λ k. take k (drop at piece)) count
+    ap (take n) is ∙ take-take n (at + length run - at) (drop at chunk) long ∙ ap (λ k. take k (drop at chunk)) count
 
 -- the same of all bytes after a place
-pub rest-range : (piece : List ℕ) (at n : ℕ) → n ≤ length piece - at
-    → take n (slice_range piece at (length piece)) ≡ slice_range piece at (at + n)
-rest-range piece at n few =
+pub rest-range : (chunk : List ℕ) (at n : ℕ) → n ≤ length chunk - at
+    → take n (slice_range chunk at (length chunk)) ≡ slice_range chunk at (at + n)
+rest-range chunk at n few =
     let count : n ≡ at + n - at = omega arith in
-    take-take n (length piece - at) (drop at piece) few ∙ ap (λ k. take k (drop at piece)) count
+    take-take n (length chunk - at) (drop at chunk) few ∙ ap (λ k. take k (drop at chunk)) count
 
 -- The bytes before the first one that stops are plain.
-pub run-plain : (piece : List ℕ) (at to : ℕ) → to ≡ scan_stop piece at → Pass is_plain (slice_range piece at to)
-run-plain piece at to stop = prefix_len-pass is_plain (to - at) (drop at piece) (omega (arith, stop))
+pub run-plain : (chunk : List ℕ) (at to : ℕ) → to ≡ scan_stop chunk at → Pass is_plain (slice_range chunk at to)
+run-plain chunk at to stop = prefix_len-pass is_plain (to - at) (drop at chunk) (omega (arith, stop))
 
 -- no escape is open at the beginning
 pub nothing-taken : (text : SoFar) → HoldsText text [] → HasTaken (record { text = text; escape = None }) []
@@ -105,12 +101,12 @@ backslash-cut : event_at (92 ∷ []) 0 ≡ over cut
 unfolding event_at
 backslash-cut = refl
 
--- the byte at a place of a piece is this range
-pub one-byte : (piece : List ℕ) (at b : ℕ) → slice_get piece at ≡ Some b → slice_range piece at (at + 1) ≡ b ∷ []
-one-byte piece at b e = slice-one piece at b e
+-- the byte at a place of a chunk is this range
+pub one-byte : (chunk : List ℕ) (at b : ℕ) → slice_get chunk at ≡ Some b → slice_range chunk at (at + 1) ≡ b ∷ []
+one-byte chunk at b e = slice-one chunk at b e
 
 module _ (old : PartialString) (w : List ℕ) (h : HasTaken old w) where
-  -- the bytes that were taken stand before those after them,
+  -- the bytes that were taken are before those after them,
   module _ (v t : List ℕ) (i : ℕ) (stands : Stands t i (i + length (w ++ v)) (w ++ v)) where
     first-stand : Stands t i (i + length w) w
     first-stand =
@@ -131,8 +127,7 @@ module _ (old : PartialString) (w : List ℕ) (h : HasTaken old w) where
         → Stands t (i + length h.prefix) (i + length h.prefix + length u) u
     escape-stands u is =
         let r =
-        stands-split t i (i + length (w ++ v)) h.prefix u
-        (subst (λ x. Stands t i (i + length (w ++ v)) x) is stands) in
+        stands-split t i _ h.prefix u (subst (λ x. Stands t i (i + length (w ++ v)) x) is stands) in
         let there = subst (λ j. Stands t j (i + length (w ++ v)) u) (stands-length t i r.0 h.prefix r.1) r.2 in
         subst (λ j. Stands t (i + length h.prefix) j u)
         (stands-length t (i + length h.prefix) (i + length (w ++ v)) u there) there
@@ -141,11 +136,11 @@ module _ (old : PartialString) (w : List ℕ) (h : HasTaken old w) where
   all-prefix : old.escape ≡ None → w ≡ h.prefix
   all-prefix none = h.is ∙ ap (λ e. h.prefix ++ held_bytes e) none ∙ append-nil h.prefix
 
-  -- where one is, it stands after those that are
+  -- where one is, it is after those that are
   pub held-prefix : (e : List ℕ) → old.escape ≡ Some e → w ≡ h.prefix ++ e
   held-prefix e partial_escape = h.is ∙ ap (λ o. h.prefix ++ held_bytes o) partial_escape
 
-  -- with what stands after
+  -- with what is after
   held-more : (e v : List ℕ) → old.escape ≡ Some e → w ++ v ≡ h.prefix ++ (e ++ v)
   held-more e v partial_escape = ap (λ x. x ++ v) (held-prefix e partial_escape) ∙ append_assoc h.prefix e v
 
@@ -213,9 +208,9 @@ module _ (old : PartialString) (w : List ℕ) (h : HasTaken old w) where
   -- or a byte of it is wrong.
   module _ (e : List ℕ) (b : ℕ) (partial_escape : old.escape ≡ Some e) where
     pub escape-fails : (k : FaultKind) (n : ℕ) → IsSpelled (e ++ b ∷ []) (spelled.Wrong k n) → n ≤ length e
-        → (piece : List ℕ) (at back : ℕ) → slice_get piece at ≡ Some b → back ≡ length e - n
-        → (new : PartialString) → Goes new w piece at (went.Wrong k back)
-    escape-fails k n bad few piece at back here far new = (
+        → (chunk : List ℕ) (at back : ℕ) → slice_get chunk at ≡ Some b → back ≡ length e - n
+        → (new : PartialString) → GoesOnWith new w chunk at (went.Wrong k back)
+    escape-fails k n bad few chunk at back here far new = (
       omega (arith, ap length (held-prefix e partial_escape), length-append h.prefix e),
       λ t i s there form.
           let m = i + length h.prefix in
@@ -224,27 +219,25 @@ module _ (old : PartialString) (w : List ℕ) (h : HasTaken old w) where
           let one : Stands t (i + length w) (i + length w + 1) (b ∷ []) = (there ∙ here, refl) in
           let end : i + length w + 1 ≡ i + length (w ++ b ∷ []) = omega (arith, length-append w (b ∷ [])) in
           let all : Stands t i (i + length (w ++ b ∷ [])) (w ++ b ∷ []) =
-          subst (λ j. Stands t i j (w ++ b ∷ [])) end
-          (stands-append t i (i + length w) (i + length w + 1) w (b ∷ []) s one) in
+          rw (← end) (stands-append t i (i + length w) (i + length w + 1) w (b ∷ []) s one) in
           let place : m + n ≡ i + length w - back = omega arith in
-          let is = held-more e (b ∷ []) partial_escape in
           stops-so t i m h.decoded h.escaped (h.goes t i s) (wrong (fault_kind k) (m + n))
-          (bad t m (escape-stands (b ∷ []) t i all (e ++ b ∷ []) is)) form
+          (bad t m (escape-stands (b ∷ []) t i all (e ++ b ∷ []) (held-more e (b ∷ []) partial_escape))) form
           ∙ ap (failed (fault_kind k)) place,
     )
 
   -- Closed, the string is what was decoded, as far as it is a text,
-  pub closed-text : old.escape ≡ None → (keep : Bool) (t : List ℕ) (i : ℕ) → Stands t i (i + length w) w
+  pub closed-text : old.escape ≡ None → (partial : Bool) (t : List ℕ) (i : ℕ) → Stands t i (i + length w) w
       → slice_get t (i + length w) ≡ Some 34
-      → content_at (text_form keep) t i ≡ checked keep i h.escaped h.decoded (i + length w + 1)
-  closed-text none keep t i s quote =
+      → content_at (text_form partial) t i ≡ checked partial i h.escaped h.decoded (i + length w + 1)
+  closed-text none partial t i s quote =
       let m = i + length h.prefix in
       let same : m ≡ i + length w = omega (arith, ap length (all-prefix none)) in
       let byte : slice_get t m ≡ Some 34 = ap (slice_get t) same ∙ quote in
-      stops-so t i m h.decoded h.escaped (h.goes t i s) (closed (m + 1)) (event_by-quote t m byte) (text_form keep)
-      ∙ string_closed keep t i (h.decoded ++ []) (h.escaped || false) (m + 1)
-      ∙ ap₂ (λ d o. checked keep i o d (m + 1)) (append-nil h.decoded) (or-none h.escaped)
-      ∙ ap (λ x. checked keep i h.escaped h.decoded (x + 1)) same
+      stops-so t i m h.decoded h.escaped (h.goes t i s) (closed (m + 1)) (event_by-quote t m byte) (text_form partial)
+      ∙ string_closed partial t i (h.decoded ++ []) (h.escaped || false) (m + 1)
+      ∙ ap₂ (λ d o. checked partial i o d (m + 1)) (append-nil h.decoded) (or-none h.escaped)
+      ∙ ap (λ x. checked partial i h.escaped h.decoded (x + 1)) same
 
   -- and where the input ends after it,
   module _ (t : List ℕ) (i : ℕ) (s : Stands t i (i + length w) w) (end : length t ≡ i + length w) where
@@ -265,8 +258,7 @@ module _ (old : PartialString) (w : List ℕ) (h : HasTaken old w) where
 
     ended-by : (o : Option (List ℕ)) → old.escape ≡ o → IfSome o (λ e. event_at e 0 ≡ over cut) → IsEnded o
     ended-by None none u =
-        let past : length t ≤ from = omega (arith, ap length (all-prefix none)) in
-        let stop = event_by-end t from past in (
+        let stop = event_by-end t from (omega (arith, ap length (all-prefix none))) in (
           ended-at unclosed stop kept ∙ ap (checked true i (h.escaped || false) h.decoded) end,
           ended-at unclosed stop whole ∙ ap (failed eof_string) end,
         )
@@ -274,8 +266,7 @@ module _ (old : PartialString) (w : List ℕ) (h : HasTaken old w) where
         let all : i + length w ≡ from + length e =
         omega (arith, ap length (held-prefix e partial_escape), length-append h.prefix e) in
         let split =
-        stands-split t i (i + length w) h.prefix e
-        (subst (λ x. Stands t i (i + length w) x) (held-prefix e partial_escape) s) in
+        stands-split t i _ h.prefix e (subst (λ x. Stands t i (i + length w) x) (held-prefix e partial_escape) s) in
         let there : Stands t from (i + length w) e =
         subst (λ j. Stands t j (i + length w) e) (stands-length t i split.0 h.prefix split.1) split.2 in
         let stop = spelled-cut e t from (subst (λ j. Stands t from j e) all there) (end ∙ all) u in (
@@ -287,32 +278,31 @@ module _ (old : PartialString) (w : List ℕ) (h : HasTaken old w) where
     ended = ended-by old.escape refl h.unfinished
 
   -- Where no escape is open a control character is wrong,
-  pub control-fails : (new : PartialString) (piece : List ℕ) (at b : ℕ) (k : FaultKind) → old.escape ≡ None
-      → slice_get piece at ≡ Some b → b < 32 → fault_kind k ≡ control_character
-      → Goes new w piece at (went.Wrong k 0)
-  control-fails new piece at b k none here low kind = (
+  pub control-fails : (new : PartialString) (chunk : List ℕ) (at b : ℕ) (k : FaultKind) → old.escape ≡ None
+      → slice_get chunk at ≡ Some b → b < 32 → fault_kind k ≡ control_character
+      → GoesOnWith new w chunk at (went.Wrong k 0)
+  control-fails new chunk at b k none here low kind = (
     omega arith,
     λ t i s there form.
         let m = i + length h.prefix in
         let same : m ≡ i + length w = omega (arith, ap length (all-prefix none)) in
         let place : m ≡ i + length w - 0 = omega arith in
-        let byte : slice_get t m ≡ Some b = ap (slice_get t) same ∙ there ∙ here in
         stops-so t i m h.decoded h.escaped (h.goes t i s) (wrong control_character m)
-        (control-stops t m b byte low) form
+        (control-stops t m b (ap (slice_get t) same ∙ there ∙ here) low) form
         ∙ ap (λ x. failed x m) (sym kind) ∙ ap (failed (fault_kind k)) place,
   )
 
   -- an escape that is whole is its character,
-  pub escape-whole : (piece : List ℕ) (at end c n : ℕ) (text : SoFar) (o : Option (List ℕ)) → o ≡ None
-      → old.escape ≡ None → part (encode_utf8 c) true end ≡ event_at piece at → n ≡ end - at
+  pub escape-whole : (chunk : List ℕ) (at end c n : ℕ) (text : SoFar) (o : Option (List ℕ)) → o ≡ None
+      → old.escape ≡ None → part (encode_utf8 c) true end ≡ event_at chunk at → n ≡ end - at
       → HoldsText text (h.decoded ++ encode_utf8 c)
-      → HasTaken (record { text = text; escape = o }) (w ++ slice_range piece at (at + n))
-  escape-whole piece at end c n text o closed_escape none found size holds =
-      let e = subst (Explains piece at) (sym found) (event_at-explains piece at) in
-      let v = slice_range piece at (at + n) in
+      → HasTaken (record { text = text; escape = o }) (w ++ slice_range chunk at (at + n))
+  escape-whole chunk at end c n text o closed_escape none found size holds =
+      let e = subst (Explains chunk at) (sym found) (event_at-explains chunk at) in
+      let v = slice_range chunk at (at + n) in
       let until : end ≡ at + n = omega (arith, e.ahead) in
       let bytes : v ≡ e.bytes =
-      ap (slice_range piece at) (sym until) ∙ sym (slice-stands piece at end e.bytes e.stands) in
+      ap (slice_range chunk at) (sym until) ∙ sym (slice-stands chunk at end e.bytes e.stands) in
       record {
         prefix = w ++ v;
         decoded = h.decoded ++ encode_utf8 c;
@@ -374,114 +364,110 @@ grown-taken s w v even pass h =
     (absorbed-whole s.text.text new.text.text v (h.decoded ++ v) all s.text.rest refl even.1.1))
 
 -- or the first of a run of plain bytes.
-pub run-goes : (s : PartialString) (w : List ℕ) (h : HasTaken s w) (piece run : List ℕ) (at n : ℕ) (new : SoFar)
-    → s.escape ≡ None → Pass is_plain run → run ≡ slice_range piece at (at + length run) → n ≤ length run
-    → HoldsText new (h.decoded ++ take n run) → HasTakenFrom (record { text = new; escape = s.escape }) w piece at n
-run-goes s w h piece run at n new none pass is within holds =
-    subst (λ v. HasTaken (record { text = new; escape = s.escape }) (w ++ v)) (run-range piece run at n is within)
+pub run-goes : (s : PartialString) (w : List ℕ) (h : HasTaken s w) (chunk run : List ℕ) (at n : ℕ) (new : SoFar)
+    → s.escape ≡ None → Pass is_plain run → run ≡ slice_range chunk at (at + length run) → n ≤ length run
+    → HoldsText new (h.decoded ++ take n run) → HasTakenFrom (record { text = new; escape = s.escape }) w chunk at n
+run-goes s w h chunk run at n new none pass is within holds =
+    subst (λ v. HasTaken (record { text = new; escape = s.escape }) (w ++ v)) (run-range chunk run at n is within)
     (plain-goes s w h (take n run) new s.escape none none (pass-take is_plain n run pass) holds)
 
 -- The same of a run of which some bytes are taken, where memory was not refused.
-pub run-goes-if : {E : Type 0} → (s : PartialString) (w : List ℕ) (h : HasTaken s w) (piece run : List ℕ) (at : ℕ) (new : SoFar)
-    → s.escape ≡ None → Pass is_plain run → run ≡ slice_range piece at (at + length run) → (r : Result ℕ E)
+pub run-goes-if : {E : Type 0} → (s : PartialString) (w : List ℕ) (h : HasTaken s w) (chunk run : List ℕ) (at : ℕ) (new : SoFar)
+    → s.escape ≡ None → Pass is_plain run → run ≡ slice_range chunk at (at + length run) → (r : Result ℕ E)
     → IfOk r (λ n. HoldsText new (h.decoded ++ take n run)) → IfOk r (λ n. n ≤ length run)
-    → IfOk r (HasTakenFrom (record { text = new; escape = s.escape }) w piece at)
-run-goes-if s w h piece run at new none pass is (Ok n) holds within =
-    run-goes s w h piece run at n new none pass is within holds
-run-goes-if s w h piece run at new none pass is (Err e) holds within = tt
+    → IfOk r (HasTakenFrom (record { text = new; escape = s.escape }) w chunk at)
+run-goes-if s w h chunk run at new none pass is (Ok n) holds within =
+    run-goes s w h chunk run at n new none pass is within holds
+run-goes-if s w h chunk run at new none pass is (Err e) holds within = tt
 
--- how long a range of a piece is
-pub range-length : (piece : List ℕ) (at to : ℕ) → at ≤ to → to ≤ length piece → length (slice_range piece at to) ≡ to - at
-range-length piece at to ahead within =
-    omega (arith, length-take (to - at) (drop at piece), length-drop at piece)
+-- how long a range of a chunk is
+pub range-length : (chunk : List ℕ) (at to : ℕ) → at ≤ to → to ≤ length chunk → length (slice_range chunk at to) ≡ to - at
+range-length chunk at to ahead within =
+    omega (arith, length-take (to - at) (drop at chunk), length-drop at chunk)
 
 -- so it is told by its length
-pub run-whole : (piece : List ℕ) (at to : ℕ) → at ≤ to → to ≤ length piece
-    → slice_range piece at to ≡ slice_range piece at (at + length (slice_range piece at to))
-run-whole piece at to ahead within =
-    let same : to ≡ at + length (slice_range piece at to) = omega (arith, range-length piece at to ahead within) in
-    ap (slice_range piece at) same
+pub run-whole : (chunk : List ℕ) (at to : ℕ) → at ≤ to → to ≤ length chunk
+    → slice_range chunk at to ≡ slice_range chunk at (at + length (slice_range chunk at to))
+run-whole chunk at to ahead within =
+    let same : to ≡ at + length (slice_range chunk at to) = omega (arith, range-length chunk at to ahead within) in
+    ap (slice_range chunk at) same
 
--- Plain bytes of a piece after whole characters are taken.
-pub grown-range : (s : PartialString) (w : List ℕ) (h : HasTaken s w) (piece : List ℕ) (at to : ℕ) → IsEven s → at ≤ to
-    → Pass is_plain (slice_range piece at to) → (new : SoFar)
-    → new ≡ with_text s.text (s.text.text ++ slice_range piece at to) → (n : ℕ) → n ≡ to - at
-    → HasTakenFrom (record { text = new; escape = s.escape }) w piece at n
-grown-range s w h piece at to even ahead pass new is n size =
-    let v = slice_range piece at to in
+-- Plain bytes of a chunk after whole characters are taken.
+pub grown-range : (s : PartialString) (w : List ℕ) (h : HasTaken s w) (chunk : List ℕ) (at to : ℕ) → IsEven s → at ≤ to
+    → Pass is_plain (slice_range chunk at to) → (new : SoFar)
+    → new ≡ with_text s.text (s.text.text ++ slice_range chunk at to) → (n : ℕ) → n ≡ to - at
+    → HasTakenFrom (record { text = new; escape = s.escape }) w chunk at n
+grown-range s w h chunk at to even ahead pass new is n size =
     let same : to ≡ at + n = omega arith in
-    subst (λ (x : SoFar). HasTakenFrom (record { text = x; escape = s.escape }) w piece at n) (sym is)
-    (subst (λ j. HasTaken (grown s v) (w ++ slice_range piece at j)) same (grown-taken s w v even pass h))
+    rw is (rw (← same) (grown-taken s w (slice_range chunk at to) even pass h))
 
--- A range within the prefix of a piece is one of the piece.
-pub near-range : (piece : List ℕ) (at end stop : ℕ) → end ≤ length piece → at ≤ stop → stop ≤ length (take end piece)
-    → slice_range (take end piece) at stop
-    ≡ slice_range piece at (at + length (slice_range (take end piece) at stop))
-near-range piece at end stop within ahead inside =
-    let prefix = prefix-length piece end within in
-    let size : length (slice_range (take end piece) at stop) ≡ stop - at =
-    omega (arith, length-take (stop - at) (drop at (take end piece)), length-drop at (take end piece)) in
-    let same : stop ≡ at + length (slice_range (take end piece) at stop) = omega arith in
-    prefix-range piece end within at stop ahead (omega arith) ∙ ap (slice_range piece at) same
+-- A range within the prefix of a chunk is one of the chunk.
+pub near-range : (chunk : List ℕ) (at end stop : ℕ) → end ≤ length chunk → at ≤ stop → stop ≤ length (take end chunk)
+    → slice_range (take end chunk) at stop
+    ≡ slice_range chunk at (at + length (slice_range (take end chunk) at stop))
+near-range chunk at end stop within ahead inside =
+    let prefix = prefix-length chunk end within in
+    let size : length (slice_range (take end chunk) at stop) ≡ stop - at =
+    omega (arith, length-take (stop - at) (drop at (take end chunk)), length-drop at (take end chunk)) in
+    let same : stop ≡ at + length (slice_range (take end chunk) at stop) = omega arith in
+    prefix-range chunk end within at stop ahead (omega arith) ∙ ap (slice_range chunk at) same
 
--- what is found of an escape is after its backslash, and within the piece
-pub escape-ahead : (piece : List ℕ) (at end c : ℕ) → part (encode_utf8 c) true end ≡ event_at piece at
-    → (at < end) × (end ≤ length piece)
-escape-ahead piece at end c found =
-    let e = subst (Explains piece at) (sym found) (event_at-explains piece at) in (e.ahead, e.within)
+-- what is found of an escape is after its backslash, and within the chunk
+pub escape-ahead : (chunk : List ℕ) (at end c : ℕ) → part (encode_utf8 c) true end ≡ event_at chunk at
+    → (at < end) × (end ≤ length chunk)
+escape-ahead chunk at end c found =
+    let e = subst (Explains chunk at) (sym found) (event_at-explains chunk at) in (e.ahead, e.within)
 
 -- no escape is open where it was asked for
 pub none_open : (o : Option (List ℕ)) (b : Bool) → b ≡ is_some o → b ≡ false → o ≡ None
 none_open None b is answer = refl
 none_open (Some e) b is answer = absurd (false≢true (sym answer ∙ is))
 
--- A string of plain bytes, wherever it stands with its quotes.
+-- A string of plain bytes, wherever it is with its quotes.
 module _ (v t : List ℕ) (i j : ℕ) (pass : Pass is_plain v) (utf8 : IsUtf8 v)
     (stands : Stands t i j (34 ∷ v ++ 34 ∷ [])) where
   abbrev inner : (k : ℕ) × Stands t (i + 1) k v × Stands t k j (34 ∷ [])
   inner = stands-split t (i + 1) j v (34 ∷ []) stands.1
 
   -- and so it is read
-  pub plain-string : (keep : Bool)
-      → content_at (text_form keep) t (i + 1) ≡ taken (record { owned = false; bytes = v }) j
-  plain-string keep =
+  pub plain-string : (partial : Bool)
+      → content_at (text_form partial) t (i + 1) ≡ taken (record { owned = false; bytes = v }) j
+  plain-string partial =
       let k = inner.0 in
       let end = inner.2 in
-      stops-so t (i + 1) k v false (bytes-read t (i + 1) k v (plain-all v pass) inner.1) (closed (k + 1))
-      (event_by-quote t k end.0) (text_form keep)
-      ∙ ap (λ b. text_in_form (text_form keep) t (i + 1) b false (closed (k + 1))) (append-nil v)
-      ∙ string_closed keep t (i + 1) v false (k + 1)
-      ∙ string-checked (i + 1) (k + 1) false v keep utf8
+      stops-so t (i + 1) k v false (bytes-read t (i + 1) k v (plain-all v pass) inner.1) _ (event_by-quote t k end.0) _
+      ∙ ap (λ b. text_in_form (text_form partial) t (i + 1) b false (closed (k + 1))) (append-nil v)
+      ∙ string_closed partial t (i + 1) v false (k + 1)
+      ∙ string-checked (i + 1) (k + 1) false v partial utf8
       ∙ ap (taken (record { owned = false; bytes = v })) end.1
 
--- What stands between a quote in a piece and the next byte that stops, which is a quote, is the string's text.
-module _ (piece : List ℕ) (at to : ℕ) (stop : to ≡ scan_stop piece (at + 1))
-    (first : slice_get piece at ≡ Some 34) (last : slice_get piece to ≡ Some 34) where
+-- What is between a quote in a chunk and the next byte that stops, which is a quote, is the string's text.
+module _ (chunk : List ℕ) (at to : ℕ) (stop : to ≡ scan_stop chunk (at + 1))
+    (first : slice_get chunk at ≡ Some 34) (last : slice_get chunk to ≡ Some 34) where
   abbrev inside : List ℕ
-  inside = slice_range piece (at + 1) to
+  inside = slice_range chunk (at + 1) to
 
   abbrev quoted : List ℕ
-  quoted = slice_range piece at (to + 1)
+  quoted = slice_range chunk at (to + 1)
 
   inside-plain : Pass is_plain inside
-  inside-plain = run-plain piece (at + 1) to stop
+  inside-plain = run-plain chunk (at + 1) to stop
 
   quoted-is : quoted ≡ 34 ∷ inside ++ 34 ∷ []
   quoted-is =
-      let ahead : at + 1 ≤ to = omega (arith, stop) in
-      let within : to ≤ length piece = omega (arith, slice_get_within piece to 34 last) in
-      let between_stands = stands-slice piece (at + 1) to ahead within in
-      let after = stands-append piece (at + 1) to (to + 1) inside (34 ∷ []) between_stands (last, refl) in
-      sym (slice-stands piece at (to + 1) (34 ∷ inside ++ 34 ∷ []) (first, after))
+      let within : to ≤ length chunk = omega (arith, slice_get_within chunk to 34 last) in
+      let between_stands = stands-slice chunk (at + 1) to (omega (arith, stop)) within in
+      let after = stands-append chunk (at + 1) to (to + 1) inside (34 ∷ []) between_stands (last, refl) in
+      sym (slice-stands chunk at (to + 1) (34 ∷ inside ++ 34 ∷ []) (first, after))
 
-  pub text-within : (text : List ℕ) → text ≡ inside → IsUtf8 text → IsTextWithin piece at text (to + 1)
+  pub text-within : (text : List ℕ) → text ≡ inside → IsUtf8 text → IsTextWithin chunk at text (to + 1)
   text-within text is utf8 = record {
     owned = false;
     first = first;
-    within = (omega (arith, stop), omega (arith, slice_get_within piece to 34 last));
+    within = (omega (arith, stop), omega (arith, slice_get_within chunk to 34 last));
     quoted = λ t i s. (here t i s).0;
-    reads = λ keep t i s.
-        plain-string inside t i (i + length quoted) inside-plain (subst IsUtf8 is utf8) (here t i s) keep
+    reads = λ partial t i s.
+        plain-string inside t i (i + length quoted) inside-plain (subst IsUtf8 is utf8) (here t i s) partial
         ∙ ap (λ b. taken (record { owned = false; bytes = b }) (i + length quoted)) (sym is);
   } where
     here : (t : List ℕ) (i : ℕ) → Stands t i (i + length quoted) quoted

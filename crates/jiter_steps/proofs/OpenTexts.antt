@@ -9,10 +9,8 @@ use Rattle.jiter_steps.proofs.Words.{length-drop, none-some, IsUtf8-append, IsUt
 use Rattle.jiter_steps.proofs.Words.{IsCharBoundary-from_take, utf8_valid_len-IsUtf8, utf8_valid_len-IsValidUpTo}
 use Rattle.jiter_steps.proofs.Words.{encode, encodes, invalid_code_point, Scanned, taken, failed, if_gives, if-true}
 use Rattle.jiter_steps.proofs.Words.{if-false, Text, if_utf8, valid_prefix, valid_prefix_by, checked, IsUnfinished}
-use Rattle.jiter_steps.proofs.Words.{IsBroken, HoldsBytes, SoFar, HoldsText}
-use Rattle.std.proofs.Math.Seq.{take-append-add, take-add}
-use Rattle.std.proofs.lemmas.List.{take-append-le}
-use Rattle.jiter_steps.specs.PartialText.{BeginsNoText}
+use Rattle.jiter_steps.proofs.Words.{IsBroken, HoldsBytes, SoFar, HoldsText, take-append-add, take-add, take-append-le}
+use Rattle.jiter_steps.proofs.Words.{BeginsNoText}
 use Rattle.jiter_steps.proofs.Cut.CutCharacters.{IsPrefix, prefix-unfinished}
 use Rattle.jiter_steps.proofs.Grammar.Utf8Shape.{lead}
 
@@ -32,11 +30,9 @@ nil-unfinished = record { none = none-nil; unended = nil-unended }
 
 -- a character has a byte
 encode-some : (c : ℕ) (cs : List ℕ) → all_scalars (c ∷ cs) ≡ true → 0 < length (encode c)
-encode-some c cs s =
-    let l = lead c (and_parts _ _ s).0 in
-    omega (arith, ap length l.is)
+encode-some c cs s = omega (arith, ap length (lead c (and_parts _ _ s).0).is)
 
--- What stands after the longest prefix that is a text begins none.
+-- What is after the longest prefix that is a text begins none.
 pub rest-none : (w : List ℕ) (n : ℕ) → IsValidUpTo w n → BeginsNoText (drop n w)
 rest-none w n v zero u = refl
 rest-none w n v (suc m) u =
@@ -66,11 +62,10 @@ module _ (text w : List ℕ) (u : IsUtf8 text) (none : BeginsNoText w) where
   valid-some : 0 < length w → IsValidUpTo (text ++ w) (length text)
   valid-some some = record {
     short = omega (arith, length-append text w);
-    front = subst IsUtf8 (sym (take-append_seam text w)) u;
+    front = rw (take-append_seam text w) u;
     longest = λ m h t.
         let at : m ≡ length text + (m - length text) = omega arith in
-        some-taken (m - length text) w (omega arith) some
-        (prefix-none (m - length text) (subst (λ n. IsUtf8 (take n (text ++ w))) at t));
+        some-taken (m - length text) w (omega arith) some (prefix-none (m - length text) (rw (← at) t));
   }
 
   -- and where none do
@@ -107,10 +102,9 @@ error-two : (a b n : ℕ) (u : List ℕ) → utf8_error_len (a ∷ b ∷ []) ≡
 unfolding utf8_error_len
 error-two a b n u h =
     let some = ne_eqb (length (a ∷ b ∷ u)) 0 (omega arith) in
-    let two = le-ltb (length (a ∷ b ∷ u)) 2 (omega arith) in
     if_gives (is_in_range 194 244 a) _ _ (Some n) h
     (λ e z. if_gives (is_in_range (second_byte_min a) (second_byte_max a) b) _ _ (Some n) z
-    (λ f y. absurd (none-some n y)) (λ f y. rw (some, e, two, f) y))
+    (λ f y. absurd (none-some n y)) (λ f y. rw (some, e, le-ltb (length (a ∷ b ∷ u)) 2 (omega arith), f) y))
     (λ e z. rw (some, e) z)
 
 -- of three
@@ -120,11 +114,10 @@ unfolding utf8_error_len
 error-three a b c n u h =
     let some = ne_eqb (length (a ∷ b ∷ c ∷ u)) 0 (omega arith) in
     let two = le-ltb (length (a ∷ b ∷ c ∷ u)) 2 (omega arith) in
-    let three = le-ltb (length (a ∷ b ∷ c ∷ u)) 3 (omega arith) in
     if_gives (is_in_range 194 244 a) _ _ (Some n) h
     (λ e z. if_gives (is_in_range (second_byte_min a) (second_byte_max a) b) _ _ (Some n) z
     (λ f y. if_gives (is_in_range 128 191 c) _ _ (Some n) y
-    (λ g x. absurd (none-some n x)) (λ g x. rw (some, e, two, f, three, g) x))
+    (λ g x. absurd (none-some n x)) (λ g x. rw (some, e, two, f, le-ltb (length (a ∷ b ∷ c ∷ u)) 3 (omega arith), g) x))
     (λ f y. rw (some, e, two, f) y))
     (λ e z. rw (some, e) z)
 
@@ -153,7 +146,7 @@ error-stays (a ∷ b ∷ []) u n h = error-two a b n u h
 error-stays (a ∷ b ∷ c ∷ []) u n h = error-three a b c n u h
 error-stays (a ∷ b ∷ c ∷ d ∷ w) u n h = error-four a b c d (w ++ u) w ∙ h
 
--- A character that stands after what is wrong would be whole in it, or unfinished.
+-- A character that is after what is wrong would be whole in it, or unfinished.
 module _ (w : List ℕ) (n : ℕ) (none : BeginsNoText w) (wrong : utf8_error_len w ≡ Some n) where
   -- the bytes w and more begin with no character
   begins-none : (u more : List ℕ) (c : ℕ) (cs : List ℕ) → all_scalars (c ∷ cs) ≡ true → w ++ u ≡ encode c ++ more → ⊥
@@ -214,7 +207,7 @@ absorbed-whole old text bytes d is rest all none = (
   subst IsUnfinished (sym none) nil-unfinished,
 )
 
--- What stands after the longest prefix that is a text, by the error that is found there: an unfinished character,
+-- What is after the longest prefix that is a text, by the error that is found there: an unfinished character,
 module _ (w : List ℕ) (n : ℕ) (v : IsValidUpTo w n) where
   pub open-after : (o : Option ℕ) → utf8_error_len (drop n w) ≡ o → is_some o ≡ false → IsUnfinished (drop n w)
   open-after None e s = record { none = rest-none w n v; unended = e }
@@ -275,7 +268,7 @@ module _ (text rest d : List ℕ) (utf8 : IsUtf8 text) (i e : ℕ) (owned : Bool
   open-whole h b is = if-whole rest h.0 h.1.none ∙ ap (λ b. if b then whole_text else wrong_text) (sym is)
 
   -- and what is broken is always
-  pub broken-fails : HoldsBytes true text rest d → (keep : Bool) → checked keep i owned d e ≡ wrong_text
+  pub broken-fails : HoldsBytes true text rest d → (partial : Bool) → checked partial i owned d e ≡ wrong_text
   broken-fails h true =
       let none = subst BeginsNoText (append-nil h.0) (h.2.none []) in
       let wrong = ap utf8_error_len (sym (append-nil h.0)) ∙ h.2.wrong [] in
@@ -283,8 +276,7 @@ module _ (text rest d : List ℕ) (utf8 : IsUtf8 text) (i e : ℕ) (owned : Bool
       kept-by h.0 (Some h.2.count) h.1 none wrong ∙ ap (λ n. failed invalid_code_point (i + n)) short
   broken-fails h false =
       let none = subst BeginsNoText (append-nil h.0) (h.2.none []) in
-      let wrong = ap utf8_error_len (sym (append-nil h.0)) ∙ h.2.wrong [] in
-      let some : nat_eq (length h.0) 0 ≡ false = by h.0 wrong in
+      let some : nat_eq (length h.0) 0 ≡ false = by h.0 (ap utf8_error_len (sym (append-nil h.0)) ∙ h.2.wrong []) in
       if-whole h.0 h.1 none ∙ if-false (nat_eq (length h.0) 0) _ _ some where
         by : (w : List ℕ) → utf8_error_len w ≡ Some h.2.count → nat_eq (length w) 0 ≡ false
         by [] z = absurd (none-some h.2.count (sym nil-unended ∙ z))
@@ -300,25 +292,25 @@ broken-stays s d u broken h =
 module _ (s : SoFar) (d : List ℕ) (utf8 : IsUtf8 s.text) (i e : ℕ) (owned : Bool) (h : HoldsText s d) where
   -- by the answer, the text is what is read or the place of a wrong byte
   abbrev Answered : Bool → Bool → Type 0
-  Answered keep b =
-      checked keep i owned d e
+  Answered partial b =
+      checked partial i owned d e
       ≡ (if b then whole_text s.text s.rest d utf8 i e owned else wrong_text s.text s.rest d utf8 i e owned)
 
   -- of a text that is kept
-  pub is_text-kept : s.broken ≡ false → (keep : Bool) → keep ≡ true → Answered keep keep
-  is_text-kept is keep k =
+  pub is_text-kept : s.broken ≡ false → (partial : Bool) → partial ≡ true → Answered partial partial
+  is_text-kept is partial k =
       subst (λ k. Answered k k) (sym k)
       (open-kept s.text s.rest d utf8 i e owned (subst (λ b. HoldsBytes b s.text s.rest d) is h))
 
   -- of a whole one
-  pub is_text-whole : s.broken ≡ false → (keep : Bool) → keep ≡ false → (b : Bool) → b ≡ nat_eq (length s.rest) 0
-      → Answered keep b
-  is_text-whole is keep k b none =
+  pub is_text-whole : s.broken ≡ false → (partial : Bool) → partial ≡ false → (b : Bool) → b ≡ nat_eq (length s.rest) 0
+      → Answered partial b
+  is_text-whole is partial k b none =
       subst (λ k. Answered k b) (sym k)
       (open-whole s.text s.rest d utf8 i e owned (subst (λ b. HoldsBytes b s.text s.rest d) is h) b none)
 
   -- of a broken one
-  pub is_text-broken : s.broken ≡ true → (keep b : Bool) → b ≡ true → Answered keep (not b)
-  is_text-broken is keep b wrong =
-      subst (λ b. Answered keep (not b)) (sym wrong)
-      (broken-fails s.text s.rest d utf8 i e owned (subst (λ b. HoldsBytes b s.text s.rest d) is h) keep)
+  pub is_text-broken : s.broken ≡ true → (partial b : Bool) → b ≡ true → Answered partial (not b)
+  is_text-broken is partial b wrong =
+      subst (λ b. Answered partial (not b)) (sym wrong)
+      (broken-fails s.text s.rest d utf8 i e owned (subst (λ b. HoldsBytes b s.text s.rest d) is h) partial)

@@ -46,7 +46,7 @@ only_ends names = record {
   object = λ b e members. tt;
 }
 
--- With partial reading off: the value, or the first fault.
+-- With partial reading off: the value, or the first error.
 abbrev pub whole_trees : Bool → Rules Text Tree
 whole_trees names = trees nothing_forgiven whole names
 

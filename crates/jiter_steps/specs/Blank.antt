@@ -1,4 +1,4 @@
--- Blanks (RFC 8259, 2).
+-- Whitespace (RFC 8259, 2).
 use Rattle.std.specs.Prelude.{◌≡◌, ◌⊎◌, ℕ, ◌≤◌, ◌<◌, ◌==◌, ◌||◌, Bool, List, length, slice_index}
 use Rattle.jiter_scan.specs.Ascii as ascii
 use Rattle.jiter_scan.specs.Scan.{run_end}
@@ -7,7 +7,7 @@ use Rattle.jiter_scan.specs.Scan.{run_end}
 abbrev pub is_blank : ℕ → Bool
 is_blank b = (b == ascii.space) || (b == ascii.tab) || (b == ascii.line_feed) || (b == ascii.carriage_return)
 
--- the first place from i on that has no blank, or the length
+-- the first place from i on that has no whitespace, or the length
 unfoldable pub past_blanks : List ℕ → ℕ → ℕ
 past_blanks t i = run_end is_blank t i
 
@@ -15,7 +15,7 @@ past_blanks t i = run_end is_blank t i
 abbrev pub IsBlankByte : ℕ → Type 0
 IsBlankByte c = (c ≡ ascii.space) ⊎ ((c ≡ ascii.tab) ⊎ ((c ≡ ascii.line_feed) ⊎ (c ≡ ascii.carriage_return)))
 
--- every byte from i to before j is a blank
+-- every byte from i to before j is whitespace
 pub record IsBlank (t : List ℕ) (i j : ℕ) : Type 0 where
   pub ordered : i ≤ j
   pub within : j ≤ length t

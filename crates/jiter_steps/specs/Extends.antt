@@ -10,7 +10,7 @@ use Rattle.jiter_steps.specs.Node as grammar
 abbrev pub BeginsText : Text → Text → Type 0
 BeginsText a b = (rest : List ℕ) × (b.bytes ≡ a.bytes ++ rest) × (a.owned ≡ true → b.owned ≡ true)
 
--- Strings and containers go on; other scalars are equal, and so is what stands before a
+-- Strings and containers go on; other scalars are equal, and so is what is before a
 -- container's last item or value. Keys are equal.
 abbrev mutual
   pub Extends : Tree → Tree → Type 0

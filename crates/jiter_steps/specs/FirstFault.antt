@@ -10,7 +10,7 @@ use Rattle.jiter_steps.specs.Node.{Node, IsDocument}
 abbrev pub BeginsNoDocument : Bool → List ℕ → Type 0
 BeginsNoDocument names prefix = (rest : List ℕ) (n : Node) → IsDocument names (prefix ++ rest) n → ⊥
 
--- a kind of fault of the bytes, and neither one of their end nor that of UTF-8
+-- a kind of error of the bytes, and neither one of their end nor that of UTF-8
 abbrev pub IsDeadEnd : Kind → Type 0
 IsDeadEnd k = (is_end_kind k ≡ false) × (k ≢ invalid_code_point) × (k ≢ out_of_memory)
 
@@ -32,7 +32,7 @@ pub record CanBeCompleted (names : Bool) (prefix : List ℕ) : Type 0 where
   pub are_closers : AreClosers closers
   pub document : IsDocument names (prefix ++ (filler ++ closers)) node
 
--- the kinds of fault up to whose index the text can be completed
+-- the kinds of error up to whose index the text can be completed
 abbrev pub can_go_on : Kind → Bool
 can_go_on expected_list_comma_or_end = true
 can_go_on expected_object_comma_or_end = true

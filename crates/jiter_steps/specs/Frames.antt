@@ -11,7 +11,7 @@ pub data Frame (K A : Type 0) : Type 0 where
   items_frame : List A → Frame K A
   members_frame : List (K × A) → K → Frame K A
 
--- a step whose forgiven fault closes the container
+-- a step whose forgiven error closes the container
 abbrev pub resolve_step : (Kind → Bool) → Step → Step
 resolve_step forgives (more j) = more j
 resolve_step forgives (closed e) = closed e
@@ -30,7 +30,7 @@ module _ {K A : Type 0} (r : Rules K A) (t : List ℕ) where
   abbrev pub value_in : ℕ → ℕ → Reading A
   value_in depth j = inside_at r t (suc nesting_limit - depth) j
 
-  -- an array and an object that stand in so many open containers
+  -- an array and an object that are in so many open containers
   abbrev pub array_in : ℕ → Container A A
   array_in depth = array_of r (value_in (suc depth)) t 0
 
@@ -48,7 +48,7 @@ module _ {K A : Type 0} (r : Rules K A) (t : List ℕ) where
   resume [] x = x
   resume (f ∷ fs) x = resume fs (after_value (length fs) f x)
 
-  -- What stands inside these open containers: where a value begins at j,
+  -- What is inside these open containers: where a value begins at j,
   abbrev pub value_from : List (Frame K A) → ℕ → Reading A
   value_from fs j = resume fs (value_in (length fs) j)
 

@@ -1,7 +1,7 @@
 -- The three literals (RFC 8259, 3), and what a value's first byte says.
 use Rattle.std.specs.Prelude.{ℕ, ◌==◌, true, false, if◌then◌else◌, List, codes}
 use Rattle.jiter_scan.specs.Ascii as ascii
-use Rattle.jiter_scan.specs.Word.{Extent, word_at}
+use Rattle.jiter_scan.specs.Word.{Span, word_at}
 use Rattle.jiter_scan.specs.NumberReading.{begins_number}
 use Rattle.jiter_steps.specs.Tree.{Tree, null, boolean}
 use Rattle.jiter_steps.specs.declared.parse.Literal.{Literal}
@@ -21,8 +21,8 @@ literal_tree literal.Null = null
 literal_tree literal.True = boolean true
 literal_tree literal.False = boolean false
 
--- the literal that stands at i, and its end
-abbrev pub literal_at : List ℕ → Literal → ℕ → Extent
+-- the literal that is at i, and its end
+abbrev pub literal_at : List ℕ → Literal → ℕ → Span
 literal_at t l i = word_at t (word_of l) i
 
 -- what kind of value a byte begins

@@ -49,14 +49,14 @@ end (string ps b e) = e
 end (array b e ns) = e
 end (object b e ms) = e
 
--- the byte c stands after the blanks from i on, and e is the place after it
+-- the byte c is after the whitespace from i on, and e is the place after it
 pub record StandsAfter (t : List ℕ) (i c e : ℕ) : Type 0 where
   pub at : ℕ
   pub blanks : IsBlank t i at
   pub here : slice_get t at ≡ Some c
   pub ends : e ≡ at + 1
 
--- a number's text stands from b to before e
+-- a number's text is from b to before e
 pub record SpellsNumber (names : Bool) (t : List ℕ) (b e : ℕ) : Type 0 where
   pub ordered : b ≤ e
   pub within : e ≤ length t
@@ -103,7 +103,7 @@ abbrev mutual
       (c : ℕ) × StandsAfter t i ascii.comma c × IsBlank t c k.begin × SpellsKey t k (begin n) × Spells names t n
       × SpellsMoreMembers names t (end n) ms e
 
--- how deep containers that are not empty stand one inside another
+-- how deep containers that are not empty are one inside another
 abbrev mutual
   pub nesting : Node → ℕ
   nesting (literal l b e) = 0
@@ -129,7 +129,7 @@ abbrev mutual
   nesting_of_members no_members = 0
   nesting_of_members (member k n ms) = max (nesting n) (nesting_of_members ms)
 
--- a backslash stands between the two places
+-- a backslash is between the two places
 abbrev pub has_backslash : List ℕ → ℕ → ℕ → Bool
 has_backslash t i j = list_any (λ c. c == ascii.backslash) (slice_range t i j)
 
@@ -161,11 +161,11 @@ abbrev mutual
   members_of t no_members = tree.no_members
   members_of t (member k n ms) = tree.member (text_at t k.pieces k.begin k.end) (value_of t n) (members_of t ms)
 
--- how many containers that are not empty may stand one inside another
+-- how many containers that are not empty may be one inside another
 abbrev pub nesting_limit : ℕ
 nesting_limit = 200
 
--- A document: blanks, a value, blanks, and a nesting within the limit.
+-- A document: whitespace, a value, whitespace, and a nesting within the limit.
 pub record IsDocument (names : Bool) (t : List ℕ) (n : Node) : Type 0 where
   pub before : IsBlank t 0 (begin n)
   pub spelled : Spells names t n

@@ -2,7 +2,7 @@
 use Rattle.std.specs.Prelude.{◌≡◌, ◌≤◌, ℕ, Bool, true, false, Result, Ok, Err}
 use Rattle.jiter_scan.specs.Kind.{fault_kind}
 use Rattle.jiter_scan.specs.Scanned.{taken, failed}
-use Rattle.jiter_scan.specs.Word.{Extent}
+use Rattle.jiter_scan.specs.Word.{Span}
 use Rattle.jiter_scan.specs.declared.errors.Fault.{Fault}
 use Rattle.jiter_steps.specs.Step.{Step, more, closed, stuck}
 use Rattle.jiter_steps.specs.Read.{Reading, done, fault}
@@ -11,7 +11,7 @@ use Rattle.jiter_steps.specs.declared.parse.Parser.{Parser}
 use Rattle.jiter_steps.specs.declared.read_error.ReadError.{ReadError}
 
 -- How a call moves the reader: over the same bytes, and never back.
-pub record Moves (old new : Parser) : Type 0 where
+pub record NeverMovesBack (old new : Parser) : Type 0 where
   pub same : new.bytes ≡ old.bytes
   pub forward : old.index ≤ new.index
 
@@ -26,15 +26,15 @@ Steps (Ok next) i s = s ≡ going next i
 Steps (Err f) i s = (s ≡ stuck (fault_kind f.kind) f.index) × (i ≡ f.index)
 
 -- The same of a step that only leads on.
-abbrev pub Leads : Result (Unit {0}) Fault → ℕ → Extent → Type 0
-Leads (Ok u) i x = x ≡ taken tt i
-Leads (Err f) i x = (x ≡ failed (fault_kind f.kind) f.index) × (i ≡ f.index)
+abbrev pub LeadsTo : Result (Unit {0}) Fault → ℕ → Span → Type 0
+LeadsTo (Ok u) i x = x ≡ taken tt i
+LeadsTo (Err f) i x = (x ≡ failed (fault_kind f.kind) f.index) × (i ≡ f.index)
 
 -- What was returned, seen by view, and the place where it left the reader, are this reading.
 abbrev pub Reads : {X A : Type 0} → (X → A) → Result X Fault → ℕ → Reading A → Type 0
 Reads view (Ok x) i r = r ≡ done (view x) i
 Reads view (Err f) i r = r ≡ fault (fault_kind f.kind) f.index i
 
--- The same, unless memory was refused.
-abbrev pub Gives : {X A : Type 0} → (X → A) → Result X ReadError → ℕ → Reading A → Type 0
-Gives view result i r = UnlessRefused result (λ x. Reads view x i r)
+-- The same, unless an allocation fails.
+abbrev pub Returns : {X A : Type 0} → (X → A) → Result X ReadError → ℕ → Reading A → Type 0
+Returns view result i r = UnlessRefused result (λ x. Reads view x i r)

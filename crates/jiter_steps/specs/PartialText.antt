@@ -1,4 +1,4 @@
--- A text that arrives in parts: how the bytes so far stand, whatever follows them.
+-- A text that arrives in parts: how the bytes so far are, whatever follows them.
 use Rattle.std.specs.Prelude.{◌≡◌, ℕ, Bool, true, false, List, [], ◌++◌, take, Some, None}
 use Rattle.std.specs.Str.{IsUtf8}
 use Rattle.std.specs.Str.Lossy.{utf8_error_len}

@@ -63,7 +63,7 @@ pub record SpellsChar (t : List ℕ) (i j c : ℕ) : Type 0 where
   pub stands : Stands t i j bytes
   pub piece : IsPiece bytes c
 
--- these pieces stand one after another from i to e
+-- these pieces are one after another from i to e
 abbrev pub SpellsPieces : List ℕ → ℕ → List Piece → ℕ → Type 0
 SpellsPieces t i [] e = i ≡ e
 SpellsPieces t i (p ∷ ps) e = SpellsChar t i p.end p.character × SpellsPieces t p.end ps e

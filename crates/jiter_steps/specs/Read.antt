@@ -3,7 +3,7 @@ use Rattle.std.specs.Prelude.{ℕ, zero, suc, ◌+◌, Bool, if◌then◌else◌
 use Rattle.std.specs.Prelude.{slice_get, Option, Some, None}
 use Rattle.jiter_scan.specs.Kind.{Kind, eof_value, expected_value, trailing_characters, recursion_limit}
 use Rattle.jiter_scan.specs.Scanned.{Scanned, taken, failed}
-use Rattle.jiter_scan.specs.Word.{Extent}
+use Rattle.jiter_scan.specs.Word.{Span}
 use Rattle.jiter_steps.specs.Blank.{past_blanks}
 use Rattle.jiter_steps.specs.Literal.{start_of}
 use Rattle.jiter_steps.specs.Node.{nesting_limit}
@@ -13,7 +13,7 @@ use Rattle.jiter_steps.specs.declared.parse.Literal.{Literal}
 use Rattle.jiter_steps.specs.declared.parse.Start.{Start}
 use Rattle.jiter_steps.specs.declared.parse.Start.TheVariants as start
 
--- a value and its end; or a fault's kind, its index, and where the reading stands then
+-- a value and its end; or an error's kind, its index, and where the reading is then
 pub data Reading (A : Type 0) : Type 0 where
   done : A → ℕ → Reading A
   fault : Kind → ℕ → ℕ → Reading A
@@ -25,12 +25,12 @@ pub record Rules (K A : Type 0) : Type 0 where
   pub number : List ℕ → ℕ → Scanned A
   pub text : List ℕ → ℕ → Scanned A
   pub key : List ℕ → ℕ → Scanned K
-  -- the fault of a key at this place that these members before it forbid
+  -- the error of a key at this place that these members before it forbid
   pub refuses : List (K × A) → List ℕ → ℕ → Option (Kind × ℕ)
   pub array : ℕ → ℕ → List A → A
   pub object : ℕ → ℕ → List (K × A) → A
 
--- A container: what may stand after its bracket, what after a part, a part at a place, the fault there that the parts
+-- A container: what may be after its bracket, what after a part, a part at a place, the error there that the parts
 -- before it make, and what is built of the parts.
 pub record Container (P A : Type 0) : Type 0 where
   pub first : ℕ → Option ℕ → Step
@@ -39,17 +39,17 @@ pub record Container (P A : Type 0) : Type 0 where
   pub refuses : List P → ℕ → Option (Kind × ℕ)
   pub build : ℕ → List P → A
 
--- a scalar at i; its fault leaves the reading there
+-- a scalar at i; its error leaves the reading there
 abbrev pub scalar_at : {A : Type 0} → ℕ → Scanned A → Reading A
 scalar_at i (taken a e) = done a e
 scalar_at i (failed k j) = fault k j i
 
--- A member is a key, its colon and its value. Faults of the colon leave the reading at their index.
+-- A member is a key, its colon and its value. Errors of the colon leave the reading at their index.
 abbrev pub with_key : {K A : Type 0} → K → Reading A → Reading (K × A)
 with_key k (done a e) = done (k, a) e
 with_key k (fault kind i stop) = fault kind i stop
 
-abbrev pub after_colon : {K A : Type 0} → K → (ℕ → Reading A) → Extent → Reading (K × A)
+abbrev pub after_colon : {K A : Type 0} → K → (ℕ → Reading A) → Span → Reading (K × A)
 after_colon k inner (taken u j) = with_key k (inner j)
 after_colon k inner (failed kind j) = fault kind j j
 
@@ -62,7 +62,7 @@ abbrev pub unless_refused : {P : Type 0} → Option (Kind × ℕ) → Reading P 
 unless_refused None x = x
 unless_refused (Some f) x = fault f.0 f.1 f.1
 
--- after a whole text's value nothing may stand
+-- after a whole text's value nothing may be
 abbrev pub if_last : {A : Type 0} → A → ℕ → ℕ → Option ℕ → Reading A
 if_last a e j None = done a e
 if_last a e j (Some c) = fault trailing_characters j j
@@ -72,7 +72,7 @@ to_end t (done a e) = if_last a e (past_blanks t e) (slice_get t (past_blanks t 
 to_end t (fault k i stop) = fault k i stop
 
 module _ {K A : Type 0} where
-  -- a fault inside a container: where it is forgiven the container closes at the stop
+  -- an error inside a container: where it is forgiven the container closes at the stop
   abbrev pub if_forgiven : Rules K A → (ℕ → A) → Kind → ℕ → ℕ → Reading A
   if_forgiven r close k i stop = if r.forgives k then done (close stop) stop else fault k i stop
 
@@ -131,7 +131,7 @@ module _ {K A : Type 0} where
   value_with r inner t i (start.Literal l) = scalar_at i (r.literal t l i)
   value_with r inner t i start.Nothing = fault expected_value i i
 
-  -- A value inside a container with so many levels left: with none it is the limit's fault at its first byte.
+  -- A value inside a container with so many levels left: with none it is the limit's error at its first byte.
   unfoldable pub inside_at : Rules K A → List ℕ → ℕ → ℕ → Reading A
   inside_at r t zero i = fault recursion_limit i i
   inside_at r t (suc levels) i = value_with r (λ j. inside_at r t levels j) t i (start_of (slice_index t i))
@@ -148,6 +148,6 @@ module _ {K A : Type 0} where
   unfoldable pub prefix_answer : Rules K A → List ℕ → Reading A
   prefix_answer r t = if_begun r t (past_blanks t 0) (slice_get t (past_blanks t 0))
 
-  -- the text's value, with nothing but blanks round it
+  -- the text's value, with nothing but whitespace round it
   unfoldable pub whole_answer : Rules K A → List ℕ → Reading A
   whole_answer r t = to_end t (prefix_answer r t)

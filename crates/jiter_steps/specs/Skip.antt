@@ -62,7 +62,7 @@ Continues names t fs (Err f) i x = x ≡ fault (fault_kind f.kind) f.index i
 abbrev pub IsPlainEnd : List ℕ → ℕ → ℕ → Type 0
 IsPlainEnd t i e = (names : Bool) → (levels : ℕ) → value_at (only_ends names) t levels i ≡ done tt e
 
--- After a part that ends at i, in a container of this shape that stands in any others: a value is awaited at j, or one
+-- After a part that ends at i, in a container of this shape that is in any others: a value is awaited at j, or one
 -- has ended there.
 abbrev pub LeadsAfter : ContainerKind → List ℕ → ℕ → Bool → ℕ → Type 0
 LeadsAfter b t i awaited j =

@@ -1,25 +1,25 @@
--- The steps between the parts of a container (RFC 8259, 4 and 5): blanks are passed, and then a byte decides.
+-- The steps between the parts of a container (RFC 8259, 4 and 5): whitespace is passed, and then a byte decides.
 use Rattle.std.specs.Prelude.{ℕ, ◌+◌, ◌==◌, if◌then◌else◌, Bool, not, List, slice_get, Option, Some, None}
 use Rattle.jiter_scan.specs.Ascii as ascii
 use Rattle.jiter_scan.specs.Kind.{Kind, eof_list, eof_object, eof_value, expected_colon, expected_list_comma_or_end}
 use Rattle.jiter_scan.specs.Kind.{expected_object_comma_or_end, key_must_be_a_string, trailing_comma}
 use Rattle.jiter_scan.specs.Kind.{trailing_characters}
 use Rattle.jiter_scan.specs.Scanned.{taken, failed}
-use Rattle.jiter_scan.specs.Word.{Extent}
-use Rattle.jiter_scan.specs.NumberReading.{extent_then}
+use Rattle.jiter_scan.specs.Word.{Span}
+use Rattle.jiter_scan.specs.NumberReading.{span_then}
 use Rattle.jiter_steps.specs.Blank.{past_blanks}
 use Rattle.jiter_steps.specs.declared.parse.ContainerKind.{ContainerKind}
 use Rattle.jiter_steps.specs.declared.parse.ContainerKind.TheVariants as shape
 use Rattle.jiter_steps.specs.declared.parse.Start.{Start}
 use Rattle.jiter_steps.specs.declared.parse.Start.TheVariants as start
 
--- where the reading goes on, the end of the container, or a fault at its place
+-- where the reading goes on, the end of the container, or an error at its place
 pub data Step : Type 0 where
   more : ℕ → Step
   closed : ℕ → Step
   stuck : Kind → ℕ → Step
 
--- what the byte after the blanks from i on decides, or the end of input there
+-- what the byte after the whitespace from i on decides, or the end of input there
 abbrev pub step : {A : Type 0} → List ℕ → (ℕ → Option ℕ → A) → ℕ → A
 step t row i = row (past_blanks t i) (slice_get t (past_blanks t i))
 
@@ -38,12 +38,12 @@ abbrev pub begins_part : ContainerKind → ℕ → Bool
 begins_part shape.Array c = not (c == ascii.right_bracket)
 begins_part shape.Object c = c == ascii.quote
 
--- the fault where the input ends before it is closed,
+-- the error where the input ends before it is closed,
 abbrev pub end_kind_of : ContainerKind → Kind
 end_kind_of shape.Array = eof_list
 end_kind_of shape.Object = eof_object
 
--- and the fault where neither a comma nor the closer stands after a part.
+-- and the error where neither a comma nor the closer is after a part.
 abbrev pub comma_kind_of : ContainerKind → Kind
 comma_kind_of shape.Array = expected_list_comma_or_end
 comma_kind_of shape.Object = expected_object_comma_or_end
@@ -87,20 +87,20 @@ abbrev pub object_step : List ℕ → ℕ → Option ℕ → Step
 object_step = container_step shape.Object
 
 -- the colon after a key
-abbrev pub colon : ℕ → Option ℕ → Extent
+abbrev pub colon : ℕ → Option ℕ → Span
 colon j None = failed eof_object j
 colon j (Some c) = if c == ascii.colon then taken tt (j + 1) else failed expected_colon j
 
 -- where a value begins: at any byte
-abbrev pub value_first : ℕ → Option ℕ → Extent
+abbrev pub value_first : ℕ → Option ℕ → Span
 value_first j None = failed eof_value j
 value_first j (Some c) = taken tt j
 
 -- after a key: its colon, and the place where its value begins
-abbrev pub object_colon : List ℕ → ℕ → Extent
-object_colon t i = extent_then (step t colon i) (step t value_first)
+abbrev pub object_colon : List ℕ → ℕ → Span
+object_colon t i = span_then (step t colon i) (step t value_first)
 
 -- after a document's value: nothing
-abbrev pub document_end : ℕ → Option ℕ → Extent
+abbrev pub document_end : ℕ → Option ℕ → Span
 document_end j None = taken tt j
 document_end j (Some c) = failed trailing_characters j

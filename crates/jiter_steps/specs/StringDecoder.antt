@@ -50,7 +50,7 @@ stop_view ending.Unclosed = unclosed
 stop_view ending.Cut = cut
 stop_view (ending.Wrong f) = wrong (fault_kind f.kind) f.index
 
--- what stands at a place that is no plain byte's
+-- what is at a place that is no plain byte's
 abbrev pub event_view : StringEvent → Event
 event_view (at_stop.Escape c j) = part (encode_utf8 c) true j
 event_view (at_stop.End s) = over (stop_view s)
@@ -59,17 +59,17 @@ event_view (at_stop.End s) = over (stop_view s)
 abbrev pub WantsMemory : List ℕ → ℕ → Type 0
 WantsMemory t at = slice_get t (scan_stop t (at + 1)) ≡ Some ascii.backslash
 
--- The string at i is decoded to the beginning of a tape of so many bytes: its length there and the index after it, or
+-- The string at i is decoded to the beginning of a buffer of so many bytes: its length there and the index after it, or
 -- its first error.
-pub record Decodes (t : List ℕ) (i : ℕ) (keep : Bool) (tape : List ℕ) (size : ℕ) (result : Result (ℕ × ℕ) ReadError)
+pub record Decodes (t : List ℕ) (i : ℕ) (partial : Bool) (buffer : List ℕ) (size : ℕ) (result : Result (ℕ × ℕ) ReadError)
     : Type 0 where
   pub value : UnlessRefused result (λ r.
-      Scans (with_end (λ n. record { owned = true; bytes = take n tape })) r (string_at (text_form keep) t i))
-  pub text : IfOk result (λ r. IsUtf8 (take r.0 tape))
+      Scans (with_end (λ n. record { owned = true; bytes = take n buffer })) r (string_at (text_form partial) t i))
+  pub text : IfOk result (λ r. IsUtf8 (take r.0 buffer))
   pub prefix : IfOk result (λ r. r.0 ≤ size)
 
 -- The escape at i ends at j, and its character is put after these bytes.
-pub record PutsEscape (t : List ℕ) (i : ℕ) (tape next : List ℕ) (j : ℕ) : Type 0 where
+pub record PutsEscape (t : List ℕ) (i : ℕ) (buffer next : List ℕ) (j : ℕ) : Type 0 where
   pub bytes : List ℕ
   pub is : part bytes true j ≡ event_at t i
-  pub put : next ≡ tape ++ bytes
+  pub put : next ≡ buffer ++ bytes

@@ -1,4 +1,4 @@
--- Reading a string from the left (RFC 8259, 7 and 8.1): what stands at each place, these joined up to the end,
+-- Reading a string from the left (RFC 8259, 7 and 8.1): what is at each place, these joined up to the end,
 -- and what each form makes of it.
 use Rattle.std.specs.Prelude.{ℕ, zero, suc, ◌+◌, ◌-◌, ◌==◌, ◌||◌, Bool, true, false, if◌then◌else◌, List, [], ◌∷◌, ◌++◌}
 use Rattle.std.specs.Prelude.{length, take, drop, slice_get, slice_index, slice_range, Option, Some, None, nat_lt}
@@ -11,14 +11,14 @@ use Rattle.jiter_scan.specs.Kind.{Kind, eof_string, invalid_escape, invalid_code
 use Rattle.jiter_scan.specs.Kind.{lone_surrogate, end_of_hex_escape}
 use Rattle.jiter_steps.specs.Escape.{short_escape, is_hex, unit_of, is_high, is_low, pair_of}
 
--- how a string ends: by its quote, by the end of input before a piece or within an escape, or by a fault
+-- how a string ends: by its quote, by the end of input before a piece or within an escape, or by an error
 pub data Stop : Type 0 where
   closed : ℕ → Stop
   unclosed : Stop
   cut : Stop
   wrong : Kind → ℕ → Stop
 
--- what stands at a place of a string: decoded bytes, whether they were escaped, and their end; or how the string ends
+-- what is at a place of a string: decoded bytes, whether they were escaped, and their end; or how the string ends
 pub data Event : Type 0 where
   part : List ℕ → Bool → ℕ → Event
   over : Stop → Event
@@ -105,12 +105,12 @@ plain i b = if nat_lt b ascii.space then over (wrong control_character i) else p
 abbrev pub escape_or_plain : List ℕ → ℕ → ℕ → Event
 escape_or_plain t i b = if b == ascii.backslash then after_backslash t (i + 1) (slice_get t (i + 1)) else plain i b
 
--- what stands at i, by its byte
+-- what is at i, by its byte
 abbrev pub event_by : List ℕ → ℕ → Option ℕ → Event
 event_by t i None = over unclosed
 event_by t i (Some b) = if b == ascii.quote then over (closed (i + 1)) else escape_or_plain t i b
 
--- what stands at i
+-- what is at i
 unfoldable pub event_at : List ℕ → ℕ → Event
 event_at t i = event_by t i (slice_get t i)
 
@@ -131,7 +131,7 @@ is_cut (wrong k i) = false
 abbrev pub before : List ℕ → Bool → Body → Body
 before bytes owned b = record { bytes = bytes ++ b.bytes; owned = owned || b.owned; stop = b.stop }
 
--- what stands at a place, and the rest after it
+-- what is at a place, and the rest after it
 abbrev pub join : (ℕ → Body) → Event → Body
 join rest (part bytes owned j) = before bytes owned (rest j)
 join rest (over s) = record { bytes = []; owned = is_cut s; stop = s }
@@ -155,10 +155,10 @@ pub data Form : Type 0 where
 
 -- of a text, and of the bytes between the quotes: whether what the input's end cuts off is kept
 abbrev pub text_form : Bool → Form
-text_form keep = if keep then kept else whole
+text_form partial = if partial then kept else whole
 
 abbrev pub raw_form : Bool → Form
-raw_form keep = if keep then raw_kept else raw
+raw_form partial = if partial then raw_kept else raw
 
 -- the decoded bytes, which begin at i, have to be UTF-8
 abbrev pub if_utf8 : ℕ → Bool → List ℕ → ℕ → Scanned Text
@@ -177,7 +177,7 @@ valid_prefix i owned bytes e = valid_prefix_by i owned bytes e (utf8_error_len (
 
 -- the decoded bytes as a text: all of them, or kept as far as they are UTF-8
 abbrev pub checked : Bool → ℕ → Bool → List ℕ → ℕ → Scanned Text
-checked keep i owned bytes e = if keep then valid_prefix i owned bytes e else if_utf8 i owned bytes e
+checked partial i owned bytes e = if partial then valid_prefix i owned bytes e else if_utf8 i owned bytes e
 
 -- the source bytes from i to before j
 abbrev pub between : List ℕ → ℕ → ℕ → Text

@@ -7,7 +7,7 @@ use Rattle.jiter_scan.specs.Kind.{Kind, duplicate_key}
 use Rattle.jiter_scan.specs.PartialMode.{is_active}
 use Rattle.jiter_scan.specs.declared.partial_mode.PartialMode.{PartialMode}
 use Rattle.jiter_scan.specs.Scanned.{Scanned, taken, failed}
-use Rattle.jiter_scan.specs.Word.{Extent}
+use Rattle.jiter_scan.specs.Word.{Span}
 use Rattle.jiter_steps.specs.Answer.{whole_trees, partial_trees}
 use Rattle.jiter_steps.specs.Node.{Node, Nodes, no_nodes, node, NodeMembers, no_members, member, IsDocument}
 use Rattle.jiter_steps.specs.Node as grammar
@@ -51,12 +51,12 @@ BeginsNoUniqueDocument names prefix = (rest : List ℕ) (n : Node) → IsUniqueD
 abbrev pub is_among : List ℕ → List (List ℕ) → Bool
 is_among key keys = list_any (bytes_eq key) keys
 
--- the fault of a repeated key stands after its colon
-abbrev pub after_its_colon : List ℕ → Extent → Option (Kind × ℕ)
+-- the error of a repeated key is after its colon
+abbrev pub after_its_colon : List ℕ → Span → Option (Kind × ℕ)
 after_its_colon key (taken u j) = Some (duplicate_key key, j)
 after_its_colon key (failed k j) = None
 
--- the fault of a key, after these
+-- the error of a key, after these
 abbrev pub repeated_key : {K : Type 0} → (K → List ℕ) → List (List ℕ) → List ℕ → Scanned K → Option (Kind × ℕ)
 repeated_key characters keys t (taken k e) =
     if is_among (characters k) keys then after_its_colon (characters k) (step t colon e) else None
@@ -79,7 +79,7 @@ without_repeats characters r = record {
 abbrev pub own_bytes : Text → List ℕ
 own_bytes s = s.bytes
 
--- With partial reading off: the value of a document with unique keys, or the first fault.
+-- With partial reading off: the value of a document with unique keys, or the first error.
 abbrev pub unique_answer : Bool → List ℕ → Reading Tree
 unique_answer names t = whole_answer (without_repeats own_bytes (whole_trees names)) t
 

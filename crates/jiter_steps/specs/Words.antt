@@ -6,10 +6,10 @@ pub use Rattle.jiter_scan.specs.Simd.{failing}
 pub use Rattle.jiter_steps.specs.Answer.{seen_as}
 pub use Rattle.jiter_steps.specs.Blank.{is_blank, past_blanks}
 pub use Rattle.jiter_steps.specs.Escape.{is_hex, is_high, is_low, short_escape}
-pub use Rattle.jiter_steps.specs.Found.{Finds, extent_of}
+pub use Rattle.jiter_steps.specs.Found.{Finds, span_of}
 pub use Rattle.jiter_steps.specs.Literal.{literal_at, start_of}
 pub use Rattle.jiter_steps.specs.PartialEscape.{IsSpelled, IsWithin, begun, held_after}
-pub use Rattle.jiter_steps.specs.PartialString.{Goes, HasTaken, HasTakenFrom, IsCountAt, IsEven, IsPart, IsTextWithin, Wherever, grown, text_or}
+pub use Rattle.jiter_steps.specs.PartialString.{GoesOnWith, HasTaken, HasTakenFrom, IsCountAt, IsEven, IsPart, IsTextWithin, Wherever, grown, text_or}
 pub use Rattle.jiter_steps.specs.PartialText.{HoldsText, IsUnfinished, IsWhole, nothing, with_text}
 pub use Rattle.jiter_steps.specs.RawString.{EndsAt, raw_view}
 pub use Rattle.jiter_steps.specs.Read.{done, scalar_at}

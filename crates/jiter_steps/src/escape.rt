@@ -11,8 +11,7 @@ ghost use Rattle.jiter_steps.specs.declared.escape.StringEnd.TheVariants as endi
 use jiter_scan::errors::{Fault, FaultKind, fault_at};
 use jiter_scan::word::byte_at;
 
-// Four hex digits: their number, the index of the first byte that is not one, or `Short` if fewer than four bytes are
-// left.
+// Four hex digits: their number, the index of the first wrong byte, or `Short` if fewer than four bytes are left.
 #[derive(Clone, Copy, Debug)]
 enum Hex {
     Short,
@@ -48,8 +47,7 @@ fn digit(byte: u8) -> Option<u32>
     }
 }
 
-// For each byte, the character that it means after a backslash, or 0 if that is no short escape (RFC 8259, 7). `\u` is
-// not a short escape.
+// For each byte, the character that it means after a backslash (RFC 8259, 7), or 0 for `u` and for wrong escapes.
 static SIMPLE_ESCAPES: [u8; 256] = [
     0, 0, 0, 0, 0, 0, 0, 0, 0, 0, 0, 0, 0, 0, 0, 0, 0, 0, 0, 0, 0, 0, 0, 0, 0, 0, 0, 0, 0, 0, 0, 0,
     0, 0, 34, 0, 0, 0, 0, 0, 0, 0, 0, 0, 0, 0, 0, 47, 0, 0, 0, 0, 0, 0, 0, 0, 0, 0, 0, 0, 0, 0, 0,

@@ -1,5 +1,4 @@
-//! The fast path of literals. It works on the bytes and an index, and its results are returned in registers. Only the
-//! slow path says which error there is.
+//! The fast path of literals. Its results are returned in registers. Only the slow path says which error there is.
 ghost use Rattle.std.specs.Prelude.{◌≡◌, ◌+◌, ◌≤◌, ◌<◌, IfSome, IsTrue, length, slice_get, Some};
 ghost use Rattle.jiter_steps.specs.Words.{taken, literal_at};
 

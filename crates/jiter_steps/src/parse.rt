@@ -4,7 +4,7 @@ ghost use Rattle.jiter_scan.specs.Kind.{fault_kind};
 ghost use Rattle.jiter_scan.specs.NumberReading.{number_at};
 ghost use Rattle.jiter_scan.specs.NumberDecoder.{number_view};
 ghost use Rattle.jiter_scan.specs.Scanned.{Scans, taken};
-ghost use Rattle.jiter_steps.specs.Found.{extent_of, step_of};
+ghost use Rattle.jiter_steps.specs.Found.{span_of, step_of};
 ghost use Rattle.jiter_steps.specs.Literal.{start_of, word_of, literal_at};
 ghost use Rattle.jiter_steps.specs.Step.{step, closer_of, begins_part, end_kind_of, comma_kind_of, document_end};
 ghost use Rattle.jiter_steps.specs.Read.{scalar_at};
@@ -12,10 +12,10 @@ ghost use Rattle.jiter_steps.specs.ReadError.{WhereRefused};
 ghost use Rattle.jiter_steps.specs.StringReading.{string_at, text_form};
 ghost use Rattle.jiter_steps.specs.StringDecoder.{text_view, WantsMemory};
 
-use crate::blank::past_blanks;
 use crate::read_error::ReadError;
 use crate::step::Step;
 use crate::string_decoder::string_at;
+use crate::whitespace::past_blanks;
 use jiter_scan::NumberAny;
 use jiter_scan::errors::{Fault, FaultKind, fault_at};
 use jiter_scan::number_decoder::number_at;
@@ -141,7 +141,7 @@ pub struct Parser<'j> {
 }
 
 impl<'j> Parser<'j> {
-    ghost use Rattle.jiter_steps.specs.Parse.{Moves, Steps, Leads, Reads, Gives};
+    ghost use Rattle.jiter_steps.specs.Parse.{NeverMovesBack, Steps, LeadsTo, Reads, Returns};
 
     /// Returns a reader at index 0.
     pub fn new(bytes: &'j [u8]) -> Self
@@ -155,8 +155,8 @@ impl<'j> Parser<'j> {
     #[inline(always)]
     pub fn go(&mut self, found: (usize, Option<FaultKind>)) -> Result<(), Fault>
         requires { (self.old.index ≤ found.0) × (found.0 ≤ length self.old.bytes.now) }
-        ensures moves { Moves self.old self.new }
-        ensures value { Leads result self.new.index (extent_of found.0 found.1) }
+        ensures moves { NeverMovesBack self.old self.new }
+        ensures value { LeadsTo result self.new.index (span_of found.0 found.1) }
         ensures place { self.new.index ≡ found.0 }
         ensures ok { OnOk result (found.1 ≡ None) }
     {
@@ -172,7 +172,7 @@ impl<'j> Parser<'j> {
     #[inline(always)]
     pub fn step(&mut self, found: (usize, Step)) -> Result<bool, Fault>
         requires { (self.old.index ≤ found.0) × (found.0 ≤ length self.old.bytes.now) }
-        ensures moves { Moves self.old self.new }
+        ensures moves { NeverMovesBack self.old self.new }
         ensures value { Steps result self.new.index (step_of found.0 found.1) }
         ensures place { self.new.index ≡ found.0 }
         ensures part { IfOk result (λ more. more ≡ true → found.1 ≡ Step.Part) }
@@ -188,8 +188,8 @@ impl<'j> Parser<'j> {
 
     /// Skips whitespace up to the end of the input. Fails at the first other byte.
     pub fn finish(&mut self) -> Result<(), Fault>
-        ensures moves { Moves self.old self.new }
-        ensures value { Leads result self.new.index
+        ensures moves { NeverMovesBack self.old self.new }
+        ensures value { LeadsTo result self.new.index
             (step self.old.bytes.now document_end self.old.index) }
     {
         self.index = past_blanks(self.bytes, self.index);
@@ -202,7 +202,7 @@ impl<'j> Parser<'j> {
     /// Reads the literal at the reader's position (RFC 8259, 3). After an error the reader is where it was.
     #[inline(always)]
     pub fn literal(&mut self, literal: Literal) -> Result<(), Fault>
-        ensures moves { Moves self.old self.new }
+        ensures moves { NeverMovesBack self.old self.new }
         ensures value { Reads (λ u. u) result self.new.index
             (scalar_at self.old.index (literal_at self.old.bytes.now literal self.old.index)) }
         ensures ahead { OnOk result (self.old.index < self.new.index) }
@@ -215,7 +215,7 @@ impl<'j> Parser<'j> {
     #[inline(always)]
     pub fn number(&mut self, allow_inf_nan: bool) -> Result<NumberAny<'j>, Fault>
         requires { self.old.index < length self.old.bytes.now }
-        ensures moves { Moves self.old self.new }
+        ensures moves { NeverMovesBack self.old self.new }
         ensures value { Reads number_view result self.new.index
             (scalar_at self.old.index (number_at allow_inf_nan self.old.bytes.now self.old.index)) }
         ensures ahead { OnOk result (self.old.index < self.new.index) }
@@ -231,18 +231,18 @@ impl<'j> Parser<'j> {
     pub fn string(
         &mut self,
         alloc: Global,
-        tape: &mut Vec<u8>,
-        keep: bool,
+        buffer: &mut Vec<u8>,
+        partial: bool,
     ) -> Result<CowStr<'j>, ReadError>
         requires { self.old.index < length self.old.bytes.now }
-        ensures moves { Moves self.old self.new }
-        ensures value { Gives text_view result self.new.index (scalar_at self.old.index
-            (string_at (text_form keep) self.old.bytes.now self.old.index)) }
+        ensures moves { NeverMovesBack self.old self.new }
+        ensures value { Returns text_view result self.new.index (scalar_at self.old.index
+            (string_at (text_form partial) self.old.bytes.now self.old.index)) }
         ensures ahead { OnOk result (self.old.index < self.new.index) }
         ensures place { OnErr result (self.new.index ≡ self.old.index) }
         ensures memory { WhereRefused result (WantsMemory self.old.bytes.now self.old.index) }
     {
-        let (text, end) = string_at(alloc, tape, self.bytes, self.index, keep)?;
+        let (text, end) = string_at(alloc, buffer, self.bytes, self.index, partial)?;
         self.index = end;
         Ok(text)
     }

@@ -3,13 +3,13 @@ ghost use Rattle.std.specs.Prelude.{◌≡◌, ◌+◌, ◌<◌, ◌≤◌, ◌�
 ghost use Rattle.jiter_steps.specs.Words.{IsSpelled, IsWithin, begun, held_after, cut, over, event_at};
 
 use crate::escape::{StringEnd, StringEvent, event_at};
-use crate::held::PendingBytes;
+use crate::pending_bytes::PendingBytes;
 use jiter_scan::errors::FaultKind;
 use std::marker::Model;
 
 /// What an escape is after its next bytes.
 #[derive(Clone, Copy, Debug, PartialEq, Eq)]
-pub enum Spelled {
+pub enum EscapeStep {
     /// It is incomplete.
     Part,
     /// It is complete, and means this character.
@@ -63,20 +63,19 @@ impl PartialEscape {
         self.held.as_slice().len()
     }
 
-    /// Reads the next byte of the escape and returns what the escape is then. Keeps the byte if the escape is still
-    /// incomplete.
-    pub fn next(&mut self, byte: u8) -> Spelled
+    /// Reads the next byte and returns what the escape is then. Keeps the byte if the escape is still incomplete.
+    pub fn next(&mut self, byte: u8) -> EscapeStep
         ensures spelled { IsSpelled (self.old ++ byte ∷ []) result }
         ensures held { self.new ≡ held_after self.old (byte ∷ []) result }
         ensures within { IsWithin (length self.old + 1) result }
     {
         let longer = self.held.with(&[byte]);
         match event_at(longer.as_slice(), 0) {
-            StringEvent::Escape(c, _) => Spelled::Whole(c),
-            StringEvent::End(StringEnd::Wrong(fault)) => Spelled::Wrong(fault.kind, fault.index),
+            StringEvent::Escape(c, _) => EscapeStep::Whole(c),
+            StringEvent::End(StringEnd::Wrong(fault)) => EscapeStep::Wrong(fault.kind, fault.index),
             StringEvent::End(StringEnd::Cut) => {
                 self.held = longer;
-                Spelled::Part
+                EscapeStep::Part
             }
             StringEvent::End(StringEnd::Closed(_)) => unreachable!(),
             StringEvent::End(StringEnd::Unclosed) => unreachable!(),

@@ -4,14 +4,14 @@ ghost use Rattle.std.specs.Prelude.{◌≡◌, ◌+◌, ◌<◌, ◌≤◌, [], 
 ghost use Rattle.std.specs.Prelude.{length, ◌++◌, ◌||◌, is_some, false, not, slice_get, slice_index};
 ghost use Rattle.std.specs.Prelude.{slice_range, string_bytes, take, true, ℕ};
 ghost use Rattle.jiter_steps.specs.Words.{eof_string, IsLook, Pass, is_plain, is_plain_ascii, scan_stop};
-ghost use Rattle.jiter_steps.specs.Words.{failed, Goes, HasTaken, HasTakenFrom, IsCountAt, IsEven, IsPart};
+ghost use Rattle.jiter_steps.specs.Words.{failed, GoesOnWith, HasTaken, HasTakenFrom, IsCountAt, IsEven, IsPart};
 ghost use Rattle.jiter_steps.specs.Words.{IsTextWithin, Wherever, grown, text_or, IsWhole, with_text};
 ghost use Rattle.jiter_steps.specs.Words.{content_at, kept, text_form, whole};
 ghost use Rattle.jiter_scan.specs.Ascii as ascii;
 
 use crate::escape::{StringEnd, StringEvent, next_event, simple_escape_at};
-use crate::partial_escape::{PartialEscape, Spelled};
-use crate::partial_text::{FEW, PartialText};
+use crate::partial_escape::{EscapeStep, PartialEscape};
+use crate::partial_text::{PartialText, SHORT_READ};
 use crate::read_error::ReadError;
 use crate::string_decoder::{checked_text, decode};
 use jiter_scan::errors::FaultKind;
@@ -23,7 +23,7 @@ use std::alloc::Global;
 
 /// What the next bytes are to a string.
 #[derive(Clone, Copy, Debug, PartialEq, Eq)]
-pub enum Went {
+pub enum StringStep {
     /// This many of them were taken.
     Taken(usize),
     /// The first one is the closing quote.
@@ -39,36 +39,36 @@ pub struct PartialString {
     escape: Option<PartialEscape>,
 }
 
-fn plain_run(piece: &[u8], at: usize, most: usize) -> &[u8]
-    requires within { at < length piece.now }
+fn plain_run(chunk: &[u8], at: usize, most: usize) -> &[u8]
+    requires within { at < length chunk.now }
     requires most { 0 < most }
-    requires plain { is_plain (slice_index piece.now at) ≡ true }
+    requires plain { is_plain (slice_index chunk.now at) ≡ true }
     ensures plain { Pass is_plain result.now }
-    ensures is { result.now ≡ slice_range piece.now at (at + length result.now) }
+    ensures is { result.now ≡ slice_range chunk.now at (at + length result.now) }
     ensures some { 0 < length result.now }
-    ensures within { at + length result.now ≤ length piece.now }
+    ensures within { at + length result.now ≤ length chunk.now }
 {
-    let near = &piece[..at + (piece.len() - at).min(most)];
+    let near = &chunk[..at + (chunk.len() - at).min(most)];
     &near[at..string_stop(near, at)]
 }
 
 #[inline(never)]
 fn decoded_within(
     alloc: Global,
-    tape: &mut Vec<u8>,
-    piece: &[u8],
+    buffer: &mut Vec<u8>,
+    chunk: &[u8],
     at: usize,
     stop: usize,
     low: bool,
 ) -> Result<Option<(String, usize)>, AllocFailed>
-    requires first { slice_get piece.now at ≡ Some ascii.quote }
-    requires stop { stop ≡ scan_stop piece.now (at + 1) }
-    requires escaped { IsLook piece.now (at + 1) stop (Look.Escaped low) }
-    ensures { IfOk result (λ found. IfSome found (λ x. IsTextWithin piece.now at (string_bytes x.0) x.1)) }
+    requires first { slice_get chunk.now at ≡ Some ascii.quote }
+    requires stop { stop ≡ scan_stop chunk.now (at + 1) }
+    requires escaped { IsLook chunk.now (at + 1) stop (Look.Escaped low) }
+    ensures { IfOk result (λ found. IfSome found (λ x. IsTextWithin chunk.now at (string_bytes x.0) x.1)) }
 {
-    match decode(tape, piece, at, stop, low, false) {
+    match decode(buffer, chunk, at, stop, low, false) {
         Ok((count, end)) => {
-            let text = utf8_text(&tape.as_slice()[..count]);
+            let text = utf8_text(&buffer.as_slice()[..count]);
             Ok(Some((copy_text(alloc, text)?, end)))
         }
         Err(ReadError::Memory(refused)) => Err(refused),
@@ -79,44 +79,43 @@ fn decoded_within(
 #[inline(always)]
 fn closed_within(
     alloc: Global,
-    piece: &[u8],
+    chunk: &[u8],
     at: usize,
     to: usize,
     text: &str,
 ) -> Result<Option<(String, usize)>, AllocFailed>
-    requires first { slice_get piece.now at ≡ Some ascii.quote }
-    requires stop { to ≡ scan_stop piece.now (at + 1) }
-    requires last { slice_get piece.now to ≡ Some ascii.quote }
-    requires text { text.now ≡ slice_range piece.now (at + 1) to }
-    ensures { IfOk result (λ found. IfSome found (λ x. IsTextWithin piece.now at (string_bytes x.0) x.1)) }
+    requires first { slice_get chunk.now at ≡ Some ascii.quote }
+    requires stop { to ≡ scan_stop chunk.now (at + 1) }
+    requires last { slice_get chunk.now to ≡ Some ascii.quote }
+    requires text { text.now ≡ slice_range chunk.now (at + 1) to }
+    ensures { IfOk result (λ found. IfSome found (λ x. IsTextWithin chunk.now at (string_bytes x.0) x.1)) }
 {
     Ok(Some((copy_text(alloc, text)?, to + 1)))
 }
 
 /// Returns the string whose opening quote is at `at`, and the index after its closing quote, if the chunk has both. A
-/// string with a backslash is decoded on the tape.
+/// string with a backslash is decoded in the buffer.
 ///
-/// Returns `None` if no quote is at `at`, the chunk ends first, or the string has an error. An [`PartialString`] then
-/// reads it.
+/// Returns `None` if no quote is at `at`. Also if the string is truncated or wrong: a [`PartialString`] then reads it.
 pub fn text_within(
     alloc: Global,
-    tape: &mut Vec<u8>,
-    piece: &[u8],
+    buffer: &mut Vec<u8>,
+    chunk: &[u8],
     at: usize,
 ) -> Result<Option<(String, usize)>, AllocFailed>
-    requires { at < length piece.now }
-    ensures { IfOk result (λ found. IfSome found (λ x. IsTextWithin piece.now at (string_bytes x.0) x.1)) }
+    requires { at < length chunk.now }
+    ensures { IfOk result (λ found. IfSome found (λ x. IsTextWithin chunk.now at (string_bytes x.0) x.1)) }
 {
-    if piece[at] != b'"' {
+    if chunk[at] != b'"' {
         return Ok(None);
     }
-    match look_at(piece, at + 1) {
-        (to, Look::Plain) => closed_within(alloc, piece, at, to, utf8_text(&piece[at + 1..to])),
-        (to, Look::Utf8) => match checked_text(piece, at + 1, to, false) {
-            Ok(text) => closed_within(alloc, piece, at, to, text),
+    match look_at(chunk, at + 1) {
+        (to, Look::Plain) => closed_within(alloc, chunk, at, to, utf8_text(&chunk[at + 1..to])),
+        (to, Look::Utf8) => match checked_text(chunk, at + 1, to, false) {
+            Ok(text) => closed_within(alloc, chunk, at, to, text),
             Err(_) => Ok(None),
         },
-        (stop, Look::Escaped(low)) => decoded_within(alloc, tape, piece, at, stop, low),
+        (stop, Look::Escaped(low)) => decoded_within(alloc, buffer, chunk, at, stop, low),
         (_, Look::Fault(_)) => Ok(None),
     }
 }
@@ -134,40 +133,40 @@ impl PartialString {
 
     // Takes the next byte of the incomplete escape.
     #[inline(never)]
-    fn spell(&mut self, piece: &[u8], at: usize) -> Result<Went, AllocFailed>
-        requires within { at < length piece.now }
+    fn spell(&mut self, chunk: &[u8], at: usize) -> Result<StringStep, AllocFailed>
+        requires within { at < length chunk.now }
         requires open { ¬ (self.old.escape ≡ None) }
-        ensures goes { (w : List ℕ) → HasTaken self.old w → IfOk result (Goes self.new w piece.now at) }
-        ensures part { IfOk result (IsPart piece.now at) }
+        ensures goes { (w : List ℕ) → HasTaken self.old w → IfOk result (GoesOnWith self.new w chunk.now at) }
+        ensures part { IfOk result (IsPart chunk.now at) }
         ensures refused { OnErr result (self.new ≡ self.old) }
     {
         let Some(escape) = &mut self.escape else {
             unreachable!();
         };
-        match escape.next(piece[at]) {
-            Spelled::Part => {}
-            Spelled::Whole(c) => {
+        match escape.next(chunk[at]) {
+            EscapeStep::Part => {}
+            EscapeStep::Whole(c) => {
                 self.text.add_char(c)?;
                 self.escape = None;
             }
-            Spelled::Wrong(kind, after) => {
-                return Ok(Went::Wrong(kind, escape.count() - after));
+            EscapeStep::Wrong(kind, after) => {
+                return Ok(StringStep::Wrong(kind, escape.count() - after));
             }
         }
-        Ok(Went::Taken(1))
+        Ok(StringStep::Taken(1))
     }
 
     // A truncated escape is kept for the next chunk. Of a wrong one only the backslash is taken: the next calls read
     // the other bytes one by one, up to the error.
-    fn take_long_escape(&mut self, piece: &[u8], at: usize) -> Result<usize, AllocFailed>
-        requires within { at < length piece.now }
+    fn take_long_escape(&mut self, chunk: &[u8], at: usize) -> Result<usize, AllocFailed>
+        requires within { at < length chunk.now }
         requires none { self.old.escape ≡ None }
-        requires backslash { slice_get piece.now at ≡ Some ascii.backslash }
-        ensures taken { (w : List ℕ) → HasTaken self.old w → IfOk result (HasTakenFrom self.new w piece.now at) }
-        ensures part { IfOk result (IsCountAt piece.now at) }
+        requires backslash { slice_get chunk.now at ≡ Some ascii.backslash }
+        ensures taken { (w : List ℕ) → HasTaken self.old w → IfOk result (HasTakenFrom self.new w chunk.now at) }
+        ensures part { IfOk result (IsCountAt chunk.now at) }
         ensures refused { OnErr result (self.new ≡ self.old) }
     {
-        let rest = &piece[at..];
+        let rest = &chunk[at..];
         match next_event(rest, 0) {
             StringEvent::Escape(c, end) => {
                 self.text.add_char(c)?;
@@ -186,20 +185,20 @@ impl PartialString {
 
     // The fast path for short escapes.
     #[inline(always)]
-    fn take_escape(&mut self, piece: &[u8], at: usize) -> Result<usize, AllocFailed>
-        requires within { at < length piece.now }
+    fn take_escape(&mut self, chunk: &[u8], at: usize) -> Result<usize, AllocFailed>
+        requires within { at < length chunk.now }
         requires none { self.old.escape ≡ None }
-        requires backslash { slice_get piece.now at ≡ Some ascii.backslash }
-        ensures taken { (w : List ℕ) → HasTaken self.old w → IfOk result (HasTakenFrom self.new w piece.now at) }
-        ensures part { IfOk result (IsCountAt piece.now at) }
+        requires backslash { slice_get chunk.now at ≡ Some ascii.backslash }
+        ensures taken { (w : List ℕ) → HasTaken self.old w → IfOk result (HasTakenFrom self.new w chunk.now at) }
+        ensures part { IfOk result (IsCountAt chunk.now at) }
         ensures refused { OnErr result (self.new ≡ self.old) }
     {
-        if piece.len() - at < 2 {
-            return self.take_long_escape(piece, at);
+        if chunk.len() - at < 2 {
+            return self.take_long_escape(chunk, at);
         }
-        let sign = simple_escape_at(piece, at);
+        let sign = simple_escape_at(chunk, at);
         if sign == 0 {
-            return self.take_long_escape(piece, at);
+            return self.take_long_escape(chunk, at);
         }
         self.text.add_char(sign as char)?;
         Ok(2)
@@ -207,16 +206,16 @@ impl PartialString {
 
     // No character is incomplete, so bytes below 80 hex need no test.
     #[inline(always)]
-    fn plain_whole(&mut self, piece: &[u8], at: usize) -> Result<usize, AllocFailed>
-        requires within { at < length piece.now }
+    fn plain_whole(&mut self, chunk: &[u8], at: usize) -> Result<usize, AllocFailed>
+        requires within { at < length chunk.now }
         requires even { IsEven self.old }
-        requires plain { is_plain (slice_index piece.now at) ≡ true }
-        ensures taken { (w : List ℕ) → HasTaken self.old w → IfOk result (HasTakenFrom self.new w piece.now at) }
-        ensures part { IfOk result (IsCountAt piece.now at) }
+        requires plain { is_plain (slice_index chunk.now at) ≡ true }
+        ensures taken { (w : List ℕ) → HasTaken self.old w → IfOk result (HasTakenFrom self.new w chunk.now at) }
+        ensures part { IfOk result (IsCountAt chunk.now at) }
         ensures refused { OnErr result (self.new ≡ self.old) }
     {
-        let (to, low) = scan_string(piece, at);
-        let run = &piece[at..to];
+        let (to, low) = scan_string(chunk, at);
+        let run = &chunk[at..to];
         if low {
             self.text.add_ascii(run)?;
             return Ok(to - at);
@@ -225,41 +224,40 @@ impl PartialString {
     }
 
     // Next to an incomplete character, only a few bytes are read. After a wrong one, nothing is tested.
-    fn plain(&mut self, piece: &[u8], at: usize) -> Result<usize, AllocFailed>
-        requires within { at < length piece.now }
+    fn plain(&mut self, chunk: &[u8], at: usize) -> Result<usize, AllocFailed>
+        requires within { at < length chunk.now }
         requires none { self.old.escape ≡ None }
-        requires plain { is_plain (slice_index piece.now at) ≡ true }
-        ensures taken { (w : List ℕ) → HasTaken self.old w → IfOk result (HasTakenFrom self.new w piece.now at) }
-        ensures part { IfOk result (IsCountAt piece.now at) }
+        requires plain { is_plain (slice_index chunk.now at) ≡ true }
+        ensures taken { (w : List ℕ) → HasTaken self.old w → IfOk result (HasTakenFrom self.new w chunk.now at) }
+        ensures part { IfOk result (IsCountAt chunk.now at) }
         ensures refused { OnErr result (self.new ≡ self.old) }
     {
         if self.text.is_whole() {
-            return self.plain_whole(piece, at);
+            return self.plain_whole(chunk, at);
         }
         let most = if self.text.is_text(true) {
-            FEW
+            SHORT_READ
         } else {
-            piece.len()
+            chunk.len()
         };
-        self.text.add(plain_run(piece, at, most))
+        self.text.add(plain_run(chunk, at, most))
     }
 
-    /// Takes bytes of the chunk from `at` on. Returns how many, or what ends the string there. If an allocation fails,
-    /// nothing changes.
-    pub fn next(&mut self, piece: &[u8], at: usize) -> Result<Went, AllocFailed>
-        requires { at < length piece.now }
-        ensures goes { (w : List ℕ) → HasTaken self.old w → IfOk result (Goes self.new w piece.now at) }
-        ensures part { IfOk result (IsPart piece.now at) }
+    /// Takes bytes of the chunk from `at` on, and returns how many or what ends the string. `Err` changes nothing.
+    pub fn next(&mut self, chunk: &[u8], at: usize) -> Result<StringStep, AllocFailed>
+        requires { at < length chunk.now }
+        ensures goes { (w : List ℕ) → HasTaken self.old w → IfOk result (GoesOnWith self.new w chunk.now at) }
+        ensures part { IfOk result (IsPart chunk.now at) }
         ensures refused { OnErr result (self.new ≡ self.old) }
     {
         if self.escape.is_some() {
-            return self.spell(piece, at);
+            return self.spell(chunk, at);
         }
-        match piece[at] {
-            b'"' => Ok(Went::Quote),
-            b'\\' => Ok(Went::Taken(self.take_escape(piece, at)?)),
-            0..=31 => Ok(Went::Wrong(FaultKind::ControlCharacterWhileParsingString, 0)),
-            _ => Ok(Went::Taken(self.plain(piece, at)?)),
+        match chunk[at] {
+            b'"' => Ok(StringStep::Quote),
+            b'\\' => Ok(StringStep::Taken(self.take_escape(chunk, at)?)),
+            0..=31 => Ok(StringStep::Wrong(FaultKind::ControlCharacterWhileParsingString, 0)),
+            _ => Ok(StringStep::Taken(self.plain(chunk, at)?)),
         }
     }
 
@@ -270,22 +268,22 @@ impl PartialString {
         self.escape.is_none() && self.text.is_whole()
     }
 
-    /// Returns whether the string is UTF-8 if it ends here: with its closing quote, or with the input if `keep` is set.
-    /// With `keep`, an incomplete character at its end is left out.
+    /// Returns whether the string is UTF-8 if it ends here: with its closing quote, or with the input if `partial` is set.
+    /// With `partial`, an incomplete character at its end is left out.
     ///
     /// If the string is not UTF-8, its first wrong byte is after the characters so far.
-    pub fn is_text(&self, keep: bool) -> bool
+    pub fn is_text(&self, partial: bool) -> bool
         ensures closed { (w : List ℕ) → (h : HasTaken self.now w) → self.now.escape ≡ None
             → Wherever w (λ t i j. slice_get t j ≡ Some ascii.quote
-            → content_at (text_form keep) t i ≡ text_or result i h.escaped self.now.text.text (j + 1)) }
-        ensures cut { (w : List ℕ) → (h : HasTaken self.now w) → keep ≡ true → Wherever w (λ t i j. length t ≡ j
+            → content_at (text_form partial) t i ≡ text_or result i h.escaped self.now.text.text (j + 1)) }
+        ensures cut { (w : List ℕ) → (h : HasTaken self.now w) → partial ≡ true → Wherever w (λ t i j. length t ≡ j
             → content_at kept t i
             ≡ text_or result i (h.escaped || is_some self.now.escape) self.now.text.text j) }
-        ensures kept { keep ≡ true → result ≡ not self.now.text.broken }
+        ensures kept { partial ≡ true → result ≡ not self.now.text.broken }
         ensures unclosed { (w : List ℕ) → HasTaken self.now w → Wherever w (λ t i j. length t ≡ j
             → content_at whole t i ≡ failed eof_string j) }
     {
-        self.text.is_text(keep)
+        self.text.is_text(partial)
     }
 
     /// Returns the characters so far.

@@ -5,20 +5,19 @@ ghost use Rattle.std.specs.Prelude.{if◌then◌else◌, encode_utf8, IsAscii, I
 ghost use Rattle.jiter_steps.specs.Words.{invalid_code_point, taken, failed, HoldsText, IsUnfinished};
 ghost use Rattle.jiter_steps.specs.Words.{IsWhole, nothing, with_text, checked};
 
-use crate::characters::valid_utf8_end;
-use crate::held::PendingBytes;
+use crate::pending_bytes::PendingBytes;
+use crate::utf8::valid_utf8_end;
 use jiter_scan::memory::{AllocFailed, push_ascii, push_char, push_text};
 use jiter_scan::text::utf8_text;
 use std::alloc::Global;
 use std::marker::Model;
 use std::mem;
 
-// At most this many bytes are read with an incomplete character. If the characters after it have one length, at most
-// three such reads are needed until one ends with a complete character.
-pub(crate) const FEW: usize = 7;
+// At most this many bytes are read with an incomplete character, until a read ends with a complete one. If all
+// characters have the same length, that is so after three reads.
+pub(crate) const SHORT_READ: usize = 7;
 
-/// The characters so far, and the bytes of an incomplete one; or the characters before a byte that is wrong, whatever
-/// follows.
+/// The characters so far, and the bytes of an incomplete one; or the characters before the first wrong byte.
 #[derive(Drop)]
 pub struct PartialText {
     text: String,
@@ -66,8 +65,7 @@ impl PartialText {
         Ok(())
     }
 
-    /// Takes bytes from the start of `run` and returns how many: at least one, unless `run` is empty. If the allocation
-    /// fails, nothing changes.
+    /// Takes the first bytes of `run` and returns how many, at least one if there is one. An error changes nothing.
     pub fn add(&mut self, run: &[u8]) -> Result<usize, AllocFailed>
         ensures taken { (d : List ℕ) → HoldsText (self.old) d
             → IfOk result (λ n. HoldsText self.new (d ++ take n run.now)) }
@@ -82,7 +80,7 @@ impl PartialText {
             self.absorb(run)?;
             run.len()
         } else {
-            let few = run.len().min(FEW);
+            let few = run.len().min(SHORT_READ);
             let held = self.rest.with(&run[..few]);
             self.absorb(held.as_slice())?;
             few
@@ -137,17 +135,17 @@ impl PartialText {
         !self.broken && self.rest.as_slice().is_empty()
     }
 
-    /// Returns whether the bytes so far are UTF-8. With `keep`, an incomplete character at their end is left out.
+    /// Returns whether the bytes so far are UTF-8. With `partial`, an incomplete character at their end is left out.
     ///
     /// If the bytes are not UTF-8, the first wrong one is after the characters so far.
-    pub fn is_text(&self, keep: bool) -> bool
-        ensures kept { keep ≡ true → result ≡ not self.now.broken }
+    pub fn is_text(&self, partial: bool) -> bool
+        ensures kept { partial ≡ true → result ≡ not self.now.broken }
         ensures checked { (d : List ℕ) → HoldsText self.now d → (i e : ℕ) → (owned : Bool)
-            → checked keep i owned d e
+            → checked partial i owned d e
             ≡ (if result then taken (record { owned = owned; bytes = self.now.text }) e
             else failed invalid_code_point (i + length self.now.text)) }
     {
-        !self.broken && (keep || self.rest.as_slice().is_empty())
+        !self.broken && (partial || self.rest.as_slice().is_empty())
     }
 
     /// Returns the characters so far.

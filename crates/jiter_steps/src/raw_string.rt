@@ -67,9 +67,9 @@ fn fault_of(bytes: &[u8], at: usize) -> Fault
     requires stop { IfSome (slice_get bytes.now at) (λ b. is_stop b ≡ true) }
     requires over { (i : ℕ) × EndsAt bytes.now i at }
     requires no_quote { slice_get bytes.now at ≢ Some ascii.quote }
-    ensures { (i : ℕ) → (keep : Bool) → EndsAt bytes.now i at
-        → (IsTrue keep → at < length bytes.now)
-        → content_at (raw_form keep) bytes.now i ≡ failed (fault_kind result.kind) result.index }
+    ensures { (i : ℕ) → (partial : Bool) → EndsAt bytes.now i at
+        → (IsTrue partial → at < length bytes.now)
+        → content_at (raw_form partial) bytes.now i ≡ failed (fault_kind result.kind) result.index }
 {
     match event_at(bytes, at) {
         StringEvent::End(StringEnd::Wrong(fault)) => fault,
@@ -113,38 +113,42 @@ pub fn string_end(bytes: &[u8], at: usize) -> Result<usize, Fault>
 /// Returns the bytes between the quotes of the string at `at`, and the index after its closing quote (RFC 8259, 7).
 /// Escapes are checked but not decoded, and UTF-8 is not tested.
 ///
-/// With `keep`, the input may end inside the string, except inside an escape. The bytes then go up to the length, which
-/// is also the index. Otherwise fails as [`string_end`] does.
+/// With `partial`, the input may end in the string, except in an escape: the bytes and the index then go up to the length.
+/// Otherwise fails as [`string_end`] does.
 #[inline(always)]
-pub fn raw_string_at<'j>(bytes: &'j [u8], at: usize, keep: bool) -> Result<(&'j [u8], usize), Fault>
+pub fn raw_string_at<'j>(
+    bytes: &'j [u8],
+    at: usize,
+    partial: bool,
+) -> Result<(&'j [u8], usize), Fault>
     requires { at < length bytes.now }
-    ensures value { Scans (with_end raw_view) result (string_at (raw_form keep) bytes.now at) }
+    ensures value { Scans (with_end raw_view) result (string_at (raw_form partial) bytes.now at) }
     ensures advances { IfOk result (λ x. (at < x.1) × (x.1 ≤ length bytes.now)) }
 {
     let end = content_end(bytes, at + 1);
     match byte_at(bytes, end) {
         Some(b'"') => Ok((&bytes[at + 1..end], end + 1)),
         Some(_) => Err(fault_of(bytes, end)),
-        None if keep => Ok((&bytes[at + 1..], bytes.len())),
+        None if partial => Ok((&bytes[at + 1..], bytes.len())),
         None => Err(fault_of(bytes, end)),
     }
 }
 
 impl<'j> Parser<'j> {
-    ghost use Rattle.jiter_steps.specs.Parse.{Moves, Reads};
+    ghost use Rattle.jiter_steps.specs.Parse.{NeverMovesBack, Reads};
 
     /// Reads the bytes between the quotes of the string at the reader's position (RFC 8259, 7), as [`raw_string_at`]
     /// does. After an error the reader is where it was.
     #[inline(always)]
-    pub fn raw_string(&mut self, keep: bool) -> Result<&'j [u8], Fault>
+    pub fn raw_string(&mut self, partial: bool) -> Result<&'j [u8], Fault>
         requires { self.old.index < length self.old.bytes.now }
-        ensures moves { Moves self.old self.new }
+        ensures moves { NeverMovesBack self.old self.new }
         ensures value { Reads raw_view result self.new.index (scalar_at self.old.index
-            (string_at (raw_form keep) self.old.bytes.now self.old.index)) }
+            (string_at (raw_form partial) self.old.bytes.now self.old.index)) }
         ensures ahead { OnOk result (self.old.index < self.new.index) }
         ensures place { OnErr result (self.new.index ≡ self.old.index) }
     {
-        let (content, end) = raw_string_at(self.bytes, self.index, keep)?;
+        let (content, end) = raw_string_at(self.bytes, self.index, partial)?;
         self.index = end;
         Ok(content)
     }

@@ -5,18 +5,18 @@ ghost use Rattle.jiter_steps.specs.Answer.{only_ends, skip_at};
 ghost use Rattle.jiter_steps.specs.Frames.{resume, value_from};
 ghost use Rattle.jiter_steps.specs.Literal.{start_of};
 ghost use Rattle.jiter_steps.specs.Node.{nesting_limit};
-ghost use Rattle.jiter_steps.specs.Parse.{Moves, Reads};
+ghost use Rattle.jiter_steps.specs.Parse.{NeverMovesBack, Reads};
 ghost use Rattle.jiter_steps.specs.Read.{done, scalar_at, value_at};
 ghost use Rattle.jiter_steps.specs.Found.{step_of};
 ghost use Rattle.jiter_steps.specs.Skip.{Continues, inside, open_frames};
 ghost use Rattle.jiter_steps.specs.Step.{opening};
 
-use crate::fast_skip::{REACH, fast_end, fast_first_inside, fast_run, fast_value_end};
+use crate::fast_skip::{SKIP_REACH, fast_end, fast_first_inside, fast_run, fast_value_end};
 use crate::parse::{ContainerKind, NESTING_LIMIT, Parser, Start, literal_end, start_of};
 use crate::raw_string::string_end;
 use crate::step::{Step, first, member_value, next};
 use jiter_scan::errors::{Fault, FaultKind, fault_at};
-use jiter_scan::number_extent::number_end;
+use jiter_scan::number_span::number_end;
 
 // How many open containers the table can hold: more than `NESTING_LIMIT`.
 const TABLE_SIZE: usize = 256;
@@ -29,8 +29,7 @@ struct Nest {
     ghost within: { depth ≤ nesting_limit },
 }
 
-// Goes from where a step ended to the value there, which in an object is after a key and its colon. Returns `false` after
-// the closing bracket.
+// Goes from the end of a step to the value there, in an object past its key and colon. `false`: the container ended.
 #[inline(always)]
 fn inside(
     parser: &mut Parser<'_>,
@@ -39,7 +38,7 @@ fn inside(
 ) -> Result<bool, Fault>
     requires place { (parser.old.index ≤ found.0) × (found.0 ≤ length parser.old.bytes.now) }
     requires part { found.1 ≡ Step.Part → found.0 < length parser.old.bytes.now }
-    ensures moves { Moves parser.old parser.new }
+    ensures moves { NeverMovesBack parser.old parser.new }
     ensures value { Reads (λ more. more) result parser.new.index
         (inside shape parser.old.bytes.now (step_of found.0 found.1)) }
     ensures inside { IfOk result (λ more. more ≡ true
@@ -70,7 +69,7 @@ fn begin(parser: &mut Parser<'_>, nest: &mut Nest, shape: ContainerKind) -> Resu
     requires within { parser.old.index < length parser.old.bytes.now }
     requires bracket { start_of (slice_index parser.old.bytes.now parser.old.index)
         ≡ opening shape }
-    ensures moves { Moves parser.old parser.new }
+    ensures moves { NeverMovesBack parser.old parser.new }
     ensures value { (names : Bool) → Continues names parser.old.bytes.now
         (open_frames nest.new.kinds nest.new.depth) result parser.new.index
         (value_from (only_ends names) parser.old.bytes.now
@@ -96,7 +95,7 @@ fn skip_scalar(parser: &mut Parser<'_>, allow_inf_nan: bool) -> Result<(), Fault
     requires within { parser.old.index < length parser.old.bytes.now }
     requires array { start_of (slice_index parser.old.bytes.now parser.old.index) ≢ Start.Array }
     requires object { start_of (slice_index parser.old.bytes.now parser.old.index) ≢ Start.Object }
-    ensures moves { Moves parser.old parser.new }
+    ensures moves { NeverMovesBack parser.old parser.new }
     ensures value { (levels : ℕ) → Reads (λ u. u) result parser.new.index
         (value_at (only_ends allow_inf_nan) parser.old.bytes.now levels parser.old.index) }
     ensures ahead { OnOk result (parser.old.index < parser.new.index) }
@@ -117,7 +116,7 @@ fn skip_scalar(parser: &mut Parser<'_>, allow_inf_nan: bool) -> Result<(), Fault
 #[inline(always)]
 fn begin_value(parser: &mut Parser<'_>, nest: &mut Nest, allow_inf_nan: bool) -> Result<bool, Fault>
     requires { parser.old.index < length parser.old.bytes.now }
-    ensures moves { Moves parser.old parser.new }
+    ensures moves { NeverMovesBack parser.old parser.new }
     ensures value { Continues allow_inf_nan parser.old.bytes.now
         (open_frames nest.new.kinds nest.new.depth) result parser.new.index
         (value_from (only_ends allow_inf_nan) parser.old.bytes.now
@@ -137,7 +136,7 @@ fn begin_value(parser: &mut Parser<'_>, nest: &mut Nest, allow_inf_nan: bool) ->
 // Closes the containers that end here. Returns `true` at the next value, and `false` if no container is open.
 #[inline(always)]
 fn end_value(parser: &mut Parser<'_>, nest: &mut Nest) -> Result<bool, Fault>
-    ensures moves { Moves parser.old parser.new }
+    ensures moves { NeverMovesBack parser.old parser.new }
     ensures value { (names : Bool) → Continues names parser.old.bytes.now
         (open_frames nest.new.kinds nest.new.depth) result parser.new.index (resume (only_ends names)
         parser.old.bytes.now (open_frames nest.old.kinds nest.old.depth)
@@ -157,9 +156,8 @@ fn end_value(parser: &mut Parser<'_>, nest: &mut Nest) -> Result<bool, Fault>
     }
 }
 
-// The fast path after a value. Returns the index that it reaches, and how many containers are open there. The `bool` is
-// `true` if a value begins at that index, and `false` if one ends there. Here and below, `last` is the last index with
-// `REACH` bytes left.
+// The fast path after a value. Returns an index, how many containers are open there, and whether a value begins there.
+// If not, the last one ended there. Here and below, `last` is the last index with `SKIP_REACH` bytes left.
 #[inline(always)]
 fn fast_after(
     bytes: &[u8],
@@ -232,10 +230,10 @@ fn fast_turns(bytes: &[u8], from: usize, nest: &mut Nest) -> (usize, bool)
     ensures place { (from ≤ result.0) × (result.0 ≤ length bytes.now) }
     ensures ahead { result.1 ≡ false → from < result.0 }
 {
-    if bytes.len() < REACH {
+    if bytes.len() < SKIP_REACH {
         return (from, true);
     }
-    let last = bytes.len() - REACH;
+    let last = bytes.len() - SKIP_REACH;
     let mut at = from;
     let mut depth = nest.depth;
     'turns: while at <= last {
@@ -262,7 +260,7 @@ fn fast_turns(bytes: &[u8], from: usize, nest: &mut Nest) -> (usize, bool)
 // Where the fast path stops, the slow path makes one step.
 fn skip_container(parser: &mut Parser<'_>, allow_inf_nan: bool) -> Result<(), Fault>
     requires { parser.old.index < length parser.old.bytes.now }
-    ensures moves { Moves parser.old parser.new }
+    ensures moves { NeverMovesBack parser.old parser.new }
     ensures value { Reads (λ u. u) result parser.new.index
         (skip_at allow_inf_nan parser.old.bytes.now parser.old.index) }
     ensures ahead { OnOk result (parser.old.index < parser.new.index) }
@@ -288,7 +286,7 @@ fn skip_container(parser: &mut Parser<'_>, allow_inf_nan: bool) -> Result<(), Fa
 /// After an error the reader is at the first byte of the scalar or key that has it, otherwise at the error's index.
 pub fn skip(parser: &mut Parser<'_>, allow_inf_nan: bool) -> Result<(), Fault>
     requires { parser.old.index < length parser.old.bytes.now }
-    ensures moves { Moves parser.old parser.new }
+    ensures moves { NeverMovesBack parser.old parser.new }
     ensures value { Reads (λ u. u) result parser.new.index
         (skip_at allow_inf_nan parser.old.bytes.now parser.old.index) }
     ensures ahead { OnOk result (parser.old.index < parser.new.index) }

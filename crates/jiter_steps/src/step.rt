@@ -1,11 +1,10 @@
-//! The steps between the parts of a document (RFC 8259, 4 and 5). Each returns in registers where it ended and what it
-//! found there, the kind of an error included.
+//! The steps between a document's parts (RFC 8259, 4 and 5). Each returns in registers what it found, and where.
 ghost use Rattle.std.specs.Prelude.{◌≡◌, ◌+◌, ◌≤◌, ◌<◌, IfSome, None, Some, length, slice_get, true};
 ghost use Rattle.jiter_steps.specs.Words.{past_blanks, step, container_first, container_comma};
-ghost use Rattle.jiter_steps.specs.Words.{container_step, colon, value_first, object_colon, Finds, extent_of};
+ghost use Rattle.jiter_steps.specs.Words.{container_step, colon, value_first, object_colon, Finds, span_of};
 
-use crate::blank::blanks_end;
 use crate::parse::ContainerKind;
+use crate::whitespace::blanks_end;
 use jiter_scan::errors::FaultKind;
 use jiter_scan::word::byte_at;
 
@@ -147,7 +146,7 @@ pub fn next(bytes: &[u8], from: usize, shape: ContainerKind) -> (usize, Step)
 #[inline(always)]
 pub fn colon(bytes: &[u8], from: usize) -> (usize, Option<FaultKind>)
     requires { from ≤ length bytes.now }
-    ensures value { step bytes.now colon from ≡ extent_of result.0 result.1 }
+    ensures value { step bytes.now colon from ≡ span_of result.0 result.1 }
     ensures within { (from ≤ result.0) × (result.0 ≤ length bytes.now) }
 {
     let (at, byte) = peek_for(bytes, from, b':');
@@ -162,7 +161,7 @@ pub fn colon(bytes: &[u8], from: usize) -> (usize, Option<FaultKind>)
 #[inline(always)]
 pub fn value_first(bytes: &[u8], from: usize) -> (usize, Option<FaultKind>)
     requires { from ≤ length bytes.now }
-    ensures value { step bytes.now value_first from ≡ extent_of result.0 result.1 }
+    ensures value { step bytes.now value_first from ≡ span_of result.0 result.1 }
     ensures within { (from ≤ result.0) × (result.0 ≤ length bytes.now) }
     ensures inside { result.1 ≡ None → result.0 < length bytes.now }
 {
@@ -177,7 +176,7 @@ pub fn value_first(bytes: &[u8], from: usize) -> (usize, Option<FaultKind>)
 #[inline(always)]
 pub fn member_value(bytes: &[u8], from: usize) -> (usize, Option<FaultKind>)
     requires { from ≤ length bytes.now }
-    ensures value { object_colon bytes.now from ≡ extent_of result.0 result.1 }
+    ensures value { object_colon bytes.now from ≡ span_of result.0 result.1 }
     ensures within { (from ≤ result.0) × (result.0 ≤ length bytes.now) }
     ensures inside { result.1 ≡ None → result.0 < length bytes.now }
 {

@@ -8,52 +8,51 @@ ghost use Rattle.jiter_steps.specs.Words.{WhereRefused, body_at, event_at, over,
 ghost use Rattle.jiter_steps.specs.Words.{checked, string_at, text_view, stop_view, Decodes, PutsEscape};
 ghost use Rattle.jiter_steps.specs.Words.{WantsMemory};
 
-use crate::characters::valid_utf8_end;
 use crate::escape::{StringEnd, StringEvent, next_event, simple_escape_at};
 use crate::read_error::ReadError;
+use crate::utf8::valid_utf8_end;
+use jiter_scan::decode_buffer::{put_char, put_first};
 use jiter_scan::errors::{Fault, FaultKind, fault_at};
 use jiter_scan::memory::{AllocFailed, copy_text};
 use jiter_scan::short_scan::{Look, look_at};
 use jiter_scan::simd::copy_plain;
-use jiter_scan::tape::{put_char, put_first};
 use jiter_scan::text::utf8_text;
 use std::alloc::Global;
 use std::borrow::CowStr;
 
-// Puts the character of the escape at `stop` after the first `end` bytes of the tape. Returns the index after the
+// Puts the character of the escape at `stop` after the first `end` bytes of the buffer. Returns the index after the
 // escape, and how many bytes count then. The error is how the string ends, if no escape is there.
 #[inline(always)]
 fn put_escape(
-    tape: &mut Vec<u8>,
+    buffer: &mut Vec<u8>,
     end: usize,
     bytes: &[u8],
     stop: usize,
 ) -> Result<(usize, usize), StringEnd>
     requires within { stop ≤ length bytes.now }
     requires stop { IfSome (slice_get bytes.now stop) (λ b. is_stop b ≡ true) }
-    requires room { end + 4 ≤ vec_len tape.old }
-    ensures put { IfOk result (λ r. PutsEscape bytes.now stop (take end tape.old.items) (take r.1 tape.new.items) r.0) }
-    ensures place { IfOk result (λ r. r.1 ≤ vec_len tape.new) }
+    requires room { end + 4 ≤ vec_len buffer.old }
+    ensures put { IfOk result (λ r. PutsEscape bytes.now stop (take end buffer.old.items) (take r.1 buffer.new.items) r.0) }
+    ensures place { IfOk result (λ r. r.1 ≤ vec_len buffer.new) }
     ensures ending { IfErr result (λ s. over (stop_view s) ≡ event_at bytes.now stop) }
-    ensures same { IfErr result (λ _. tape.new ≡ tape.old) }
+    ensures same { IfErr result (λ _. buffer.new ≡ buffer.old) }
 {
     let sign = simple_escape_at(bytes, stop);
     if sign != 0 {
-        tape[end] = sign;
+        buffer[end] = sign;
         return Ok((stop + 2, end + 1));
     }
     match next_event(bytes, stop) {
-        StringEvent::Escape(c, after) => Ok((after, put_char(tape, end, c))),
+        StringEvent::Escape(c, after) => Ok((after, put_char(buffer, end, c))),
         StringEvent::End(ending) => Err(ending),
     }
 }
 
-// Decodes to the beginning of the tape the string whose first byte is at `from`. Its bytes before `stop` are plain, and
-// `ascii` says whether they are below 80 hex. Returns how many bytes that gives, whether they are known to be UTF-8, and
-// how the string ends.
+// Decodes the string whose first byte is at `from`. Its bytes before `stop` are plain, and `ascii` if below 80 hex.
+// Returns how many bytes it has in the buffer, whether they are known to be UTF-8, and how the string ends.
 #[inline(always)]
 fn decode_on(
-    tape: &mut Vec<u8>,
+    buffer: &mut Vec<u8>,
     bytes: &[u8],
     from: usize,
     stop: usize,
@@ -62,18 +61,18 @@ fn decode_on(
     requires within { from ≤ length bytes.now }
     requires stop { stop ≡ scan_stop bytes.now from }
     requires ascii { IsTrue ascii → IsAsciiTo bytes.now from stop }
-    ensures text { IfOk result (λ r. take r.0 tape.new.items ≡ (body_at bytes.now from).bytes) }
-    ensures utf8 { IfOk result (λ r. IsTrue r.1 → IsUtf8 (take r.0 tape.new.items)) }
-    ensures within { IfOk result (λ r. r.0 ≤ vec_len tape.new) }
+    ensures text { IfOk result (λ r. take r.0 buffer.new.items ≡ (body_at bytes.now from).bytes) }
+    ensures utf8 { IfOk result (λ r. IsTrue r.1 → IsUtf8 (take r.0 buffer.new.items)) }
+    ensures within { IfOk result (λ r. r.0 ≤ vec_len buffer.new) }
     ensures stop { IfOk result (λ r. stop_view r.2 ≡ (body_at bytes.now from).stop) }
 {
     let mut stop = stop;
-    let mut end = put_first(tape, bytes, from, stop)?;
+    let mut end = put_first(buffer, bytes, from, stop)?;
     let mut known = ascii;
     loop {
-        match put_escape(tape, end, bytes, stop) {
+        match put_escape(buffer, end, bytes, stop) {
             Ok((at, count)) => {
-                let (next, filled, low) = copy_plain(tape, count, bytes, at)?;
+                let (next, filled, low) = copy_plain(buffer, count, bytes, at)?;
                 stop = next;
                 end = filled;
                 known &= low;
@@ -83,15 +82,15 @@ fn decode_on(
     }
 }
 
-// Returns how many bytes belong to the string. With `keep`, those of an incomplete character at the end do not. The
+// Returns how many bytes belong to the string. With `partial`, those of an incomplete character at the end do not. The
 // error is the number of bytes before the wrong one.
 #[inline(always)]
-fn checked_count(content: &[u8], known: bool, keep: bool) -> Result<usize, usize>
+fn checked_count(content: &[u8], known: bool, partial: bool) -> Result<usize, usize>
     requires { IsTrue known → IsUtf8 content.now }
     ensures value { (i e : ℕ) → (owned : Bool) → MatchResult result
-        (λ n. checked keep i owned content.now e
+        (λ n. checked partial i owned content.now e
         ≡ taken (record { owned = owned; bytes = take n content.now }) e)
-        (λ n. checked keep i owned content.now e ≡ failed invalid_code_point (i + n)) }
+        (λ n. checked partial i owned content.now e ≡ failed invalid_code_point (i + n)) }
     ensures text { IfOk result (λ n. IsUtf8 (take n content.now)) }
     ensures prefix { IfOk result (λ n. n ≤ length content.now) }
     ensures within { IfErr result (λ n. n ≤ length content.now) }
@@ -103,7 +102,7 @@ fn checked_count(content: &[u8], known: bool, keep: bool) -> Result<usize, usize
     if wrong {
         return Err(count);
     }
-    if keep {
+    if partial {
         return Ok(count);
     }
     if count == content.len() {
@@ -114,7 +113,7 @@ fn checked_count(content: &[u8], known: bool, keep: bool) -> Result<usize, usize
 }
 
 /// Returns the text from `from` up to before `to`, if it is UTF-8 (RFC 8259, 8.1), and otherwise the index of the error.
-/// With `keep`, an incomplete character at its end is left out.
+/// With `partial`, an incomplete character at its end is left out.
 ///
 /// # Requires
 ///
@@ -124,17 +123,17 @@ pub fn checked_text<'j>(
     bytes: &'j [u8],
     from: usize,
     to: usize,
-    keep: bool,
+    partial: bool,
 ) -> Result<&'j str, usize>
     requires { (from ≤ to) × (to ≤ length bytes.now) }
     ensures value { (e : ℕ) → MatchResult result
-        (λ text. checked keep from false (slice_range bytes.now from to) e
+        (λ text. checked partial from false (slice_range bytes.now from to) e
         ≡ taken (record { owned = false; bytes = text.now }) e)
-        (λ i. checked keep from false (slice_range bytes.now from to) e ≡ failed invalid_code_point i) }
+        (λ i. checked partial from false (slice_range bytes.now from to) e ≡ failed invalid_code_point i) }
     ensures within { IfErr result (λ i. (from ≤ i) × (i ≤ to)) }
 {
     let content = &bytes[from..to];
-    match checked_count(content, false, keep) {
+    match checked_count(content, false, partial) {
         Ok(count) => Ok(utf8_text(&content[..count])),
         Err(right) => Err(from + right),
     }
@@ -147,14 +146,14 @@ fn borrow_text<'j>(
     from: usize,
     to: usize,
     end: usize,
-    keep: bool,
+    partial: bool,
 ) -> Result<(CowStr<'j>, usize), ReadError>
     requires { (from ≤ to) × (to ≤ length bytes.now) }
     ensures value { UnlessRefused result (λ r. Scans (with_end text_view) r
-        (checked keep from false (slice_range bytes.now from to) end)) }
+        (checked partial from false (slice_range bytes.now from to) end)) }
     ensures memory { WhereRefused result ⊥ }
 {
-    match checked_text(bytes, from, to, keep) {
+    match checked_text(bytes, from, to, partial) {
         Ok(text) => Ok((CowStr::Borrowed(text), end)),
         Err(index) => Err(ReadError::Fault(fault_at(FaultKind::InvalidUnicodeCodePoint, index))),
     }
@@ -173,20 +172,20 @@ pub(crate) fn cut_short(bytes: &[u8]) -> Fault
     }
 }
 
-// With `keep`, a string may end with the input.
+// With `partial`, a string may end with the input.
 #[tactic(auto, using(crate::proofs::Calls::StringAnswers::string_closed))]
-fn text_end(bytes: &[u8], ending: StringEnd, keep: bool) -> Result<usize, Fault>
+fn text_end(bytes: &[u8], ending: StringEnd, partial: bool) -> Result<usize, Fault>
     ensures { (i : ℕ) → (bs : List ℕ) → (owned : Bool) → MatchResult result
-        (λ e. text_in_form (text_form keep) bytes.now i bs owned (stop_view ending) ≡ checked keep i owned bs e)
-        (λ f. text_in_form (text_form keep) bytes.now i bs owned (stop_view ending)
+        (λ e. text_in_form (text_form partial) bytes.now i bs owned (stop_view ending) ≡ checked partial i owned bs e)
+        (λ f. text_in_form (text_form partial) bytes.now i bs owned (stop_view ending)
         ≡ failed (fault_kind f.kind) f.index) }
 {
     match ending {
         StringEnd::Closed(end) => Ok(end),
         StringEnd::Wrong(fault) => Err(fault),
-        StringEnd::Unclosed if keep => Ok(bytes.len()),
+        StringEnd::Unclosed if partial => Ok(bytes.len()),
         StringEnd::Unclosed => Err(cut_short(bytes)),
-        StringEnd::Cut if keep => Ok(bytes.len()),
+        StringEnd::Cut if partial => Ok(bytes.len()),
         StringEnd::Cut => Err(cut_short(bytes)),
     }
 }
@@ -194,21 +193,21 @@ fn text_end(bytes: &[u8], ending: StringEnd, keep: bool) -> Result<usize, Fault>
 /// Does what [`decode`] does, and is inlined. A parse decodes its values with it.
 #[inline(always)]
 pub fn decode_inline(
-    tape: &mut Vec<u8>,
+    buffer: &mut Vec<u8>,
     bytes: &[u8],
     at: usize,
     stop: usize,
     ascii: bool,
-    keep: bool,
+    partial: bool,
 ) -> Result<(usize, usize), ReadError>
     requires within { at < length bytes.now }
     requires stop { stop ≡ scan_stop bytes.now (at + 1) }
     requires escaped { IsLook bytes.now (at + 1) stop (Look.Escaped ascii) }
-    ensures { Decodes bytes.now at keep tape.new.items (vec_len tape.new) result }
+    ensures { Decodes bytes.now at partial buffer.new.items (vec_len buffer.new) result }
 {
-    let (count, known, ending) = decode_on(tape, bytes, at + 1, stop, ascii)?;
-    let end = text_end(bytes, ending, keep)?;
-    match checked_count(&tape.as_slice()[..count], known, keep) {
+    let (count, known, ending) = decode_on(buffer, bytes, at + 1, stop, ascii)?;
+    let end = text_end(bytes, ending, partial)?;
+    match checked_count(&buffer.as_slice()[..count], known, partial) {
         Ok(fit) => Ok((fit, end)),
         Err(right) => {
             let fault = fault_at(FaultKind::InvalidUnicodeCodePoint, at + 1 + right);
@@ -217,9 +216,9 @@ pub fn decode_inline(
     }
 }
 
-/// Decodes the string at `at` to the beginning of the tape. Its first backslash is at `stop`, and `ascii` says whether
-/// all bytes before it are below 80 hex, as [`look_at`] reports them. Returns how many bytes the string has on the tape,
-/// and the index after its closing quote. Fails as [`string_at`] does, and `keep` means the same.
+/// Decodes the string at `at` to the beginning of the buffer. Its first backslash is at `stop`, and `ascii` says whether
+/// all bytes before it are below 80 hex, as [`look_at`] reports them. Returns how many bytes the string has in the buffer,
+/// and the index after its closing quote. Fails as [`string_at`] does, and `partial` means the same.
 ///
 /// It isn't inlined: all callers share one copy of [`decode_inline`].
 ///
@@ -228,40 +227,40 @@ pub fn decode_inline(
 /// - `stop` and `ascii` are what [`look_at`] returns for `at + 1`.
 #[inline(never)]
 pub fn decode(
-    tape: &mut Vec<u8>,
+    buffer: &mut Vec<u8>,
     bytes: &[u8],
     at: usize,
     stop: usize,
     ascii: bool,
-    keep: bool,
+    partial: bool,
 ) -> Result<(usize, usize), ReadError>
     requires within { at < length bytes.now }
     requires stop { stop ≡ scan_stop bytes.now (at + 1) }
     requires escaped { IsLook bytes.now (at + 1) stop (Look.Escaped ascii) }
-    ensures { Decodes bytes.now at keep tape.new.items (vec_len tape.new) result }
+    ensures { Decodes bytes.now at partial buffer.new.items (vec_len buffer.new) result }
 {
-    decode_inline(tape, bytes, at, stop, ascii, keep)
+    decode_inline(buffer, bytes, at, stop, ascii, partial)
 }
 
 // For a string with a backslash.
 #[inline(always)]
 fn decode_text<'j>(
     alloc: Global,
-    tape: &mut Vec<u8>,
+    buffer: &mut Vec<u8>,
     bytes: &'j [u8],
     at: usize,
     stop: usize,
     ascii: bool,
-    keep: bool,
+    partial: bool,
 ) -> Result<(CowStr<'j>, usize), ReadError>
     requires within { at < length bytes.now }
     requires stop { stop ≡ scan_stop bytes.now (at + 1) }
     requires escaped { IsLook bytes.now (at + 1) stop (Look.Escaped ascii) }
     ensures { UnlessRefused result (λ r. Scans (with_end text_view) r
-        (string_at (text_form keep) bytes.now at)) }
+        (string_at (text_form partial) bytes.now at)) }
 {
-    let (count, end) = decode(tape, bytes, at, stop, ascii, keep)?;
-    let own = copy_text(alloc, utf8_text(&tape.as_slice()[..count]))?;
+    let (count, end) = decode(buffer, bytes, at, stop, ascii, partial)?;
+    let own = copy_text(alloc, utf8_text(&buffer.as_slice()[..count]))?;
     Ok((CowStr::Owned(own), end))
 }
 
@@ -273,27 +272,27 @@ fn decode_text<'j>(
 #[inline(always)]
 pub fn string_from<'j>(
     alloc: Global,
-    tape: &mut Vec<u8>,
+    buffer: &mut Vec<u8>,
     bytes: &'j [u8],
     at: usize,
     found: (usize, Look),
-    keep: bool,
+    partial: bool,
 ) -> Result<(CowStr<'j>, usize), ReadError>
     requires within { at < length bytes.now }
     requires stop { found.0 ≡ scan_stop bytes.now (at + 1) }
     requires found { IsLook bytes.now (at + 1) found.0 found.1 }
     ensures value { UnlessRefused result (λ r. Scans (with_end text_view) r
-        (string_at (text_form keep) bytes.now at)) }
+        (string_at (text_form partial) bytes.now at)) }
     ensures advances { IfOk result (λ x. (at < x.1) × (x.1 ≤ length bytes.now)) }
     ensures memory { WhereRefused result (WantsMemory bytes.now at) }
 {
     match found {
         (to, Look::Plain) => Ok((CowStr::Borrowed(utf8_text(&bytes[at + 1..to])), to + 1)),
-        (to, Look::Utf8) => borrow_text(bytes, at + 1, to, to + 1, keep),
-        (stop, Look::Escaped(ascii)) => decode_text(alloc, tape, bytes, at, stop, ascii, keep),
+        (to, Look::Utf8) => borrow_text(bytes, at + 1, to, to + 1, partial),
+        (stop, Look::Escaped(ascii)) => decode_text(alloc, buffer, bytes, at, stop, ascii, partial),
         (to, Look::Fault(kind)) => {
-            if keep && to == bytes.len() {
-                return borrow_text(bytes, at + 1, to, to, keep);
+            if partial && to == bytes.len() {
+                return borrow_text(bytes, at + 1, to, to, partial);
             }
             Err(ReadError::Fault(fault_at(kind, to)))
         }
@@ -301,30 +300,28 @@ pub fn string_from<'j>(
 }
 
 /// Returns the string whose opening quote is at `at`, and the index after its closing quote (RFC 8259, 7 and 8.1). A
-/// string without a backslash is borrowed from the input. Any other is decoded on the tape and copied.
+/// string without a backslash is borrowed from the input. Any other is decoded in the buffer and copied.
 ///
-/// With `keep`, the input may end inside the string, and the index is then the length. An incomplete character at the
-/// string's end is left out.
+/// With `partial`, the input may end in the string: the index is then the length. An incomplete character is left out.
 ///
 /// # Errors
 ///
 /// - an error of the string, at the byte that is wrong, or at the length if the input ends first
-/// - `InvalidUnicodeCodePoint` if the decoded bytes are not UTF-8; the index counts decoded bytes after the opening
-///   quote
+/// - `InvalidUnicodeCodePoint` if the decoded bytes are not UTF-8; the index counts decoded bytes after the quote
 /// - `Memory`, only for a string with a backslash
 #[inline(always)]
 pub fn string_at<'j>(
     alloc: Global,
-    tape: &mut Vec<u8>,
+    buffer: &mut Vec<u8>,
     bytes: &'j [u8],
     at: usize,
-    keep: bool,
+    partial: bool,
 ) -> Result<(CowStr<'j>, usize), ReadError>
     requires { at < length bytes.now }
     ensures value { UnlessRefused result (λ r. Scans (with_end text_view) r
-        (string_at (text_form keep) bytes.now at)) }
+        (string_at (text_form partial) bytes.now at)) }
     ensures advances { IfOk result (λ x. (at < x.1) × (x.1 ≤ length bytes.now)) }
     ensures memory { WhereRefused result (WantsMemory bytes.now at) }
 {
-    string_from(alloc, tape, bytes, at, look_at(bytes, at + 1), keep)
+    string_from(alloc, buffer, bytes, at, look_at(bytes, at + 1), partial)
 }

@@ -21,7 +21,7 @@ use Rattle.std.proofs.lemmas.List.{at_drop_all, get_or-set_other, get_or-set_sam
 use Rattle.std.proofs.lemmas.List.Elements.{All-weaker}
 use Rattle.jiter_value.specs.DuplicateKeys.{Adds, Holds, bucket_of}
 use Rattle.jiter_value.specs.declared.turns.duplicate_keys.DuplicateKeyIndex.{DuplicateKeyIndex}
-use Rattle.jiter_value.specs.declared.turns.duplicate_keys.Place.{Place}
+use Rattle.jiter_value.specs.declared.turns.duplicate_keys.BucketSlot.{BucketSlot}
 
 -- how two keys compare
 abbrev pub cow_cmp : CowStr Global → CowStr Global → Ordering
@@ -134,7 +134,7 @@ has-one-more ks k old new base end same on last had is =
           (below-or-at i old.end (omega (arith, high, end))));
     }
 
-pub adds-slot : (k : List ℕ) (old new : DuplicateKeyIndex) (p : Place) → IsPlaceOf old.slots.items k p → p.at < p.bucket + 8
+pub adds-slot : (k : List ℕ) (old new : DuplicateKeyIndex) (p : BucketSlot) → IsPlaceOf old.slots.items k p → p.at < p.bucket + 8
     → new.base ≡ old.base → new.end ≡ old.end + 1 → new.slots.items ≡ set old.slots.items p.at (old.end + 1)
     → new.rest ≡ old.rest → Adds k old new
 adds-slot k old new p place lt base end slots rest =
@@ -164,7 +164,7 @@ adds-slot k old new p place lt base end slots rest =
       keys = λ ks. has-one-more ks k old new base end (ap length slots ∙ length-set os p.at (old.end + 1)) on last;
     }
 
-pub adds-rest : (k : List ℕ) (old new : DuplicateKeyIndex) (p : Place) (c : CowStr Global) → IsPlaceOf old.slots.items k p
+pub adds-rest : (k : List ℕ) (old new : DuplicateKeyIndex) (p : BucketSlot) (c : CowStr Global) → IsPlaceOf old.slots.items k p
     → p.bucket + 8 ≤ p.at → new.base ≡ old.base → new.end ≡ old.end + 1 → new.slots.items ≡ old.slots.items
     → new.rest.keys ≡ insert_key cow_cmp old.rest.keys c → has_text new.rest k ≡ true → Adds k old new
 adds-rest k old new p c place full base end slots put has =
@@ -198,7 +198,7 @@ none-has key (m ∷ ms) h = rw (h 0 (omega arith)) (none-has key ms (λ i lt. h 
 before-or-from : (i n : ℕ) → (i < n) ⊎ (n ≤ i)
 before-or-from i n = grind arith
 
-no-slot : (ks : List (List ℕ)) (slots : List ℕ) (rest : BTreeSet (CowStr Global)) (p : Place) (key : List ℕ) (i at : ℕ)
+no-slot : (ks : List (List ℕ)) (slots : List ℕ) (rest : BTreeSet (CowStr Global)) (p : BucketSlot) (key : List ℕ) (i at : ℕ)
     → IsPlaceOf slots key p → IsNowhere ks slots p key → i < length ks → key ≡ get_or ks i []
     → p.bucket ≤ at → AreTaken slots p.bucket at → at < p.bucket + 8 → get_or slots at 0 ≡ i + 1 → ⊥
 no-slot ks slots rest p key i at place nowhere lt same above taken below is =
@@ -215,7 +215,7 @@ no-slot ks slots rest p key i at place nowhere lt same above taken below is =
     (cases_eq at p.at))
     (before-or-from at p.at)
 
-no-rest : (slots : List ℕ) (rest : BTreeSet (CowStr Global)) (p : Place) (key : List ℕ) (at : ℕ)
+no-rest : (slots : List ℕ) (rest : BTreeSet (CowStr Global)) (p : BucketSlot) (key : List ℕ) (at : ℕ)
     → IsPlaceOf slots key p → (p.at ≡ p.bucket + 8 → has_text rest key ≡ false)
     → AreTaken slots p.bucket at → at ≡ p.bucket + 8 → has_text rest key ≡ true → ⊥
 no-rest slots rest p key at place new taken is has =
@@ -227,7 +227,7 @@ no-rest slots rest p key at place new taken is has =
     absurd (cc))
     (before-or-from p.at (p.bucket + 8))
 
-pub no-member : (ms : List Member) (s : DuplicateKeyIndex) (key : List ℕ) (p : Place) → IsUpToDate (keys_of ms) s
+pub no-member : (ms : List Member) (s : DuplicateKeyIndex) (key : List ℕ) (p : BucketSlot) → IsUpToDate (keys_of ms) s
     → s.end ≡ length ms → IsPlaceOf s.slots.items key p → IsNowhere (keys_of ms) s.slots.items p key
     → (p.at ≡ p.bucket + 8 → has_text s.rest key ≡ false) → has_key key (drop s.base ms) ≡ false
 no-member ms s key p had all place nowhere new =

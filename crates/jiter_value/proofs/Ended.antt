@@ -1,8 +1,8 @@
 -- Where a reading begins, and where it has ended.
 use Rattle.jiter_value.proofs.Words.{◌≡◌, ◌≢◌, ◌∙◌, inl, inr, ℕ, ◌+◌, ◌<◌, ◌≤◌, List, [], ap₂, arith, length, refl}
-use Rattle.jiter_value.proofs.Words.{reverse, subst, Err, IfOk, Gives, done, value_at, WhereRefused, ReadError}
-use Rattle.jiter_value.proofs.Words.{HoldsNothing, Keeping, rules_as, HaveKeys, Member, keys_of, held, held_in, size}
-use Rattle.jiter_value.proofs.Words.{GoesOn, HasCome, MayGrowFor, outcome, view, MayGrowBy, Settings, Stacks, State}
+use Rattle.jiter_value.proofs.Words.{reverse, subst, Err, IfOk, Returns, done, value_at, WhereRefused, ReadError}
+use Rattle.jiter_value.proofs.Words.{HoldsNothing, TextPolicy, rules_as, HaveKeys, Member, keys_of, held, held_in, size}
+use Rattle.jiter_value.proofs.Words.{GoesOn, HasReached, MayGrowFor, outcome, view, MayGrowBy, Settings, Stacks, State}
 use Rattle.jiter_value.proofs.Words.{JsonValue, past_blanks, lent}
 use Rattle.jiter_steps.specs.declared.read_error.ReadError.TheVariants as error
 use Rattle.jiter_value.specs.Turns.{HasTurned}
@@ -15,10 +15,10 @@ use Rattle.jiter_value.proofs.TurnOutcomes.{grows-borrowing, refused-any, refuse
 use Rattle.jiter_value.proofs.WholeTextAnswers.{answer-refused, begins-at-value, fails-gives, held-begun}
 
 -- With nothing held, a reading begins where a value does,
-pub come-first : (made : Keeping) (W : Type 0) (p : Settings) (t : List ℕ) (s : Stacks) (i : ℕ) → HoldsNothing s
-    → i < length t → HasCome made W t i p s i state.Root
-come-first made W p t s i h lt =
-    begins-at-value made W p t s i (root-stands s.nest.items s.items.items s.members.items h.nest h.items h.members) lt
+pub come-first : (policy : TextPolicy) (W : Type 0) (p : Settings) (t : List ℕ) (s : Stacks) (i : ℕ) → HoldsNothing s
+    → i < length t → HasReached policy W t i p s i state.Root
+come-first policy W p t s i h lt =
+    begins-at-value policy W p t s i (root-stands s.nest.items s.items.items s.members.items h.nest h.items h.members) lt
 
 -- and no key is held.
 pub no-keys : (s : Stacks) → HoldsNothing s → HaveKeys [] s.members.items
@@ -40,14 +40,14 @@ refused-grows : (e : ReadError) (P : Type 0) → MayGrowFor (Err e) P → WhereR
 refused-grows (error.Fault f) P h = tt
 refused-grows (error.Memory m) P h = h
 
-module _ (made : Keeping) (W : Type 0) (t : List ℕ) (i : ℕ) (p : Settings) (s : Stacks) (j : ℕ) (a : State)
-    (come : HasCome made W t i p s j a) where
+module _ (policy : TextPolicy) (W : Type 0) (t : List ℕ) (i : ℕ) (p : Settings) (s : Stacks) (j : ℕ) (a : State)
+    (come : HasReached policy W t i p s j a) where
   -- The value is whole,
   module _ (is : a ≡ state.Done) where
-    whole : HasCome made W t i p s j state.Done
-    whole = subst (HasCome made W t i p s j) is come
+    whole : HasReached policy W t i p s j state.Done
+    whole = subst (HasReached policy W t i p s j) is come
 
-    pub whole-value : value_at (rules_as made p) t 200 i ≡ done (view s.root) j
+    pub whole-value : value_at (rules_as policy p) t 200 i ≡ done (view s.root) j
     whole-value = whole.reaches.0
 
     pub whole-holds : HoldsNothing s
@@ -55,10 +55,10 @@ module _ (made : Keeping) (W : Type 0) (t : List ℕ) (i : ℕ) (p : Settings) (
 
   -- or it was given up.
   module _ (is : a ≡ state.GivenUp) where
-    failed : HasCome made W t i p s j state.GivenUp
-    failed = subst (HasCome made W t i p s j) is come
+    failed : HasReached policy W t i p s j state.GivenUp
+    failed = subst (HasReached policy W t i p s j) is come
 
-    pub failed-value : Gives view (Err s.error) j (value_at (rules_as made p) t 200 i)
+    pub failed-value : Returns view (Err s.error) j (value_at (rules_as policy p) t 200 i)
     failed-value = fails-gives s.error j _ _ refl failed.reaches
 
     pub failed-memory : WhereRefused {A = JsonValue} (Err s.error) (MayGrowBy W t i)
@@ -69,13 +69,13 @@ module _ (made : Keeping) (W : Type 0) (t : List ℕ) (i : ℕ) (p : Settings) (
         ]
 
 -- Where a key is awaited, the value may want memory.
-pub key-grows : (made : Keeping) (W : Type 0) (t : List ℕ) (i : ℕ) (p : Settings) (s : Stacks) (j : ℕ)
-    → HasCome made W t i p s j state.Key → MayGrowBy W t i
-key-grows made W t i p s j come = elim come.grows [ inl root ↦ absurd (cc) | inr grows ↦ grows ]
+pub key-grows : (policy : TextPolicy) (W : Type 0) (t : List ℕ) (i : ℕ) (p : Settings) (s : Stacks) (j : ℕ)
+    → HasReached policy W t i p s j state.Key → MayGrowBy W t i
+key-grows policy W t i p s j come = elim come.grows [ inl root ↦ absurd (cc) | inr grows ↦ grows ]
 
 -- The same of a whole text.
 pub has-ended : (t : List ℕ) (p : Settings) (s : Stacks) (j : ℕ) (a : State)
-    → HasCome lent ⊥ t (past_blanks t 0) p s j a → (GoesOn a → ⊥) → HasEnded t p j a s
+    → HasReached lent ⊥ t (past_blanks t 0) p s j a → (GoesOn a → ⊥) → HasEnded t p j a s
 has-ended t p s j state.Root come over = absurd (over tt)
 has-ended t p s j state.Item come over = absurd (over tt)
 has-ended t p s j state.Member come over = absurd (over tt)

@@ -58,7 +58,7 @@ object-decides b v w d =
     along d (λ h. owned-view-Object v ∙ ap (λ ms. object (members_of ms)) h ∙ sym (owned-view-Object w))
     (λ e. same-member_lists _ _ (inside-object _ _ (sym (owned-view-Object v) ∙ e ∙ owned-view-Object w)))
 
--- what stands at one place of two lists that are the same
+-- what is at one place of two lists that are the same
 at-same : {X Y Z : Type 0} (f : X → Y) (g : Y → Z) (xs ys : List X) (i : ℕ) (x y : X) → slice_get xs i ≡ Some x
     → slice_get ys i ≡ Some y → map g (map f xs) ≡ map g (map f ys) → g (f x) ≡ g (f y)
 at-same f g [] ys i x y hx hy e = absurd (cc)
@@ -66,7 +66,7 @@ at-same f g (a ∷ xs) [] i x y hx hy e = absurd (cc)
 at-same f g (a ∷ xs) (b ∷ ys) zero x y hx hy e = let p : a ≡ x = cc in let q : b ≡ y = cc in rw (sym p, sym q) (cc)
 at-same f g (a ∷ xs) (b ∷ ys) (suc i) x y hx hy e = at-same f g xs ys i x y hx hy (cc)
 
--- two lists differ where what stands at one place of them does
+-- two lists differ where what is at one place of them does
 pub differ-at : {X Y Z : Type 0} (f : X → Y) (g : Y → Z) (xs ys : List X) (i : ℕ) (x y : X) (b : Bool) (P : Type 0)
     → i < length xs → i < length ys → x ≡ get_or xs i x → y ≡ get_or ys i y → (g (f x) ≡ g (f y) → P)
     → Decides b P → b ≡ false → Decides false (map g (map f xs) ≡ map g (map f ys))

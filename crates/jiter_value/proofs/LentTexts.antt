@@ -1,4 +1,4 @@
--- Where a text lies that is read without a copy: where its bytes stand.
+-- Where a text lies that is read without a copy: where its bytes are.
 use Rattle.jiter_value.proofs.Words.{◌≡◌, ◌∙◌, refl, sym, ap, subst, ℕ, ◌+◌, ◌<◌, ◌≤◌, Bool, true, false, List, [], ◌∷◌}
 use Rattle.jiter_value.proofs.Words.{◌++◌, length, take, drop, arith, length-append, take-append_seam, length-take-le}
 use Rattle.jiter_value.proofs.Words.{length-drop, slice_range, Option, Some, None, nat_lt, ◌-◌, ◌^◌, Number, integer}
@@ -33,7 +33,7 @@ range-lies t i j w h le is =
     let ends : i + length w ≡ j = omega (arith, long, h) in
     record { within = omega (arith, ends, le); same = is ∙ ap (slice_range t i) (sym ends) }
 
--- the prefix of bytes that stand there
+-- the prefix of bytes that are there
 prefix-lies : (t : List ℕ) (i : ℕ) (a b : List ℕ) → LieAt t i (a ++ b) → LieAt t i a
 prefix-lies t i a b h =
     let long = length-append a b in

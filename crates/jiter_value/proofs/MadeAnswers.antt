@@ -1,4 +1,4 @@
--- What a whole text answers whose texts are lent, repeated keys and all.
+-- What a whole text answers whose texts are borrowed, repeated keys and all.
 use Rattle.jiter_value.proofs.Words.{◌≡◌, ◌∙◌, refl, sym, subst, ℕ, List, Result, ReadError, as_read, reading_as}
 use Rattle.jiter_value.proofs.Words.{GivesWhole, lent, answer_as, answer_by, Settings, JsonValue}
 use Rattle.jiter_value.proofs.MadeTexts.{answer_as-is, reading_as-it_is}

@@ -1,19 +1,20 @@
 -- Readings whose texts are made so: what is read then is made of what is read.
 use Rattle.jiter_value.proofs.Words.{◌≡◌, ◌∙◌, refl, sym, ap, ap₂, ℕ, ◌<◌, Bool, false, List, [], ◌∷◌, length, map}
-use Rattle.jiter_value.proofs.Words.{arith, Option, Some, None, slice_get, Kind, number_at, is_active, PartialMode, Off}
-use Rattle.jiter_value.proofs.Words.{On, TrailingStrings, Scanned, FaultAt, taken, failed, if_both, number_at-within}
-use Rattle.jiter_value.proofs.Words.{seen_as, value_form, whole_trees, answer_in, past_blanks, literal_at, literal_tree}
-use Rattle.jiter_value.proofs.Words.{Reading, Rules, done, fault, value_at, if_begun, if_last, to_end, prefix_answer}
-use Rattle.jiter_value.proofs.Words.{whole_answer, whole, string_at, Text, Tree, Items, no_items, item, Members}
-use Rattle.jiter_value.proofs.Words.{no_members, member, items_of, members_of, own_bytes, unique_answer_in, Literal}
-use Rattle.jiter_value.proofs.Words.{string_at-within, whole-is, Advances, as_it_is, tree_as, reading_as, Keeping, lent}
-use Rattle.jiter_value.proofs.Words.{lent_unique, rules_as, answer_with, answer_as, answer_by, Settings}
+use Rattle.jiter_value.proofs.Words.{arith, Option, Some, None, Kind, number_at, is_active, PartialMode, Off, On}
+use Rattle.jiter_value.proofs.Words.{TrailingStrings, Scanned, FaultAt, taken, failed, if_both, number_at-within}
+use Rattle.jiter_value.proofs.Words.{seen_as, value_form, whole_trees, answer_in, literal_at, literal_tree, Reading}
+use Rattle.jiter_value.proofs.Words.{Rules, done, fault, value_at, prefix_answer, whole_answer, whole, string_at, Text}
+use Rattle.jiter_value.proofs.Words.{Tree, Items, no_items, item, Members, no_members, member, items_of, members_of}
+use Rattle.jiter_value.proofs.Words.{own_bytes, unique_answer_in, Literal, string_at-within, Advances, as_it_is}
+use Rattle.jiter_value.proofs.Words.{tree_as, reading_as, TextPolicy, lent, lent_unique, rules_as, answer_with, answer_as}
+use Rattle.jiter_value.proofs.Words.{answer_by, Settings}
 use Rattle.std.proofs.lemmas.Option.{none-some}
 use Rattle.jiter_steps.specs.Answer.{nothing_forgiven}
 use Rattle.jiter_steps.specs.Tree as tree
 use Rattle.jiter_steps.specs.Unique.{repeated_key}
 use Rattle.jiter_steps.specs.declared.parse.Literal.TheVariants as literal
-use Rattle.jiter_steps.proofs.Reading.Fused.{AllTold, Leads, mapped, scanned_as, pairs, value_at-mapped}
+use Rattle.jiter_steps.proofs.Reading.Fused.{AllTold, Leads, mapped, scanned_as, pairs, refuses-same, value_at-mapped}
+use Rattle.jiter_steps.proofs.Reading.Fused.{prefix_answer-mapped, whole_answer-mapped}
 use Rattle.jiter_steps.proofs.Reading.Instances.{seen-within, literal_at-within, trees-advances}
 use Rattle.jiter_steps.proofs.Reading.Bounds.{either}
 use Rattle.jiter_steps.proofs.Unique.Within.{repeats-advance}
@@ -64,7 +65,7 @@ rules_refusing f p = record {
   object = (rules p).object;
 }
 
-module _ (made : Keeping) (p : Settings) (t : List ℕ) where
+module _ (made : TextPolicy) (p : Settings) (t : List ℕ) where
   abbrev AllocFailed : ℕ → Option (Kind × ℕ) → Type 0
   AllocFailed i o = (j : ℕ) (k : Kind) → o ≡ Some (k, j) → (i < j) × FaultAt t k j
 
@@ -89,14 +90,6 @@ module _ (made : Keeping) (p : Settings) (t : List ℕ) where
   abbrev Made : Reading Tree → Reading Tree
   Made = reading_as (tree_as made.text)
 
-  if_last-as : (v : Tree) (e j : ℕ) (o : Option ℕ) → if_last (tree_as made.text v) e j o ≡ Made (if_last v e j o)
-  if_last-as v e j None = refl
-  if_last-as v e j (Some c) = refl
-
-  to_end-as : (x : Reading Tree) → to_end t (Made x) ≡ Made (to_end t x)
-  to_end-as (done v e) = if_last-as v e (past_blanks t e) (slice_get t (past_blanks t e))
-  to_end-as (fault k i stop) = refl
-
   -- the same keys are refused
   module _ (f : Refusing)
       (same : (members : List (Text × Tree)) (i : ℕ)
@@ -112,7 +105,7 @@ module _ (made : Keeping) (p : Settings) (t : List ℕ) where
       text = λ i quote told.
           seen-made made.text (tree_as made.text) _ _ (string_at (value_form p.mode) t i) (λ s e. refl);
       key = λ i quote told. key-made made.text (string_at whole t i);
-      refuses = λ members i quote. same members i;
+      refuses = λ members i quote. refuses-same AllTold _ _ (same members i);
       array = λ b e items. ap tree.array (items_as-of made.text items);
       object = λ b e members. ap tree.object (members_as-of made.text members);
     }
@@ -123,20 +116,15 @@ module _ (made : Keeping) (p : Settings) (t : List ℕ) where
         sym (value_at-mapped (rules_refusing f p) (rules_as made p) made.text (tree_as made.text) t made-leads levels i)
         ∙ mapped-is made.text (value_at (rules_refusing f p) t levels i)
 
-    prefix-begun : (i : ℕ) (o : Option ℕ)
-        → if_begun (rules_as made p) t i o ≡ Made (if_begun (rules_refusing f p) t i o)
-    prefix-begun i None = refl
-    prefix-begun i (Some c) = value_at-given 200 i
-
     prefix-given : prefix_answer (rules_as made p) t ≡ Made (prefix_answer (rules_refusing f p) t)
-    unfolding prefix_answer
-    prefix-given = prefix-begun (past_blanks t 0) (slice_get t (past_blanks t 0))
+    prefix-given =
+        sym (prefix_answer-mapped (rules_refusing f p) (rules_as made p) made.text (tree_as made.text) t made-leads)
+        ∙ mapped-is made.text (prefix_answer (rules_refusing f p) t)
 
     whole-given : whole_answer (rules_as made p) t ≡ Made (whole_answer (rules_refusing f p) t)
     whole-given =
-        whole-is (rules_as made p) t ∙ ap (to_end t) prefix-given
-        ∙ to_end-as (prefix_answer (rules_refusing f p) t)
-        ∙ ap Made (sym (whole-is (rules_refusing f p) t))
+        sym (whole_answer-mapped (rules_refusing f p) (rules_as made p) made.text (tree_as made.text) t made-leads)
+        ∙ mapped-is made.text (whole_answer (rules_refusing f p) t)
 
     answer-given : answer_as made p t ≡ Made (answer_with p.mode (rules_refusing f p) t)
     answer-given =
@@ -148,7 +136,7 @@ module _ (made : Keeping) (p : Settings) (t : List ℕ) where
 abbrev none_refused : Refusing
 none_refused members t i = None
 
-module _ (made : Keeping) (off : made.unique ≡ false) (p : Settings) (t : List ℕ) where
+module _ (made : TextPolicy) (off : made.unique ≡ false) (p : Settings) (t : List ℕ) where
   none-same : (members : List (Text × Tree)) (i : ℕ) → none_refused members t i ≡ refused_as made members t i
   none-same members i = rw off refl
 
@@ -168,7 +156,7 @@ answer_with-in names Off t = refl
 answer_with-in names On t = refl
 answer_with-in names TrailingStrings t = refl
 
-pub answer_as-is : (made : Keeping) → made.unique ≡ false → (p : Settings) (t : List ℕ)
+pub answer_as-is : (made : TextPolicy) → made.unique ≡ false → (p : Settings) (t : List ℕ)
     → answer_as made p t ≡ reading_as (tree_as made.text) (answer_by p t)
 answer_as-is made off p t =
     answer_as-kept made off p t ∙ ap (reading_as (tree_as made.text)) (answer_with-in p.allow_inf_nan p.mode t)
@@ -193,7 +181,7 @@ unique_with-in names Off t = refl
 unique_with-in names On t = refl
 unique_with-in names TrailingStrings t = refl
 
--- texts that are lent as they lie
+-- texts that are borrowed as they lie
 abbrev mutual
   pub tree_as-it_is : (v : Tree) → tree_as as_it_is v ≡ v
   tree_as-it_is tree.null = refl

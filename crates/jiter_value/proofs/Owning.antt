@@ -45,7 +45,7 @@ object-holds : (P : Text → Type 0) (ms : List Member) → 0 < length ms
 object-holds P [] h = absurd (omega (arith, h))
 object-holds P (m ∷ ms) h = tt
 
--- what holds, holds of a refusal
+-- what holds, holds of an error
 where-err : {A E : Type 0} (r : Result A E) (P : Type 0) → P → OnErr r P
 where-err (Ok a) P p = tt
 where-err (Err e) P p = p

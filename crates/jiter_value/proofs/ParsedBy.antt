@@ -9,7 +9,7 @@ use Rattle.jiter_scan.specs.Kind.{is_end_kind, out_of_memory}
 use Rattle.jiter_steps.specs.FirstFault.{IsDeadEnd}
 use Rattle.jiter_value.specs.Parses.{Manner, BeginsNone, ParsesBy}
 
--- a fault is that of the reading, whatever becomes of its tree
+-- an error is that of the reading, whatever becomes of its tree
 pub fault-read : (made : Tree → Tree) (x : Reading Tree) (k : Kind) (i stop : ℕ) → reading_as made x ≡ fault k i stop
     → x ≡ fault k i stop
 fault-read made (done v e) k i stop h = absurd (cc)
@@ -89,7 +89,7 @@ module _ {E : Type 0} (by : Manner E) (names : Bool) (law : Laws by names) (made
   cuts o (Err x) (done w e) is (inr h) = let read = h.1 in absurd (cc)
 
   module _ (mode : PartialMode) where
-    -- A fault of the bytes stands within them.
+    -- An error of the bytes is within them.
     pub fault-at : (e : E) (stop : ℕ) → reading_as made (by.reading mode t) ≡ fault (by.kind e) (by.index e) stop
         → FaultAt t (by.kind e) (by.index e)
     fault-at e stop h =

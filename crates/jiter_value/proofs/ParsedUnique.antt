@@ -6,7 +6,7 @@ use Rattle.jiter_value.proofs.Words.{past_blanks, cut, IsBegunContainer, can_go_
 use Rattle.jiter_value.proofs.Words.{IsCutContainer, Reading, done, fault, if_last, to_end, prefix_answer, Tree}
 use Rattle.jiter_value.proofs.Words.{own_bytes, unique_answer_in, ReadError, answer_in-cut, EndsEarly, alive, Within}
 use Rattle.jiter_value.proofs.Words.{whole-is, AnswersBy, as_read, reading_as, refusing_repeats, IsErrorOf}
-use Rattle.jiter_value.proofs.Words.{GivesUniqueWhole, WhereUniqueRefused, MayGrowBy, MayGrow, Stopped, JsonValue}
+use Rattle.jiter_value.proofs.Words.{GivesUniqueWhole, WhereUniqueRefused, MayGrowBy, MayGrow, Interrupted, JsonValue}
 use Rattle.jiter_steps.specs.Answer.{partial_answer}
 use Rattle.jiter_steps.specs.Unique.{HasUniqueKeys, IsUniqueDocument, unique_answer}
 use Rattle.jiter_steps.specs.declared.read_error.ReadError.TheVariants as error
@@ -19,20 +19,20 @@ use Rattle.jiter_steps.proofs.Unique.Within.{unique_answer-within, unique_partia
 use Rattle.jiter_value.specs.ParsesUnique.{ParsesUnique}
 use Rattle.jiter_value.specs.UniqueErrors.{unique_kind}
 use Rattle.jiter_value.specs.UniqueKeys.{IsUniqueErrorOf}
-use Rattle.jiter_value.specs.declared.turns.unique.Stopped.TheVariants as stopped
+use Rattle.jiter_value.specs.declared.turns.unique.Interrupted.TheVariants as stopped
 use Rattle.jiter_value.specs.declared.unique_error.UniqueError.{UniqueError}
 use Rattle.jiter_value.specs.declared.unique_error.UniqueErrorType.TheVariants as cause
 use Rattle.jiter_value.proofs.ParsedBy as parsed
 use Rattle.jiter_value.proofs.ParsedDocuments.{as_read-is, cut-left}
 use Rattle.jiter_value.proofs.TurnOutcomes.{grows-borrowing}
 
--- no document begins with what stands before a repeated key's fault, and little more
+-- no document begins with what is before a repeated key's error, and little more
 no-completion : (k : Kind) → IsOfRepeat k → can_go_on k ≡ true → ⊥
 no-completion (duplicate_key key) is on = cc
 no-completion k is on = is
 
 module _ (names : Bool) (t : List ℕ) where
-  -- With partial reading off: where a repeated key is refused, the fault is that or the plain reading's.
+  -- With partial reading off: where a repeated key is refused, the error is that or the plain reading's.
   unique-alive : (k : Kind) (i stop : ℕ) → unique_answer names t ≡ fault k i stop → can_go_on k ≡ true
       → CanBeCompleted names (take i t)
   unique-alive k i stop is on =
@@ -143,20 +143,20 @@ module _ (names : Bool) (mode : PartialMode) (t : List ℕ) where
       parsed.parses (refusing_repeats names) names (laws names) as_read t mode (MayGrow t) (Ok v) (as-read (Ok v) h) tt
 
   module _ (i : ℕ) (le : i ≤ length t) where
-    given : (x : Stopped) (e : UniqueError) → IsUniqueErrorOf x i e → GivesUniqueWhole (Err x) i Read
+    given : (x : Interrupted) (e : UniqueError) → IsUniqueErrorOf x i e → GivesUniqueWhole (Err x) i Read
         → Answer (Err e) Read
     given (stopped.Read (error.Memory m)) e is h = inl is.0
     given (stopped.Read (error.Fault f)) e is h = inr (i, h ∙ ap₂ (λ k x. fault k x i) (sym is.0) (sym is.1))
     given (stopped.Repeated k) e is h = inr (i, h ∙ ap₂ (λ k x. fault k x i) (sym is.0) (sym is.1))
 
-    -- a fault of the bytes is no want of memory
+    -- an error of the bytes is no a failed allocation
     not-memory : (e : UniqueError) → Read ≡ fault (unique_kind e.error_type) e.index i → Wanted e
     not-memory e h = λ same.
         let read = as_read-is Read ∙ h in
         absurd ((parsed.fault-at (refusing_repeats names) names (laws names) as_read t mode e i read).bytes
         (ap unique_kind same))
 
-    wanted : (x : Stopped) (e : UniqueError) → IsUniqueErrorOf x i e → GivesUniqueWhole (Err x) i Read
+    wanted : (x : Interrupted) (e : UniqueError) → IsUniqueErrorOf x i e → GivesUniqueWhole (Err x) i Read
         → WhereUniqueRefused (Err x) (MayGrowBy ⊥ t (past_blanks t 0))
         → WhereUniqueRefused (Err x) (past_blanks t 0 ≤ i) → Wanted e
     wanted (stopped.Read (error.Memory m)) e is h grows from = λ same.
@@ -166,7 +166,7 @@ module _ (names : Bool) (mode : PartialMode) (t : List ℕ) where
     wanted (stopped.Repeated k) e is h grows from =
         not-memory e (h ∙ ap₂ (λ k x. fault k x i) (sym is.0) (sym is.1))
 
-    pub error-parses : (x : Stopped) (e : UniqueError) → IsUniqueErrorOf x i e → GivesUniqueWhole (Err x) i Read
+    pub error-parses : (x : Interrupted) (e : UniqueError) → IsUniqueErrorOf x i e → GivesUniqueWhole (Err x) i Read
         → WhereUniqueRefused (Err x) (MayGrowBy ⊥ t (past_blanks t 0))
         → WhereUniqueRefused (Err x) (past_blanks t 0 ≤ i) → ParsesUnique names mode t (Err e)
     error-parses x e is h grows from =

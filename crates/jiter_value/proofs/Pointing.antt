@@ -63,7 +63,7 @@ abbrev or_zero : Option ℕ → ℕ
 or_zero None = 0
 or_zero (Some n) = n
 
--- a token that is one digit, or begins with no sign and no zero, is as it stands
+-- a token that is one digit, or begins with no sign and no zero, is as it is
 unsigned : (token : List ℕ) → (1 < length token → 49 ≤ slice_index token 0)
     → 0 < length (without_leading_plus token) → without_leading_plus token ≡ token
 unsigned [] h some = absurd (omega (arith, some))

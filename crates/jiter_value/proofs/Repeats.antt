@@ -4,11 +4,11 @@ use Rattle.jiter_value.proofs.Words.{refl, sym, ap, ◌∙◌, arith, cond, subs
 use Rattle.jiter_value.proofs.Words.{Some, None, Result, Err, bytes_eq, Kind, duplicate_key, taken, failed, PartialMode}
 use Rattle.jiter_value.proofs.Words.{Off, On, TrailingStrings, resume, object_in, Reading, Rules, Container, fault}
 use Rattle.jiter_value.proofs.Words.{value_at, step, colon, value_first, text_view, string_at, whole, Text, Tree}
-use Rattle.jiter_value.proofs.Words.{own_bytes, if_forgiven-no, resume-fault, Keeping, lent_unique, forgives, rules_as}
+use Rattle.jiter_value.proofs.Words.{own_bytes, if_forgiven-no, resume-fault, TextPolicy, lent_unique, forgives, rules_as}
 use Rattle.jiter_value.proofs.Words.{answer_as, Member, member_view, frames, HaveKeyBase, IsFree, StandsAtKey}
-use Rattle.jiter_value.proofs.Words.{refused_in, key_in, meaning, IsKeyRead, Proceeds, IsWithin, has_key}
+use Rattle.jiter_value.proofs.Words.{refused_in, key_in, denotes, IsKeyRead, Proceeds, IsWithin, has_key}
 use Rattle.jiter_value.proofs.Words.{WhereUniqueRefused, GivesUniqueWhole, object_has_key, GivesWhole, past_blanks}
-use Rattle.jiter_value.proofs.Words.{unique_answer_in, ReadError, Settings, Open, Stacks, State, Stopped, JsonValue}
+use Rattle.jiter_value.proofs.Words.{unique_answer_in, ReadError, Settings, OpenContainer, Stacks, State, Interrupted, JsonValue}
 use Rattle.jiter_steps.specs.Read.{if_forgiven, parts_at}
 use Rattle.jiter_steps.specs.Unique.{is_among, after_its_colon}
 use Rattle.jiter_value.specs.UniqueKeys.{innermost_base, StopsAtKey, GivesUnique}
@@ -16,7 +16,7 @@ use Rattle.jiter_value.specs.UniqueKeys.{fault_at_key}
 use Rattle.jiter_value.proofs.MadeTexts.{answer_as-unique}
 use Rattle.jiter_value.proofs.WholeTextAnswers.{answer-none, answer-fault, answer-refused}
 use Rattle.jiter_value.specs.declared.stacks.State.TheVariants as state
-use Rattle.jiter_value.specs.declared.turns.unique.Stopped.TheVariants as stopped
+use Rattle.jiter_value.specs.declared.turns.unique.Interrupted.TheVariants as stopped
 use Rattle.jiter_steps.specs.declared.read_error.ReadError.TheVariants as error
 
 has_key-among : (key : List ℕ) (ms : List Member)
@@ -28,24 +28,24 @@ either-way : {A : Type 0} (b : Bool) (x y : A) → x ≡ y → cond b x y ≡ y
 either-way true x y is = is
 either-way false x y is = refl
 
--- The fault of a key, where this is read of it.
-module _ (made : Keeping) (t : List ℕ) (os : List Open) (n : ℕ) (ms : List Member) (i : ℕ)
+-- The error of a key, where this is read of it.
+module _ (policy : TextPolicy) (t : List ℕ) (os : List OpenContainer) (n : ℕ) (ms : List Member) (i : ℕ)
     (stands : HaveKeyBase os n (length ms)) where
   abbrev Refused : Option (Kind × ℕ)
-  Refused = refused_in made t os ms i
+  Refused = refused_in policy t os ms i
 
-  refused-read : (os : List Open) → HaveKeyBase os n (length ms) → (k : Text) (e : ℕ) → string_at whole t i ≡ taken k e
-      → refused_in made t os ms i ≡ cond made.unique
+  refused-read : (os : List OpenContainer) → HaveKeyBase os n (length ms) → (k : Text) (e : ℕ) → string_at whole t i ≡ taken k e
+      → refused_in policy t os ms i ≡ cond policy.unique
       (cond (has_key k.bytes (drop (innermost_base os) ms)) (after_its_colon k.bytes (step t colon e)) None) None
   refused-read [] b k e is = absurd b
   refused-read (o ∷ os) b k e is =
       let among = has_key-among k.bytes (drop o.base ms) in
       rw (is, among) refl
 
-  refused-failed : (os : List Open) → HaveKeyBase os n (length ms) → (k : Kind) (j : ℕ)
-      → string_at whole t i ≡ failed k j → refused_in made t os ms i ≡ None
+  refused-failed : (os : List OpenContainer) → HaveKeyBase os n (length ms) → (k : Kind) (j : ℕ)
+      → string_at whole t i ≡ failed k j → refused_in policy t os ms i ≡ None
   refused-failed [] b k j is = absurd b
-  refused-failed (o ∷ os) b k j is = rw is (either-way made.unique None None refl)
+  refused-failed (o ∷ os) b k j is = rw is (either-way policy.unique None None refl)
 
   pub no-key : (k : Kind) (j : ℕ) → string_at whole t i ≡ failed k j → Refused ≡ None
   no-key k j is = refused-failed os stands k j is
@@ -55,14 +55,14 @@ module _ (made : Keeping) (t : List ℕ) (os : List Open) (n : ℕ) (ms : List M
   no-colon k e x j is fails =
       let has = has_key k.bytes (drop (innermost_base os) ms) in
       refused-read os stands k e is
-      ∙ ap (λ s. cond made.unique (cond has (after_its_colon k.bytes s) None) None) fails
-      ∙ either-way made.unique (cond has None None) None (either-way has None None refl)
+      ∙ ap (λ s. cond policy.unique (cond has (after_its_colon k.bytes s) None) None) fails
+      ∙ either-way policy.unique (cond has None None) None (either-way has None None refl)
 
-  pub key-read : made.unique ≡ true → (k : Text) (e : ℕ) → string_at whole t i ≡ taken k e
+  pub key-read : policy.unique ≡ true → (k : Text) (e : ℕ) → string_at whole t i ≡ taken k e
       → Refused ≡ cond (has_key k.bytes (drop (innermost_base os) ms)) (after_its_colon k.bytes (step t colon e)) None
   key-read unique k e is = refused-read os stands k e is ∙ (rw unique refl)
 
--- The same where the key was read: a repeated key's fault.
+-- The same where the key was read: a repeated key's error.
 pub refused-key : (t : List ℕ) (s : Stacks) (i e j : ℕ) (k : Text) → StandsAtKey s → IsKeyRead lent_unique t i e j k
     → refused_in lent_unique t (reverse s.nest.items) s.members.items i ≡ fault_at_key k.bytes s t e
 refused-key t s i e j k stands h =
@@ -74,7 +74,7 @@ pub free-key : (t : List ℕ) (s : Stacks) (i e j : ℕ) (k : Text) → StandsAt
 free-key t s i e j k stands h new =
     refused-key t s i e j k stands h ∙ ap (λ b. cond b (after_its_colon k.bytes (step t colon e)) None) new
 
--- A repeated key's fault is that of the reading: no container forgives it.
+-- A repeated key's error is that of the reading: no container forgives it.
 refused-part : {K A P : Type 0} (r : Rules K A) (c : Container P A) (t : List ℕ) (n : ℕ) (parts : List P) (j : ℕ)
     (f : Kind × ℕ) → 0 < n → c.refuses parts j ≡ Some f
     → parts_at r c t n parts j ≡ if_forgiven r (λ e. c.build e parts) f.0 f.1 f.1
@@ -87,7 +87,7 @@ repeat-kept Off key = refl
 repeat-kept On key = refl
 repeat-kept TrailingStrings key = refl
 
-pub key-repeated : (p : Settings) (t : List ℕ) (os : List Open) (es : List JsonValue) (ms : List Member) (j x : ℕ)
+pub key-repeated : (p : Settings) (t : List ℕ) (os : List OpenContainer) (es : List JsonValue) (ms : List Member) (j x : ℕ)
     (key : List ℕ) → j < length t → refused_in lent_unique t os ms j ≡ Some (duplicate_key key, x)
     → key_in lent_unique p t os es ms j ≡ fault (duplicate_key key) x x
 key-repeated p t [] es ms j x key lt is = absurd (cc)
@@ -103,8 +103,8 @@ key-repeated p t (o ∷ os) es ms j x key lt is =
     ∙ resume-fault r t fs (duplicate_key key) x x kept
 
 -- What is returned then.
-pub stops-gives : (p : Settings) (t : List ℕ) (s : Stacks) (i : ℕ) (x : Stopped) (j : ℕ) (r : Reading Tree)
-    → IsWithin t s state.Key i → r ≡ meaning lent_unique p t s state.Key i → StopsAtKey t s i x j
+pub stops-gives : (p : Settings) (t : List ℕ) (s : Stacks) (i : ℕ) (x : Interrupted) (j : ℕ) (r : Reading Tree)
+    → IsWithin t s state.Key i → r ≡ denotes lent_unique p t s state.Key i → StopsAtKey t s i x j
     → GivesUnique (Err x) j r
 stops-gives p t s i (stopped.Read (error.Fault f)) j r w is h = absurd h
 stops-gives p t s i (stopped.Read (error.Memory m)) j r w is h = tt
@@ -113,24 +113,24 @@ stops-gives p t s i (stopped.Repeated k) j r w is h =
     ∙ key-repeated p t (reverse s.nest.items) s.items.items s.members.items i k.index (string_bytes k.key) w.2 h.0
     ∙ ap (fault (duplicate_key (string_bytes k.key)) k.index) (sym h.1)
 
-pub stops-grows : (x : Stopped) (P : Type 0) → P → WhereUniqueRefused (Err x) P
+pub stops-grows : (x : Interrupted) (P : Type 0) → P → WhereUniqueRefused (Err x) P
 stops-grows (stopped.Read (error.Fault f)) P h = tt
 stops-grows (stopped.Read (error.Memory m)) P h = h
 stops-grows (stopped.Repeated k) P h = tt
 
 -- A turn that goes on: what is awaited then is the reading,
-pub goes-on : (made : Keeping) (p : Settings) (t : List ℕ) (i l h : ℕ) (x : Reading Tree) (s : Stacks) (j : ℕ)
-    (a : State) → Proceeds made p t i l h x s (j, a) → a ≢ state.Done → a ≢ state.GivenUp
-    → (x ≡ meaning made p t s a j) × IsWithin t s a j
-goes-on made p t i l h x s j state.Root leads more kept = leads.reaches
-goes-on made p t i l h x s j state.Item leads more kept = leads.reaches
-goes-on made p t i l h x s j state.Member leads more kept = leads.reaches
-goes-on made p t i l h x s j state.Key leads more kept = leads.reaches
-goes-on made p t i l h x s j state.Done leads more kept = absurd (more refl)
-goes-on made p t i l h x s j state.GivenUp leads more kept = absurd (kept refl)
+pub goes-on : (policy : TextPolicy) (p : Settings) (t : List ℕ) (i l h : ℕ) (x : Reading Tree) (s : Stacks) (j : ℕ)
+    (a : State) → Proceeds policy p t i l h x s (j, a) → a ≢ state.Done → a ≢ state.GivenUp
+    → (x ≡ denotes policy p t s a j) × IsWithin t s a j
+goes-on policy p t i l h x s j state.Root leads more kept = leads.reaches
+goes-on policy p t i l h x s j state.Item leads more kept = leads.reaches
+goes-on policy p t i l h x s j state.Member leads more kept = leads.reaches
+goes-on policy p t i l h x s j state.Key leads more kept = leads.reaches
+goes-on policy p t i l h x s j state.Done leads more kept = absurd (more refl)
+goes-on policy p t i l h x s j state.GivenUp leads more kept = absurd (kept refl)
 
 -- The answer of a whole text: where its value is stopped, and where it is read and what follows it is looked at.
-pub whole-stopped : (p : Settings) (t : List ℕ) → past_blanks t 0 < length t → (x : Stopped) (j : ℕ)
+pub whole-stopped : (p : Settings) (t : List ℕ) → past_blanks t 0 < length t → (x : Interrupted) (j : ℕ)
     → GivesUnique (Err x) j (value_at (rules_as lent_unique p) t 200 (past_blanks t 0))
     → GivesUniqueWhole (Err x) j (unique_answer_in p.allow_inf_nan p.mode t)
 whole-stopped p t begun (stopped.Read e) j h =

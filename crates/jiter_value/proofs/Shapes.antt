@@ -3,10 +3,10 @@ use Rattle.jiter_value.proofs.Words.{◌≡◌, ◌≢◌, ℕ, ◌+◌, ◌<◌
 use Rattle.jiter_value.proofs.Words.{sym, ap, ap₂, subst, ◌∙◌, arith, suc, inl, inr, slice_index, reverse, IfOk, OnOk}
 use Rattle.jiter_value.proofs.Words.{reverse-append, length-reverse, take_all, recursion_limit, resolve_step, resume}
 use Rattle.jiter_value.proofs.Words.{parts_from, start_of, container_first, opening, Reading, fault, more, step, Tree}
-use Rattle.jiter_value.proofs.Words.{ContainerKind, Keeping, forgives, rules_as, from_value, Stands, HavePartBase}
+use Rattle.jiter_value.proofs.Words.{ContainerKind, TextPolicy, forgives, rules_as, from_value, Stands, HavePartBase}
 use Rattle.jiter_value.proofs.Words.{frames, parts_above, frames_below, member_view, Member, slot_in, LeavesKeys}
-use Rattle.jiter_value.proofs.Words.{frames_size, held, inside_size_in, parts_size, value_size, Proceeds, Reaches, left}
-use Rattle.jiter_value.proofs.Words.{outcome, MayGrowAs, MayGrowAt, view, Settings, Open, Slot, Stacks, WhereRefused}
+use Rattle.jiter_value.proofs.Words.{frames_size, held, inside_size_in, parts_size, value_size, Proceeds, Reaches, work_left}
+use Rattle.jiter_value.proofs.Words.{outcome, MayGrowAs, MayGrowAt, view, Settings, OpenContainer, Slot, Stacks, WhereRefused}
 use Rattle.jiter_value.proofs.Words.{State}
 use Rattle.std.proofs.lemmas.List.{drop_all}
 use Rattle.smallvec.specs.SmallVec.{SmallVec}
@@ -31,12 +31,12 @@ pub inside-stands : (s : Stacks) (h : ContainerKind) → Stands s (slot_in h) �
 inside-stands s shape.Array b = b
 inside-stands s shape.Object b = key-base (reverse s.nest.items) (length s.items.items) (length s.members.items) b
 
--- A part is awaited, and its stack has room; an object's key may stand one deeper than an array's item.
+-- A part is awaited, and its stack has room; an object's key may be one deeper than an array's item.
 module _ (h : ContainerKind) (old new : Stacks) (same : HoldsSame old new) where
-  same-part : (made : Keeping) (p : Settings) (t : List ℕ) (j : ℕ) (x : Reading Tree)
-      → x ≡ part_in made p t h (reverse old.nest.items) old.items.items old.members.items j
-      → x ≡ part_in made p t h (reverse new.nest.items) new.items.items new.members.items j
-  same-part made p t j x is = rw (same.nest, same.items, same.members) is
+  same-part : (policy : TextPolicy) (p : Settings) (t : List ℕ) (j : ℕ) (x : Reading Tree)
+      → x ≡ part_in policy p t h (reverse old.nest.items) old.items.items old.members.items j
+      → x ≡ part_in policy p t h (reverse new.nest.items) new.items.items new.members.items j
+  same-part policy p t j x is = rw (same.nest, same.items, same.members) is
 
   same-stands : StandsInside h old → StandsInside h new
   same-stands stands = rw (same.nest, same.items, same.members) stands
@@ -44,13 +44,13 @@ module _ (h : ContainerKind) (old new : Stacks) (same : HoldsSame old new) where
   same-size : inside_size h new ≡ inside_size h old
   same-size = rw (same.nest, same.items, same.members) refl
 
-part-reaches : (made : Keeping) (p : Settings) (t : List ℕ) (s : Stacks) (h : ContainerKind) (j : ℕ)
+part-reaches : (policy : TextPolicy) (p : Settings) (t : List ℕ) (s : Stacks) (h : ContainerKind) (j : ℕ)
     (x : Reading Tree)
-    → x ≡ part_in made p t h (reverse s.nest.items) s.items.items s.members.items j → StandsInside h s
+    → x ≡ part_in policy p t h (reverse s.nest.items) s.items.items s.members.items j → StandsInside h s
     → (h ≡ shape.Array → length s.nest.items ≤ 200) → length s.nest.items ≤ 201 → j < length t → HasRoomIn h s
-    → Reaches made p t s j (outcome s (part_of h)) x
-part-reaches made p t s shape.Array j x is b few low lt room = (is, (b, few refl, lt, λ _. room))
-part-reaches made p t s shape.Object j x is b few low lt room = (is, (b, low, lt, room))
+    → Reaches policy p t s j (outcome s (part_of h)) x
+part-reaches policy p t s shape.Array j x is b few low lt room = (is, (b, few refl, lt, λ _. room))
+part-reaches policy p t s shape.Object j x is b few low lt room = (is, (b, low, lt, room))
 
 part-held : (s : Stacks) (h : ContainerKind) (n : ℕ) → StandsInside h s → inside_size h s ≤ n
     → IfOk (outcome s (part_of h)) (λ a. held s a ≤ n)
@@ -59,30 +59,30 @@ part-held s shape.Array n b few =
 part-held s shape.Object n b few = few
 
 -- A turn that goes to it proceeds,
-pub ready-proceeds : (made : Keeping) (p : Settings) (t : List ℕ) (i l n : ℕ) (x : Reading Tree) (h : ContainerKind)
+pub ready-proceeds : (policy : TextPolicy) (p : Settings) (t : List ℕ) (i l n : ℕ) (x : Reading Tree) (h : ContainerKind)
     (old new : Stacks) (j : ℕ) (r : ℕ × State) → IsReady h old new j r
-    → x ≡ part_in made p t h (reverse old.nest.items) old.items.items old.members.items j → StandsInside h old
+    → x ≡ part_in policy p t h (reverse old.nest.items) old.items.items old.members.items j → StandsInside h old
     → (h ≡ shape.Array → length old.nest.items ≤ 200) → length old.nest.items ≤ 201 → i ≤ j → j < length t
-    → left t old j < l → inside_size h old ≤ n → Proceeds made p t i l n x new r
-ready-proceeds made p t i l n x h old new j r (inl ok) is b few low forward lt less room =
+    → work_left t old j < l → inside_size h old ≤ n → Proceeds policy p t i l n x new r
+ready-proceeds policy p t i l n x h old new j r (inl ok) is b few low forward lt less room =
     let same = ok.2 in
     let deep = ap (λ m. length m.items) same.nest in
     let size = same-size h old new same in
     rw ok.0
     (record {
       within = (omega (arith, forward), omega (arith, lt));
-      reaches = part-reaches made p t new h j x (same-part h old new same made p t j x is)
+      reaches = part-reaches policy p t new h j x (same-part h old new same policy p t j x is)
           (same-stands h old new same b)
           (λ array. let deep_few = few array in omega (arith, deep_few, deep)) (omega (arith, low, deep)) lt ok.1;
-      left = kept-on new (part_of h) (omega (arith, less, deep));
+      work_left = kept-on new (part_of h) (omega (arith, less, deep));
       held = part-held new h n (same-stands h old new same b) (omega (arith, size, room));
     })
-ready-proceeds made p t i l n x h old new j r (inr bad) is b few low forward lt less room =
+ready-proceeds policy p t i l n x h old new j r (inr bad) is b few low forward lt less room =
     rw bad.0
     (record {
       within = (omega (arith, forward), omega (arith, lt));
       reaches = rw bad.2 tt;
-      left = tt;
+      work_left = tt;
       held = tt;
     })
 
@@ -104,16 +104,16 @@ ready-memory h old new j r P (inl ok) may = rw ok.0 (part-asks new h P)
 ready-memory h old new j r P (inr bad) may = rw bad.0 (refused-any State new.error P may)
 
 -- the stacks with other open containers
-abbrev pub with_nest : Stacks → SmallVec Open → Stacks
+abbrev pub with_nest : Stacks → SmallVec OpenContainer → Stacks
 with_nest s n = record
     { items = s.items; members = s.members; nest = n; root = s.root; error = s.error; reused = s.reused }
 
--- above its own base a container that begins has no part, and below it stands what stood there
+-- above its own base a container that begins has no part, and below it is what was there
 no-parts : (s : Stacks) (h : ContainerKind) → parts_above h (base_of h s) s.items.items s.members.items ≡ []
 no-parts s shape.Array = ap (map view) (drop_all (length s.items.items) s.items.items (omega arith))
 no-parts s shape.Object = ap (map member_view) (drop_all (length s.members.items) s.members.items (omega arith))
 
-abbrev opened : Stacks → Slot → ContainerKind → Open
+abbrev opened : Stacks → Slot → ContainerKind → OpenContainer
 opened s a h = record { outer = a; base = base_of h s }
 
 same-below : (s : Stacks) (a : Slot) (h : ContainerKind)
@@ -127,7 +127,7 @@ base-above : (s : Stacks) (a : Slot) (h : ContainerKind) → Stands s a
 base-above s a shape.Array b = (omega arith, b)
 base-above s a shape.Object b = (omega arith, b)
 
-turned : (s : Stacks) (a : Slot) (h : ContainerKind) (n : SmallVec Open) → n.items ≡ s.nest.items ++ opened s a h ∷ []
+turned : (s : Stacks) (a : Slot) (h : ContainerKind) (n : SmallVec OpenContainer) → n.items ≡ s.nest.items ++ opened s a h ∷ []
     → reverse n.items ≡ opened s a h ∷ reverse s.nest.items
 turned s a h n pushed = ap reverse pushed ∙ reverse-append s.nest.items (opened s a h ∷ [])
 
@@ -135,55 +135,55 @@ none-size : (h : ContainerKind) (n : ℕ) → suc (parts_size h []) + n ≡ n + 
 none-size shape.Array n = omega arith
 none-size shape.Object n = omega arith
 
-opened-size : (s : Stacks) (a : Slot) (h : ContainerKind) (n : SmallVec Open)
+opened-size : (s : Stacks) (a : Slot) (h : ContainerKind) (n : SmallVec OpenContainer)
     → n.items ≡ s.nest.items ++ opened s a h ∷ [] → inside_size h (with_nest s n) ≡ value_size s a + 1
 opened-size s a h n pushed =
     ap (λ os. inside_size_in h os s.items.items s.members.items) (turned s a h n pushed)
     ∙ ap₂ (λ xs fs. suc (parts_size h xs) + frames_size fs) (no-parts s h) (same-below s a h)
     ∙ none-size h (value_size s a)
 
-module _ (made : Keeping) (p : Settings) (t : List ℕ) (s : Stacks) (a : Slot) (b : Stands s a)
+module _ (policy : TextPolicy) (p : Settings) (t : List ℕ) (s : Stacks) (a : Slot) (b : Stands s a)
     (few : length s.nest.items ≤ 200)
     (i : ℕ) where
   -- a container begins with a part
   opens : (h : ContainerKind) (j : ℕ) → j < length t → start_of (slice_index t i) ≡ opening h
       → step t (container_first h) (i + 1) ≡ more j
-      → from_value made p t s a i
-      ≡ part_in made p t h (opened s a h ∷ reverse s.nest.items) s.items.items s.members.items j
+      → from_value policy p t s a i
+      ≡ part_in policy p t h (opened s a h ∷ reverse s.nest.items) s.items.items s.members.items j
   opens h j lt starts is =
       let os = reverse s.nest.items in
-      begins made p t s a b few i h (more j) starts (ap (resolve_step (forgives p.mode)) is)
-      ∙ ap₂ (λ fs xs. resume (rules_as made p) t fs (parts_from (rules_as made p) t
-      (container_of made p t h (length fs)) xs j))
+      begins policy p t s a b few i h (more j) starts (ap (resolve_step (forgives p.mode)) is)
+      ∙ ap₂ (λ fs xs. resume (rules_as policy p) t fs (parts_from (rules_as policy p) t
+      (container_of policy p t h (length fs)) xs j))
       (sym (same-below s a h)) (sym (no-parts s h))
-      ∙ next-part made p t h (opened s a h) os s.items.items s.members.items j lt
+      ∙ next-part policy p t h (opened s a h) os s.items.items s.members.items j lt
 
-  -- and stands open
-  pub shape-opens : (h : ContainerKind) (j : ℕ) (n : SmallVec Open) → n.items ≡ s.nest.items ++ opened s a h ∷ []
+  -- and is open
+  pub shape-opens : (h : ContainerKind) (j : ℕ) (n : SmallVec OpenContainer) → n.items ≡ s.nest.items ++ opened s a h ∷ []
       → i < j → j < length t → start_of (slice_index t i) ≡ opening h
       → step t (container_first h) (i + 1) ≡ more j → (h ≡ shape.Array → length s.nest.items ≢ 200)
       → (new : Stacks) (r : ℕ × State) → IsReady h (with_nest s n) new j r
-      → Proceeds made p t i (left t s i) (value_size s a + 1) (from_value made p t s a i) new r
+      → Proceeds policy p t i (work_left t s i) (value_size s a + 1) (from_value policy p t s a i) new r
   shape-opens h j n pushed ahead lt starts is some new r ready =
       let es = s.items.items in
       let ms = s.members.items in
       let nest = turned s a h n pushed in
       let longer = ap length pushed ∙ length-append s.nest.items (opened s a h ∷ []) in
       let counts = opened-size s a h n pushed in
-      ready-proceeds made p t i (left t s i) (value_size s a + 1) (from_value made p t s a i) h (with_nest s n) new j r
+      ready-proceeds policy p t i (work_left t s i) (value_size s a + 1) (from_value policy p t s a i) h (with_nest s n) new j r
       ready
-      (opens h j lt starts is ∙ ap (λ qs. part_in made p t h qs es ms j) (sym nest))
+      (opens h j lt starts is ∙ ap (λ qs. part_in policy p t h qs es ms j) (sym nest))
       (subst (λ qs. HavePartBase h qs (length es) (length ms)) (sym nest) (base-above s a h b))
       (λ array. let full = some array in omega (arith, few, full, longer)) (omega (arith, few, longer))
       (omega (arith, ahead)) lt (omega (arith, ahead, lt, longer)) (omega (arith, counts))
 
-  -- an array stands too deep
+  -- an array is too deep
   pub array-too-deep : (j : ℕ) → length s.nest.items ≡ 200 → j < length t
       → start_of (slice_index t i) ≡ start.Array → step t array_first (i + 1) ≡ more j
-      → from_value made p t s a i ≡ fault recursion_limit j j
+      → from_value policy p t s a i ≡ fault recursion_limit j j
   array-too-deep j full lt starts is =
       opens shape.Array j lt starts is
-      ∙ limit-reached made p t slot.Item (opened s a shape.Array ∷ reverse s.nest.items) s.items.items s.members.items j
+      ∙ limit-reached policy p t slot.Item (opened s a shape.Array ∷ reverse s.nest.items) s.items.items s.members.items j
       (base-above s a shape.Array b) (omega (arith, full, length-reverse s.nest.items))
 
 pub not-root : (h : ContainerKind) → slot_in h ≡ slot.Root → ⊥

@@ -1,21 +1,21 @@
 -- A turn at a key: it leads on, or it is stopped.
 use Rattle.jiter_value.proofs.Words.{◌≡◌, ◌+◌, ◌++◌, ◌∙◌, ℕ, Bool, true, false, List, ap, OnOk, Kind, taken, failed}
-use Rattle.jiter_value.proofs.Words.{colon, object_colon, step, value_first, Keeping, HaveKeys, LeavesKeys, Member}
-use Rattle.jiter_value.proofs.Words.{keys_of, Proceeds, left, outcome, Settings, Stacks, State}
-use Rattle.jiter_scan.specs.NumberReading.{extent_then}
-use Rattle.jiter_scan.specs.Word.{Extent}
+use Rattle.jiter_value.proofs.Words.{colon, object_colon, step, value_first, TextPolicy, HaveKeys, LeavesKeys, Member}
+use Rattle.jiter_value.proofs.Words.{keys_of, Proceeds, work_left, outcome, Settings, Stacks, State}
+use Rattle.jiter_scan.specs.NumberReading.{span_then}
+use Rattle.jiter_scan.specs.Word.{Span}
 use Rattle.jiter_value.specs.Size.{key_size}
 use Rattle.jiter_value.specs.Stacks.{from_key}
 use Rattle.jiter_value.specs.Turns.{HasTakenKey}
 use Rattle.jiter_value.proofs.KeptKeys.{left-keys, weaker-on}
 use Rattle.jiter_value.proofs.Turning.{keys-left}
 
-module _ (made : Keeping) (p : Settings) (t : List ℕ) (i : ℕ) (old new : Stacks) (r : ℕ × State) (stopped : Bool)
+module _ (policy : TextPolicy) (p : Settings) (t : List ℕ) (i : ℕ) (old new : Stacks) (r : ℕ × State) (stopped : Bool)
     (Knows : List (List ℕ) → Type 0) (Refuses : Type 0) where
   pub taken-on : stopped ≡ false
-      → Proceeds made p t i (left t old i) (key_size old + 1) (from_key made p t old i) new r
+      → Proceeds policy p t i (work_left t old i) (key_size old + 1) (from_key policy p t old i) new r
       → OnOk (outcome new r.1) ((ks : List (List ℕ)) × Knows ks × HaveKeys ks new.members.items)
-      → HasTakenKey made p t i old new r stopped Knows Refuses
+      → HasTakenKey policy p t i old new r stopped Knows Refuses
   taken-on going leads keys = record {
     leads = λ _. leads;
     keys = λ _. keys;
@@ -23,7 +23,7 @@ module _ (made : Keeping) (p : Settings) (t : List ℕ) (i : ℕ) (old new : Sta
     same = λ h. absurd (cc (going, h));
   }
 
-  pub taken-back : stopped ≡ true → Refuses → new ≡ old → HasTakenKey made p t i old new r stopped Knows Refuses
+  pub taken-back : stopped ≡ true → Refuses → new ≡ old → HasTakenKey policy p t i old new r stopped Knows Refuses
   taken-back stop refused same = record {
     leads = λ h. absurd (cc (stop, h));
     keys = λ h. absurd (cc (stop, h));
@@ -46,9 +46,9 @@ more-known old more s a Knows known =
     weaker-on s a (λ kept. (keys_of old ++ more, known, left-keys old s.members.items more kept))
 
 -- A colon, and where a value begins after it.
-pub after-colon : (t : List ℕ) (e j : ℕ) (x : Extent) → step t colon e ≡ taken tt j → step t value_first j ≡ x
+pub after-colon : (t : List ℕ) (e j : ℕ) (x : Span) → step t colon e ≡ taken tt j → step t value_first j ≡ x
     → object_colon t e ≡ x
-after-colon t e j x colon first = ap (λ c. extent_then c (step t value_first)) colon ∙ first
+after-colon t e j x colon first = ap (λ c. span_then c (step t value_first)) colon ∙ first
 
 pub at-colon : (t : List ℕ) (e j : ℕ) (k : Kind) → step t colon e ≡ failed k j → object_colon t e ≡ failed k j
-at-colon t e j k colon = ap (λ c. extent_then c (step t value_first)) colon
+at-colon t e j k colon = ap (λ c. span_then c (step t value_first)) colon

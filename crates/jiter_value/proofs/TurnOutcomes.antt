@@ -1,8 +1,8 @@
 -- What a turn leads on to, and where it may want memory.
 use Rattle.jiter_value.proofs.Words.{◌≡◌, ◌≢◌, ◌∙◌, ◌+◌, ◌<◌, inl, inr, ℕ, ◌≤◌, List, ap, arith, length, subst, sym}
 use Rattle.jiter_value.proofs.Words.{IfOk-weaker, on_ok_weaker, Result, Ok, Err, IfOk, OnOk, slice_index, ReadError}
-use Rattle.jiter_value.proofs.Words.{WhereRefused, Reading, Tree, start_of, Start, Keeping, after_size, value_size}
-use Rattle.jiter_value.proofs.Words.{after, from_value, LeavesKeys, Proceeds, MayGrowFor, left, outcome, MayGrowAs}
+use Rattle.jiter_value.proofs.Words.{WhereRefused, Reading, Tree, start_of, Start, TextPolicy, after_size, value_size}
+use Rattle.jiter_value.proofs.Words.{after, from_value, LeavesKeys, Proceeds, MayGrowFor, work_left, outcome, MayGrowAs}
 use Rattle.jiter_value.proofs.Words.{MayGrowAt, MayGrowBy, Slot, Settings, Stacks, State}
 use Rattle.jiter_scan.specs.declared.errors.Fault.{Fault}
 use Rattle.jiter_steps.specs.declared.read_error.ReadError.TheVariants as error
@@ -17,15 +17,15 @@ use Rattle.jiter_value.proofs.KeptKeys.{leaves-on}
 use Rattle.jiter_value.specs.declared.stacks.State.TheVariants as state
 
 -- from a place before it, with more that is left and more that may be held
-pub leads-weaker : {made : Keeping} {p : Settings} {t : List ℕ} {i j l m h n : ℕ} {x y : Reading Tree}
+pub leads-weaker : {policy : TextPolicy} {p : Settings} {t : List ℕ} {i j l m h n : ℕ} {x y : Reading Tree}
     {s : Stacks} {r : ℕ × State}
-    → Proceeds made p t j m n y s r → i ≤ j → m ≤ l → n ≤ h → x ≡ y → Proceeds made p t i l h x s r
+    → Proceeds policy p t j m n y s r → i ≤ j → m ≤ l → n ≤ h → x ≡ y → Proceeds policy p t i l h x s r
 leads-weaker {s = s} {r = r} a forward more room is =
     let forth = a.within.0 in
     record {
       within = (omega (arith, forward, forth), a.within.1);
       reaches = rw is a.reaches;
-      left = on_ok_weaker (outcome s r.1) (λ k. omega (arith, k, more)) a.left;
+      work_left = on_ok_weaker (outcome s r.1) (λ k. omega (arith, k, more)) a.work_left;
       held = IfOk-weaker (outcome s r.1) _ _ (λ b k. omega (arith, k, room)) a.held;
     }
 
@@ -71,32 +71,32 @@ pub grows-decoded : (t : List ℕ) (i : ℕ) (W : Type 0) → start_of (slice_in
     → MayGrowBy W t i
 grows-decoded t i W is backslash = inl (subst (MayGrowAs t i) (sym is) backslash)
 
--- A turn whose request for memory was refused.
-pub refused-turned : (made : Keeping) (W : Type 0) (t : List ℕ) (i : ℕ) (a : Slot) (old new : Turning) (e : ℕ)
+-- A turn whose request for an allocation failed.
+pub refused-turned : (policy : TextPolicy) (W : Type 0) (t : List ℕ) (i : ℕ) (a : Slot) (old new : Turning) (e : ℕ)
     (r : ℕ × State) (m : AllocFailed)
     → r ≡ (e, state.GivenUp) → new.stacks.error ≡ error.Memory m → i ≤ e → e ≤ length t
-    → MayGrowBy W t i → new.settings ≡ old.settings → Turned made W t i a old new r
-refused-turned made W t i a old new e r m given refused forward within grows same =
+    → MayGrowBy W t i → new.settings ≡ old.settings → Turned policy W t i a old new r
+refused-turned policy W t i a old new e r m given refused forward within grows same =
     rw given
     (record {
-      leads = record { within = (forward, within); reaches = rw refused tt; left = tt; held = tt };
+      leads = record { within = (forward, within); reaches = rw refused tt; work_left = tt; held = tt };
       memory = λ root. rw refused grows;
       keys = tt;
       settings = same;
     })
 
 -- A value was put, and the turn goes on after it.
-pub put-turned : (made : Keeping) (W : Type 0) (t : List ℕ) (i : ℕ) (a : Slot) (old : Turning) (mid : Stacks)
+pub put-turned : (policy : TextPolicy) (W : Type 0) (t : List ℕ) (i : ℕ) (a : Slot) (old : Turning) (mid : Stacks)
     (new : Turning) (e : ℕ) (r : ℕ × State)
-    → from_value made old.settings t old.stacks a i ≡ after made old.settings t mid a e
+    → from_value policy old.settings t old.stacks a i ≡ after policy old.settings t mid a e
     → mid.nest ≡ old.stacks.nest → after_size mid a ≡ value_size old.stacks a + 1 → i < e → e ≤ length t
     → LeavesKeys old.stacks.members.items mid.members.items
-    → Proceeds made old.settings t e (left t mid e + 1) (after_size mid a) (after made old.settings t mid a e) new.stacks r
+    → Proceeds policy old.settings t e (work_left t mid e + 1) (after_size mid a) (after policy old.settings t mid a e) new.stacks r
     → WhereRefused (outcome new.stacks r.1) (a ≢ slot.Root)
     → (a ≡ slot.Root → IfOk (outcome new.stacks r.1) (λ s. s ≡ state.Done))
     → OnOk (outcome new.stacks r.1) (LeavesKeys mid.members.items new.stacks.members.items)
-    → new.settings ≡ old.settings → Turned made W t i a old new r
-put-turned made W t i a old mid new e r value nest held ahead within kept leads memory root keys same =
+    → new.settings ≡ old.settings → Turned policy W t i a old new r
+put-turned policy W t i a old mid new e r value nest held ahead within kept leads memory root keys same =
     let deep = ap (λ n. length n.items) nest in
     record {
       leads = leads-weaker leads (omega (arith, ahead)) (omega (arith, ahead, within, deep)) (omega (arith, held)) value;

@@ -1,8 +1,8 @@
 -- Where turns lead.
 use Rattle.jiter_value.proofs.Words.{◌≡◌, ◌≢◌, ◌∙◌, inl, inr, ℕ, ◌+◌, ◌≤◌, List, ap, arith, eqb, false, length, not}
 use Rattle.jiter_value.proofs.Words.{refl, subst, sym, take, take-take, true, length-take, OnOk, Result, Ok, Err}
-use Rattle.jiter_value.proofs.Words.{value_at, ReadError, Keeping, rules_as, held, value_size, HaveKeys, LeavesKeys}
-use Rattle.jiter_value.proofs.Words.{Member, from_value, keys_of, meaning, GoesOn, HasCome, IsWithin, MayGrowFor}
+use Rattle.jiter_value.proofs.Words.{value_at, ReadError, TextPolicy, rules_as, held, value_size, HaveKeys, LeavesKeys}
+use Rattle.jiter_value.proofs.Words.{Member, from_value, keys_of, denotes, GoesOn, HasReached, IsWithin, MayGrowFor}
 use Rattle.jiter_value.proofs.Words.{Proceeds, Reaches, outcome, MayGrowBy, Settings, Slot, Stacks, State}
 use Rattle.jiter_value.proofs.KeptKeys.{key_count}
 use Rattle.jiter_steps.specs.Node.{nesting_limit}
@@ -53,23 +53,23 @@ grows-any (Err (error.Fault f)) P h = tt
 grows-any (Err (error.Memory m)) P h = h
 
 -- and what is awaited then.
-pub awaited : (made : Keeping) (W : Type 0) (t : List ℕ) (i : ℕ) (p : Settings) (s : Stacks) (j : ℕ) (a : State)
-    → HasCome made W t i p s j a → GoesOn a
-    → (value_at (rules_as made p) t nesting_limit i ≡ meaning made p t s a j) × IsWithin t s a j
-awaited made W t i p s j state.Root h on = h.reaches
-awaited made W t i p s j state.Item h on = h.reaches
-awaited made W t i p s j state.Member h on = h.reaches
-awaited made W t i p s j state.Key h on = h.reaches
-awaited made W t i p s j state.Done h on = absurd on
-awaited made W t i p s j state.GivenUp h on = absurd on
+pub awaited : (policy : TextPolicy) (W : Type 0) (t : List ℕ) (i : ℕ) (p : Settings) (s : Stacks) (j : ℕ) (a : State)
+    → HasReached policy W t i p s j a → GoesOn a
+    → (value_at (rules_as policy p) t nesting_limit i ≡ denotes policy p t s a j) × IsWithin t s a j
+awaited policy W t i p s j state.Root h on = h.reaches
+awaited policy W t i p s j state.Item h on = h.reaches
+awaited policy W t i p s j state.Member h on = h.reaches
+awaited policy W t i p s j state.Key h on = h.reaches
+awaited policy W t i p s j state.Done h on = absurd on
+awaited policy W t i p s j state.GivenUp h on = absurd on
 
 -- A turn leads on from where turns have led.
-module _ (made : Keeping) (W : Type 0) (t : List ℕ) (i : ℕ) (p : Settings) (s : Stacks) (j : ℕ) (a : State)
-    (come : HasCome made W t i p s j a) (on : GoesOn a) (n : Stacks) (r : ℕ × State) where
-  pub come-on : (l h : ℕ) → Proceeds made p t j l h (meaning made p t s a j) n r
-      → (a ≡ state.Root → MayGrowFor (outcome n r.1) (MayGrowBy W t j)) → HasCome made W t i p n r.0 r.1
+module _ (policy : TextPolicy) (W : Type 0) (t : List ℕ) (i : ℕ) (p : Settings) (s : Stacks) (j : ℕ) (a : State)
+    (come : HasReached policy W t i p s j a) (on : GoesOn a) (n : Stacks) (r : ℕ × State) where
+  pub come-on : (l h : ℕ) → Proceeds policy p t j l h (denotes policy p t s a j) n r
+      → (a ≡ state.Root → MayGrowFor (outcome n r.1) (MayGrowBy W t j)) → HasReached policy W t i p n r.0 r.1
   come-on l h leads grows = record {
-    reaches = subst (Reaches made p t n r.0 (outcome n r.1)) (sym (awaited made W t i p s j a come on).0) leads.reaches;
+    reaches = subst (Reaches policy p t n r.0 (outcome n r.1)) (sym (awaited policy W t i p s j a come on).0) leads.reaches;
     begins = come.begins;
     within = (omega (arith, come.within.0, leads.within.0), leads.within.1);
     grows = inr (elim come.grows [
@@ -79,25 +79,25 @@ module _ (made : Keeping) (W : Type 0) (t : List ℕ) (i : ℕ) (p : Settings) (
   }
 
 -- The same where a value is awaited.
-value-proceeds : (made : Keeping) (p : Settings) (t : List ℕ) (s : Stacks) (j : ℕ) (a : State) → GoesOn a
+value-proceeds : (policy : TextPolicy) (p : Settings) (t : List ℕ) (s : Stacks) (j : ℕ) (a : State) → GoesOn a
     → a ≢ state.Key → (l : ℕ) (n : Stacks) (r : ℕ × State)
-    → Proceeds made p t j l (value_size s (slot_of a) + 1) (from_value made p t s (slot_of a) j) n r
-    → Proceeds made p t j l (held s a + 1) (meaning made p t s a j) n r
-value-proceeds made p t s j state.Root on other l n r h = h
-value-proceeds made p t s j state.Item on other l n r h = h
-value-proceeds made p t s j state.Member on other l n r h = h
-value-proceeds made p t s j state.Key on other l n r h = absurd (other refl)
-value-proceeds made p t s j state.Done on other l n r h = absurd on
-value-proceeds made p t s j state.GivenUp on other l n r h = absurd on
+    → Proceeds policy p t j l (value_size s (slot_of a) + 1) (from_value policy p t s (slot_of a) j) n r
+    → Proceeds policy p t j l (held s a + 1) (denotes policy p t s a j) n r
+value-proceeds policy p t s j state.Root on other l n r h = h
+value-proceeds policy p t s j state.Item on other l n r h = h
+value-proceeds policy p t s j state.Member on other l n r h = h
+value-proceeds policy p t s j state.Key on other l n r h = absurd (other refl)
+value-proceeds policy p t s j state.Done on other l n r h = absurd on
+value-proceeds policy p t s j state.GivenUp on other l n r h = absurd on
 
-pub value-on : (made : Keeping) (W : Type 0) (t : List ℕ) (i : ℕ) (p : Settings) (s : Stacks) (j : ℕ) (a : State)
-    → HasCome made W t i p s j a → GoesOn a → a ≢ state.Key → (b : Slot) → b ≡ slot_of a → (n : Stacks) (r : ℕ × State)
-    (l : ℕ) → Proceeds made p t j l (value_size s b + 1) (from_value made p t s b j) n r
-    → (b ≡ slot.Root → MayGrowFor (outcome n r.1) (MayGrowBy W t j)) → HasCome made W t i p n r.0 r.1
-value-on made W t i p s j a come on other b at n r l leads grows =
-    come-on made W t i p s j a come on n r l (held s a + 1)
-    (value-proceeds made p t s j a on other l n r
-    (subst (λ b. Proceeds made p t j l (value_size s b + 1) (from_value made p t s b j) n r) at leads))
+pub value-on : (policy : TextPolicy) (W : Type 0) (t : List ℕ) (i : ℕ) (p : Settings) (s : Stacks) (j : ℕ) (a : State)
+    → HasReached policy W t i p s j a → GoesOn a → a ≢ state.Key → (b : Slot) → b ≡ slot_of a → (n : Stacks) (r : ℕ × State)
+    (l : ℕ) → Proceeds policy p t j l (value_size s b + 1) (from_value policy p t s b j) n r
+    → (b ≡ slot.Root → MayGrowFor (outcome n r.1) (MayGrowBy W t j)) → HasReached policy W t i p n r.0 r.1
+value-on policy W t i p s j a come on other b at n r l leads grows =
+    come-on policy W t i p s j a come on n r l (held s a + 1)
+    (value-proceeds policy p t s j a on other l n r
+    (subst (λ b. Proceeds policy p t j l (value_size s b + 1) (from_value policy p t s b j) n r) at leads))
     (λ root. grows (at ∙ ap slot_of root))
 
 -- ---- the keys of the members that are held

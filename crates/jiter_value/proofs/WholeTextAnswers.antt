@@ -2,11 +2,11 @@
 use Rattle.jiter_value.proofs.Words.{◌≡◌, inl, inr, ℕ, ◌<◌, Bool, true, false, List, length, refl, sym, ap, ap₂, ◌∙◌}
 use Rattle.jiter_value.proofs.Words.{arith, length-reverse, reverse, slice_get, Option, Some, None, Err, if◌then◌else◌}
 use Rattle.jiter_value.proofs.Words.{Kind, fault_kind, if_case, if_both, is_active, taken, failed, JsonError}
-use Rattle.jiter_value.proofs.Words.{PartialMode, Off, On, TrailingStrings, answer_in, past_blanks, Gives, Reading}
+use Rattle.jiter_value.proofs.Words.{PartialMode, Off, On, TrailingStrings, answer_in, past_blanks, Returns, Reading}
 use Rattle.jiter_value.proofs.Words.{done, fault, Rules, value_at, if_begun, if_last, to_end, prefix_answer}
 use Rattle.jiter_value.proofs.Words.{whole_answer, step, value_first, Text, Tree, ReadError, whole-is, Within}
-use Rattle.jiter_value.proofs.Words.{GivesWhole, IsErrorOf, Keeping, answer_with, view, Answers, held, held_in, Stands}
-use Rattle.jiter_value.proofs.Words.{Fails, GoesOn, HasCome, Settings, Stacks, State}
+use Rattle.jiter_value.proofs.Words.{GivesWhole, IsErrorOf, TextPolicy, answer_with, view, Answers, held, held_in, Stands}
+use Rattle.jiter_value.proofs.Words.{Fails, GoesOn, HasReached, Settings, Stacks, State}
 use Rattle.jiter_scan.proofs.Choices.{if-true, if-false}
 use Rattle.jiter_steps.specs.Step.{document_end}
 use Rattle.jiter_steps.specs.declared.read_error.ReadError.TheVariants as error
@@ -16,7 +16,7 @@ use Rattle.jiter_value.specs.declared.stacks.Slot.TheVariants as slot
 use Rattle.jiter_value.specs.declared.stacks.State.TheVariants as state
 use Rattle.jiter_value.proofs.StackTurns.{root-from, root-alone}
 
--- where a value begins, a byte stands after blanks
+-- where a value begins, a byte is after whitespace
 begins-at : (i j : ℕ) (o : Option ℕ) → value_first j o ≡ taken tt i → j ≡ i
 begins-at i j None h = absurd (cc)
 begins-at i j (Some c) h = cc
@@ -34,7 +34,7 @@ prefix-none : (r : Rules Text Tree) (t : List ℕ) (k : Kind) (j : ℕ) → step
 unfolding prefix_answer
 prefix-none r t k j h = no-value r t (past_blanks t 0) (slice_get t (past_blanks t 0)) k j h
 
--- after a value, nothing or a fault
+-- after a value, nothing or an error
 nothing-left : (a : Tree) (e i j : ℕ) (o : Option ℕ) → document_end j o ≡ taken tt i → if_last a e j o ≡ done a e
 nothing-left a e i j None h = refl
 nothing-left a e i j (Some c) h = absurd (cc)
@@ -78,7 +78,7 @@ module _ (r : Rules Text Tree) (mode : PartialMode) (t : List ℕ) where
     pub answer-fault : (k : Kind) (x i : ℕ) → value_here ≡ fault k x i → answer_with mode r t ≡ fault k x i
     answer-fault k x i h = fault-is k x i (begins ∙ h)
 
-    pub answer-refused : (e : ReadError) (j : ℕ) → Gives view (Err e) j value_here
+    pub answer-refused : (e : ReadError) (j : ℕ) → Returns view (Err e) j value_here
         → GivesWhole (Err e) j (answer_with mode r t)
     answer-refused (error.Memory m) j h = tt
     answer-refused (error.Fault f) j h = answer-fault (fault_kind f.kind) f.index j h
@@ -110,20 +110,20 @@ error-answers (error.Memory m) i err r is h = inl (ap (λ e. e.error_type) is)
 error-answers (error.Fault f) i err r is h = inr (i, h ∙ ap₂ (λ k x. fault k x i) (sym is.0) (sym is.1))
 
 -- ---- the machine
-pub fails-gives : (e : ReadError) (j : ℕ) (x y : Reading Tree) → x ≡ y → Fails e j y → Gives view (Err e) j x
+pub fails-gives : (e : ReadError) (j : ℕ) (x y : Reading Tree) → x ≡ y → Fails e j y → Returns view (Err e) j x
 fails-gives (error.Fault f) j x y q h = q ∙ h
 fails-gives (error.Memory m) j x y q h = tt
 
 -- a reading begins where the text's value does
-pub begins-at-value : (made : Keeping) (W : Type 0) (p : Settings) (t : List ℕ) (s : Stacks) (i : ℕ) → Stands s slot.Root
-    → i < length t → HasCome made W t i p s i state.Root
-begins-at-value made W p t s i b lt =
+pub begins-at-value : (policy : TextPolicy) (W : Type 0) (p : Settings) (t : List ℕ) (s : Stacks) (i : ℕ) → Stands s slot.Root
+    → i < length t → HasReached policy W t i p s i state.Root
+begins-at-value policy W p t s i b lt =
     let os = reverse s.nest.items in
     let none : length s.nest.items ≡ 0 = sym (length-reverse s.nest.items)
     ∙ root-alone os (length s.items.items) (length s.members.items) b in
     record {
       reaches = (
-        root-from made p t os s.items.items s.members.items (length s.items.items)
+        root-from policy p t os s.items.items s.members.items (length s.items.items)
             (length s.members.items) i b,
         (b, omega (arith, none), lt, λ item. absurd (cc)),
       );

@@ -29,7 +29,7 @@ pub use Rattle.jiter_steps.specs.FirstFault.{CanBeCompleted, can_go_on}
 pub use Rattle.jiter_steps.specs.Frames.{Frame, object_in, parts_from, resolve_step, resume}
 pub use Rattle.jiter_steps.specs.Literal.{literal_at, literal_tree, start_of}
 pub use Rattle.jiter_steps.specs.Node.{IsCutContainer, Node, end, value_of}
-pub use Rattle.jiter_steps.specs.Parse.{Gives}
+pub use Rattle.jiter_steps.specs.Parse.{Returns}
 pub use Rattle.jiter_steps.specs.Read.{Container, Reading, Rules, done, fault, if_begun, if_last, scalar_at, to_end, value_at, whole_answer}
 unfoldable pub use Rattle.jiter_steps.specs.Read.{prefix_answer}
 pub use Rattle.jiter_steps.specs.ReadError.{WhereRefused}
@@ -53,18 +53,18 @@ pub use Rattle.jiter_value.specs.Pointer.{is_slash, pointed, token_of}
 pub use Rattle.jiter_value.specs.QuotedKeys.{quoted_from}
 pub use Rattle.jiter_value.specs.Reading.{GivesWhole, IsErrorOf}
 pub use Rattle.jiter_value.specs.Scratch.{HoldsNothing}
-pub use Rattle.jiter_value.specs.Settings.{Keeping, answer_as, answer_by, answer_with, forgives, lent, lent_unique, rules_as}
+pub use Rattle.jiter_value.specs.Settings.{TextPolicy, answer_as, answer_by, answer_with, forgives, lent, lent_unique, rules_as}
 pub use Rattle.jiter_value.specs.Size.{after_size, frames_size, held, held_in, inside_size_in, parts_size, size, value_size}
-pub use Rattle.jiter_value.specs.Stacks.{HaveBases, HaveKeyBase, HaveKeys, HavePartBase, IsFree, LeavesKeys, Member, PartTree, Stands, StandsAtKey, after, built, container_fault_in, frames, frames_below, from_value, key_in, keys_of, meaning, member_view, parts_above, refused_in, slot_in}
-pub use Rattle.jiter_value.specs.Turns.{Fails, GoesOn, HasCome, IsKeyRead, IsResolved, IsWithin, MayGrowFor, Proceeds, Reaches, left, outcome}
+pub use Rattle.jiter_value.specs.Stacks.{HaveBases, HaveKeyBase, HaveKeys, HavePartBase, IsFree, LeavesKeys, Member, PartTree, Stands, StandsAtKey, after, built, container_fault_in, frames, frames_below, from_value, key_in, keys_of, denotes, member_view, parts_above, refused_in, slot_in}
+pub use Rattle.jiter_value.specs.Turns.{Fails, GoesOn, HasReached, IsKeyRead, IsResolved, IsWithin, MayGrowFor, Proceeds, Reaches, work_left, outcome}
 pub use Rattle.jiter_value.specs.UniqueKeys.{GivesUniqueWhole, WhereUniqueRefused, has_key, object_has_key}
 pub use Rattle.jiter_value.specs.Value.{Answers, MayGrow, MayGrowAs, MayGrowAt, MayGrowBy, member_views, view, views}
 pub use Rattle.jiter_value.specs.declared.settings.Settings.{Settings}
-pub use Rattle.jiter_value.specs.declared.stacks.Open.{Open}
+pub use Rattle.jiter_value.specs.declared.stacks.OpenContainer.{OpenContainer}
 pub use Rattle.jiter_value.specs.declared.stacks.Slot.{Slot}
 pub use Rattle.jiter_value.specs.declared.stacks.Stacks.{Stacks}
 pub use Rattle.jiter_value.specs.declared.stacks.State.{State}
-pub use Rattle.jiter_value.specs.declared.turns.unique.Stopped.{Stopped}
+pub use Rattle.jiter_value.specs.declared.turns.unique.Interrupted.{Interrupted}
 pub use Rattle.jiter_value.specs.declared.value.JsonValue.{Array, JsonValue, Object}
 pub use Rattle.std.proofs.Common.{All, Bool, Decides, Err, Global, IfErr, IfOk, IsCharBoundary, List, MatchResult, None, Ok, OnOk, Option, Result, Some, Vec, [], ap, append_assoc, ap₂, arith, bytes_eq, cond, drop, eqb, false, flat_map, get_or, if◌then◌else◌, inl, inr, length, length-append, length-drop, length-take, length-take-le, map, nat_lt, not, option_and_then, option_map, pos, refl, reverse, rules, slice_get, slice_index, slice_range, slice_set, string_bytes, subst, suc, sym, take, take-take, take_all, true, true≢false, zero, ℕ, ℤ, ◌++◌, ◌+◌, ◌-◌, ◌<◌, ◌^◌, ◌||◌, ◌↔◌, ◌∙◌, ◌∷◌, ◌≡◌, ◌≢◌, ◌≤◌, ◌⊎◌}
 pub use Rattle.std.proofs.Math.Seq.{get_or-append_seam, take-append_seam}

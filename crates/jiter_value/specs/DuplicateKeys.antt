@@ -9,7 +9,7 @@ use Rattle.std.specs.declared.alloc.Global.{Global}
 use Rattle.std.specs.declared.borrow.CowStr.{CowStr}
 use Rattle.std.specs.Cow.{cow_str_bytes}
 use Rattle.jiter_value.specs.declared.turns.duplicate_keys.DuplicateKeyIndex.{DuplicateKeyIndex}
-use Rattle.jiter_value.specs.declared.turns.duplicate_keys.Place.{Place}
+use Rattle.jiter_value.specs.declared.turns.duplicate_keys.BucketSlot.{BucketSlot}
 
 -- the set has a key of these bytes
 abbrev pub has_text : BTreeSet (CowStr Global) → List ℕ → Bool
@@ -32,7 +32,7 @@ abbrev pub AreTaken : List ℕ → ℕ → ℕ → Type 0
 AreTaken slots i j = (q : ℕ) → i ≤ q → q < j → 0 < get_or slots q 0
 
 -- The place is where the slots of this key's bucket end that have a member.
-pub record IsPlaceOf (slots k : List ℕ) (p : Place) : Type 0 where
+pub record IsPlaceOf (slots k : List ℕ) (p : BucketSlot) : Type 0 where
   pub bucket : p.bucket ≡ bucket_of k (length slots)
   pub inside : p.bucket + 8 ≤ length slots
   pub above : p.bucket ≤ p.at
@@ -49,11 +49,11 @@ abbrev pub IsNoKeyOf : List (List ℕ) → ℕ → List ℕ → Type 0
 IsNoKeyOf ks n k = (i : ℕ) → n ≡ i + 1 → i < length ks → bytes_eq k (get_or ks i []) ≡ false
 
 -- This key is that of a member that a slot before the place names.
-abbrev pub IsSomewhere : List (List ℕ) → List ℕ → Place → List ℕ → Type 0
+abbrev pub IsSomewhere : List (List ℕ) → List ℕ → BucketSlot → List ℕ → Type 0
 IsSomewhere ks slots p k = (q : ℕ) × (p.bucket ≤ q) × (q < p.at) × IsKeyOf ks (get_or slots q 0) k
 
 -- This key is that of none of the members that the slots before the place name.
-abbrev pub IsNowhere : List (List ℕ) → List ℕ → Place → List ℕ → Type 0
+abbrev pub IsNowhere : List (List ℕ) → List ℕ → BucketSlot → List ℕ → Type 0
 IsNowhere ks slots p k = (q : ℕ) → p.bucket ≤ q → q < p.at → IsNoKeyOf ks (get_or slots q 0) k
 
 -- The i-th member, whose key this is, has one of these slots, in its key's bucket among n; or all slots there have
@@ -77,7 +77,7 @@ pub record IsUpToDate (ks : List (List ℕ)) (s : DuplicateKeyIndex) : Type 0 wh
   pub keys : HasKeys ks s
   pub within : s.end ≤ length ks
 
--- This key, if it stands at the set's end, is put in.
+-- This key, if it is at the set's end, is put in.
 pub record Adds (k : List ℕ) (old new : DuplicateKeyIndex) : Type 0 where
   pub base : new.base ≡ old.base
   pub end : new.end ≡ old.end + 1

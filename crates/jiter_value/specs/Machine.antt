@@ -6,10 +6,10 @@ use Rattle.jiter_value.specs.Reading.{GivesWhole}
 use Rattle.jiter_value.specs.Settings.{answer_as, lent}
 use Rattle.jiter_value.specs.Size.{held_in, left_at}
 use Rattle.jiter_value.specs.Stacks.{Member, Stands}
-use Rattle.jiter_value.specs.Turns.{GoesOn, HasCome}
+use Rattle.jiter_value.specs.Turns.{GoesOn, HasReached}
 use Rattle.jiter_value.specs.Value.{MayGrow}
 use Rattle.jiter_value.specs.declared.settings.Settings.{Settings}
-use Rattle.jiter_value.specs.declared.stacks.Open.{Open}
+use Rattle.jiter_value.specs.declared.stacks.OpenContainer.{OpenContainer}
 use Rattle.jiter_value.specs.declared.stacks.Slot.TheVariants as slot
 use Rattle.jiter_value.specs.declared.stacks.Stacks.{Stacks}
 use Rattle.jiter_value.specs.declared.stacks.State.{State}
@@ -27,7 +27,7 @@ pub record Progress : Type 0 where
   pub position : ℕ
   pub elements : List JsonValue
   pub members : List Member
-  pub nest : List Open
+  pub nest : List OpenContainer
   pub state : State
   pub within : position ≤ length text
 
@@ -44,24 +44,24 @@ progress t r h = record {
 }
 
 -- how much is left to do
-abbrev pub left : Progress → ℕ
-left m = left_at m.text m.nest m.position
+abbrev pub turns_left : Progress → ℕ
+turns_left m = left_at m.text m.nest m.position
 
 -- how many scalars, containers and keys are held, open containers and awaiting keys among them: at the end none
 abbrev pub held : Progress → ℕ
 held m = held_in m.state (reverse m.nest) m.elements m.members 0
 
--- Nothing is read yet, or more of the text's value is awaited; no value stands beside the stacks.
+-- Nothing is read yet, or more of the text's value is awaited; no value is beside the stacks.
 abbrev pub IsUnderWay : Bool → List ℕ → Settings → ℕ → State → Stacks → Type 0
 IsUnderWay false t p i a s = Stands s slot.Root × (i ≡ 0) × (a ≡ state.Root) × (s.root ≡ Null)
-IsUnderWay true t p i a s = HasCome lent ⊥ t (past_blanks t 0) p s i a × GoesOn a × (s.root ≡ Null)
+IsUnderWay true t p i a s = HasReached lent ⊥ t (past_blanks t 0) p s i a × GoesOn a × (s.root ≡ Null)
 
 abbrev pub IsReadingOn : Bool → List ℕ → Reading → Type 0
 IsReadingOn begun t r = IsUnderWay begun t r.settings r.at r.state r.stacks
 
--- The reading of a text has ended: its value stands beside the stacks, or it was given up for what the text answers.
+-- The reading of a text has ended: its value is beside the stacks, or it was given up for what the text answers.
 abbrev pub HasEnded : List ℕ → Settings → ℕ → State → Stacks → Type 0
-HasEnded t p j state.Done s = HasCome lent ⊥ t (past_blanks t 0) p s j state.Done
+HasEnded t p j state.Done s = HasReached lent ⊥ t (past_blanks t 0) p s j state.Done
 HasEnded t p j state.GivenUp s =
     GivesWhole (Err s.error) j (answer_as lent p t) × (j ≤ length t)
     × WhereRefused {A = JsonValue} (Err s.error) (MayGrow t)

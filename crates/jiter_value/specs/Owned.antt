@@ -10,7 +10,7 @@ use Rattle.jiter_steps.specs.Tree.{Items, no_items, item, Members, no_members, m
 use Rattle.jiter_value.specs.Value.{view, MayGrow}
 use Rattle.jiter_value.specs.declared.value.JsonValue.{JsonValue}
 
--- what is made of a text that is lent where it lies
+-- what is made of a text that is borrowed where it lies
 abbrev pub as_it_is : Text → Text
 as_it_is s = s
 
@@ -21,22 +21,22 @@ owned_text s = record { owned = true; bytes = s.bytes }
 -- the same tree, each of its texts made so
 abbrev mutual
   pub tree_as : (Text → Text) → Tree → Tree
-  tree_as made null = null
-  tree_as made (boolean b) = boolean b
-  tree_as made (int z) = int z
-  tree_as made (big s) = big (made s)
-  tree_as made (float s) = float (made s)
-  tree_as made (string s) = string (made s)
-  tree_as made (array is) = array (items_as made is)
-  tree_as made (object ms) = object (members_as made ms)
+  tree_as policy null = null
+  tree_as policy (boolean b) = boolean b
+  tree_as policy (int z) = int z
+  tree_as policy (big s) = big (policy s)
+  tree_as policy (float s) = float (policy s)
+  tree_as policy (string s) = string (policy s)
+  tree_as policy (array is) = array (items_as policy is)
+  tree_as policy (object ms) = object (members_as policy ms)
 
   pub items_as : (Text → Text) → Items → Items
-  items_as made no_items = no_items
-  items_as made (item v is) = item (tree_as made v) (items_as made is)
+  items_as policy no_items = no_items
+  items_as policy (item v is) = item (tree_as policy v) (items_as policy is)
 
   pub members_as : (Text → Text) → Members → Members
-  members_as made no_members = no_members
-  members_as made (member k v ms) = member (made k) (tree_as made v) (members_as made ms)
+  members_as policy no_members = no_members
+  members_as policy (member k v ms) = member (policy k) (tree_as policy v) (members_as policy ms)
 
 -- the same tree, each of its texts owned
 abbrev pub owned_tree : Tree → Tree
@@ -69,8 +69,8 @@ HoldsSuchOrPart P (array (item v is)) = Unit {0}
 HoldsSuchOrPart P (object no_members) = ⊥
 HoldsSuchOrPart P (object (member k v ms)) = Unit {0}
 
--- Owning a tree's texts takes no memory but for a text or a part; a clone none but for an owned text or a part; where
--- the owned texts are moved, none but for a borrowed text or a part.
+-- Owning a tree's texts doesn't allocate except a text or a part; a clone none except an owned text or a part; where
+-- the owned texts are moved, none except a borrowed text or a part.
 abbrev pub HoldsTextOrPart : Tree → Type 0
 HoldsTextOrPart v = HoldsSuchOrPart (λ s. Unit {0}) v
 
@@ -88,8 +88,8 @@ ReadHolds (fault k x stop) = ⊥
 abbrev pub OwnedMayGrow : Bool → PartialMode → List ℕ → Type 0
 OwnedMayGrow names mode t = MayGrow t ⊎ ReadHolds (answer_in names mode t)
 
--- What became of an answer: the same value, each text owned, or want of memory at an index, where there was a borrowed
--- text or a part to own; the same fault.
+-- What became of an answer: the same value, each text owned, or a failed allocation at an index, where there was a borrowed
+-- text or a part to own; the same error.
 abbrev pub IsOwnedAnswer : Result JsonValue JsonError → ℕ → Result JsonValue JsonError → Type 0
 IsOwnedAnswer (Ok v) i (Ok w) = view w ≡ owned_tree (view v)
 IsOwnedAnswer (Ok v) i (Err e) = (e ≡ record { error_type = OutOfMemory; index = i }) × HoldsBorrowedTextOrPart (view v)

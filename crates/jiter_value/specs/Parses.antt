@@ -29,7 +29,7 @@ reading_as made (fault k i stop) = fault k i stop
 
 -- Of a call that refuses with an E: what its error tells, what a document is to it, and what it answers.
 pub record Manner (E : Type 0) : Type 1 where
-  -- an error's kind, where it stands, and that memory was refused
+  -- an error's kind, where it is, and that an allocation failed
   pub kind : E → Kind
   pub index : E → ℕ
   pub IsMemory : E → Type 0
@@ -47,7 +47,7 @@ pub record Manner (E : Type 0) : Type 1 where
 abbrev pub BeginsNone : (List ℕ → Node → Type 0) → List ℕ → Type 0
 BeginsNone Spells prefix = (rest : List ℕ) (n : Node) → Spells (prefix ++ rest) n → ⊥
 
--- What a parse returns: the value that was read, or the fault's kind and index, unless memory was refused.
+-- What a parse returns: the value that was read, or the error's kind and index, unless an allocation fails.
 abbrev pub AnswersBy : {E : Type 0} → Manner E → Result JsonValue E → Reading Tree → Type 0
 AnswersBy by (Ok v) r = (e : ℕ) × (r ≡ done (view v) e)
 AnswersBy by (Err e) r = by.IsMemory e ⊎ ((stop : ℕ) × (r ≡ fault (by.kind e) (by.index e) stop))
@@ -58,25 +58,25 @@ pub record ParsesBy {E : Type 0} (by : Manner E) (made : Tree → Tree) (Grows :
     (mode : PartialMode) (t : List ℕ) (result : Result JsonValue E) : Type 0 where
   -- With partial reading off a value is that of a document that the bytes spell.
   pub found : mode ≡ Off → IfOk result (λ v. (n : Node) × by.Spells t n × (made (value_of t n) ≡ view v))
-  -- In every mode a document is answered with its value, unless memory is refused.
+  -- In every mode a document is answered with its value, unless an allocation fails.
   pub accepts : (n : Node) → by.Spells t n
       → MatchResult result (λ v. view v ≡ made (value_of t n)) (λ e. by.IsMemory e)
   -- In a partial mode a prefix of an array or an object, its first bracket in it, is answered with exactly the
-  -- document's cut there, unless memory is refused.
+  -- document's cut there, unless an allocation fails.
   pub cut : is_active mode ≡ true → (f : by.Begun t)
       → MatchResult result (λ v. option_map made (by.left mode t f) ≡ Some (view v)) (λ e. by.IsMemory e)
-  -- With partial reading off: the value, or the first fault of a reading from the left.
+  -- With partial reading off: the value, or the first error of a reading from the left.
   pub first : mode ≡ Off → AnswersBy by result (reading_as made (by.reading Off t))
   -- On any bytes: what that reading answers in this mode.
   pub answer : AnswersBy by result (reading_as made (by.reading mode t))
-  -- With partial reading off: no document begins with the bytes up to the fault.
+  -- With partial reading off: no document begins with the bytes up to the error.
   pub dead : mode ≡ Off
       → IfErr result (λ e. IsDeadEnd (by.kind e) → BeginsNone by.Spells (take (by.index e + 1) t))
-  -- With partial reading off: the bytes before the fault, little more and closers are a document, which may have
+  -- With partial reading off: the bytes before the error, little more and closers are a document, which may have
   -- repeated keys in every manner.
   pub alive : mode ≡ Off
       → IfErr result (λ e. can_go_on (by.kind e) ≡ true → CanBeCompleted names (take (by.index e) t))
-  -- No error stands past the length, and one of the input's end stands there.
+  -- No error is past the length, and one of the input's end is there.
   pub index : IfErr result (λ e. by.index e ≤ length t)
   pub ends : IfErr result (λ e. is_end_kind (by.kind e) ≡ true → by.index e ≡ length t)
   -- With partial reading off: an array or an object without its last bracket is refused, since the input ends too

@@ -33,7 +33,7 @@ pointed (token ∷ tokens) v = option_and_then (pointed tokens) (part_spelled to
 abbrev pub is_slash : ℕ → Bool
 is_slash c = c == 47
 
--- what the pointer leads to: each token stands after a slash, and an empty pointer is the value itself
+-- what the pointer leads to: each token is after a slash, and an empty pointer is the value itself
 abbrev pub pointed_by : List ℕ → Tree → Option Tree
 pointed_by [] v = Some v
 pointed_by (c ∷ cs) v = if is_slash c then pointed (slice_split is_slash cs) v else None

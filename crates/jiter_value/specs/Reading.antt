@@ -12,7 +12,7 @@ use Rattle.jiter_steps.specs.declared.read_error.ReadError.TheVariants as error
 use Rattle.jiter_value.specs.Value.{view}
 use Rattle.jiter_value.specs.declared.value.JsonValue.{JsonValue}
 
--- What was returned of a whole text is this reading, unless memory was refused; a fault leaves the reader at i.
+-- What was returned of a whole text is this reading, unless an allocation fails; an error leaves the reader at i.
 abbrev pub ReadsWhole : Result JsonValue Fault → ℕ → Reading Tree → Type 0
 ReadsWhole (Ok v) i r = (e : ℕ) × (r ≡ done (view v) e)
 ReadsWhole (Err f) i r = r ≡ fault (fault_kind f.kind) f.index i
@@ -20,7 +20,7 @@ ReadsWhole (Err f) i r = r ≡ fault (fault_kind f.kind) f.index i
 abbrev pub GivesWhole : Result JsonValue ReadError → ℕ → Reading Tree → Type 0
 GivesWhole result i r = UnlessRefused result (λ x. ReadsWhole x i r)
 
--- The error that a public call answers, where the reader stands at i: the fault, or want of memory there.
+-- The error that a public call answers, where the reader is at i: the error, or a failed allocation there.
 abbrev pub IsErrorOf : ReadError → ℕ → JsonError → Type 0
 IsErrorOf (error.Fault f) i e = (kind_of e.error_type ≡ fault_kind f.kind) × (e.index ≡ f.index)
 IsErrorOf (error.Memory m) i e = e ≡ record { error_type = OutOfMemory; index = i }

@@ -24,35 +24,35 @@ rules p = trees (forgives p.mode) (value_form p.mode) p.allow_inf_nan
 
 -- What a reading keeps: what becomes of each text that is read, and whether a key is refused that its object has
 -- already.
-pub record Keeping : Type 0 where
+pub record TextPolicy : Type 0 where
   pub text : Text → Text
   pub unique : Bool
 
 -- each text made so, repeated keys kept
-abbrev pub each : (Text → Text) → Keeping
-each made = record { text = made; unique = false }
+abbrev pub each : (Text → Text) → TextPolicy
+each policy = record { text = policy; unique = false }
 
--- each text lent where it lies, repeated keys kept; and refused
-abbrev pub lent : Keeping
+-- each text borrowed where it lies, repeated keys kept; and refused
+abbrev pub lent : TextPolicy
 lent = each as_it_is
 
-abbrev pub lent_unique : Keeping
+abbrev pub lent_unique : TextPolicy
 lent_unique = record { text = as_it_is; unique = true }
 
--- the fault of a key that these members of its object, which stand before it, make
-abbrev pub refused_as : Keeping → List (Text × Tree) → List ℕ → ℕ → Option (Kind × ℕ)
-refused_as made members t i =
-    if made.unique then repeated_key own_bytes (map (λ m. own_bytes m.0) members) t (string_at whole t i) else None
+-- the error of a key that these members of its object, which are before it, make
+abbrev pub refused_as : TextPolicy → List (Text × Tree) → List ℕ → ℕ → Option (Kind × ℕ)
+refused_as policy members t i =
+    if policy.unique then repeated_key own_bytes (map (λ m. own_bytes m.0) members) t (string_at whole t i) else None
 
 -- The same rules, where this is kept of what is read.
-abbrev pub rules_as : Keeping → Settings → Rules Text Tree
-rules_as made p = record {
+abbrev pub rules_as : TextPolicy → Settings → Rules Text Tree
+rules_as policy p = record {
   forgives = forgives p.mode;
   literal = λ t l i. seen_as (λ u e. literal_tree l) (literal_at t l i);
-  number = λ t i. seen_as (λ n e. tree_as made.text (number_tree n)) (number_at p.allow_inf_nan t i);
-  text = λ t i. seen_as (λ s e. tree.string (made.text s)) (string_at (value_form p.mode) t i);
-  key = λ t i. seen_as (λ s e. made.text s) (string_at whole t i);
-  refuses = λ members t i. refused_as made members t i;
+  number = λ t i. seen_as (λ n e. tree_as policy.text (number_tree n)) (number_at p.allow_inf_nan t i);
+  text = λ t i. seen_as (λ s e. tree.string (policy.text s)) (string_at (value_form p.mode) t i);
+  key = λ t i. seen_as (λ s e. policy.text s) (string_at whole t i);
+  refuses = λ members t i. refused_as policy members t i;
   array = λ b e items. tree.array (items_of items);
   object = λ b e members. tree.object (members_of members);
 }
@@ -61,8 +61,8 @@ rules_as made p = record {
 abbrev pub answer_with : PartialMode → Rules Text Tree → List ℕ → Reading Tree
 answer_with mode r t = if is_active mode then prefix_answer r t else whole_answer r t
 
-abbrev pub answer_as : Keeping → Settings → List ℕ → Reading Tree
-answer_as made p t = answer_with p.mode (rules_as made p) t
+abbrev pub answer_as : TextPolicy → Settings → List ℕ → Reading Tree
+answer_as policy p t = answer_with p.mode (rules_as policy p) t
 
 -- what a text answers
 abbrev pub answer_by : Settings → List ℕ → Reading Tree

@@ -6,7 +6,7 @@ use Rattle.jiter_steps.specs.declared.parse.ContainerKind.{ContainerKind}
 use Rattle.jiter_steps.specs.declared.parse.ContainerKind.TheVariants as shape
 use Rattle.jiter_value.specs.Value.{view}
 use Rattle.jiter_value.specs.declared.value.JsonValue.{JsonValue}
-use Rattle.jiter_value.specs.declared.stacks.Open.{Open}
+use Rattle.jiter_value.specs.declared.stacks.OpenContainer.{OpenContainer}
 use Rattle.jiter_value.specs.declared.stacks.Slot.{Slot}
 use Rattle.jiter_value.specs.declared.stacks.Slot.TheVariants as slot
 use Rattle.jiter_value.specs.declared.stacks.State.{State}
@@ -51,12 +51,12 @@ parts_size shape.Array xs = items_size xs
 parts_size shape.Object xs = members_size xs
 
 -- where the innermost container is of this shape, and awaits no value
-abbrev pub inside_size_in : ContainerKind → List Open → List JsonValue → List Member → ℕ
+abbrev pub inside_size_in : ContainerKind → List OpenContainer → List JsonValue → List Member → ℕ
 inside_size_in h [] items members = 0
 inside_size_in h (o ∷ os) items members =
     suc (parts_size h (parts_above h o.base items members)) + frames_size (frames_below h o os items members)
 
-abbrev pub after_size_in : Slot → List Open → List JsonValue → List Member → JsonValue → ℕ
+abbrev pub after_size_in : Slot → List OpenContainer → List JsonValue → List Member → JsonValue → ℕ
 after_size_in a [] items members root = size (view root)
 after_size_in slot.Item (o ∷ os) items members root =
     suc (items_size (map view (drop o.base items))) + frames_size (frames o.outer os (take o.base items) members)
@@ -66,7 +66,7 @@ after_size_in slot.Member (o ∷ os) items members root =
 after_size_in slot.Root (o ∷ os) items members root = size (view root)
 
 -- How many scalars, containers and keys are held, open containers and awaiting keys among them; at the end n.
-abbrev pub held_in : State → List Open → List JsonValue → List Member → ℕ → ℕ
+abbrev pub held_in : State → List OpenContainer → List JsonValue → List Member → ℕ → ℕ
 held_in state.Root os items members n = frames_size (frames slot.Root os items members)
 held_in state.Item os items members n = frames_size (frames slot.Item os items members)
 held_in state.Member os items members n = frames_size (frames slot.Member os items members)
@@ -93,5 +93,5 @@ abbrev pub held : Stacks → State → ℕ
 held s a = held_in a (reverse s.nest.items) s.items.items s.members.items (size (view s.root))
 
 -- How much is left to do at j: three for each byte that is left, one for each open container, and one.
-abbrev pub left_at : List ℕ → List Open → ℕ → ℕ
+abbrev pub left_at : List ℕ → List OpenContainer → ℕ → ℕ
 left_at t os j = 3 * (length t - j) + length os + 1

@@ -12,10 +12,10 @@ use Rattle.jiter_steps.specs.declared.parse.ContainerKind.{ContainerKind}
 use Rattle.jiter_steps.specs.declared.parse.ContainerKind.TheVariants as shape
 use Rattle.jiter_steps.specs.Frames.{Frame, items_frame, members_frame, resume, value_from, key_from, items_from}
 use Rattle.jiter_steps.specs.Frames.{members_from}
-use Rattle.jiter_value.specs.Settings.{Keeping, refused_as, rules_as}
+use Rattle.jiter_value.specs.Settings.{TextPolicy, refused_as, rules_as}
 use Rattle.jiter_value.specs.Value.{view}
 use Rattle.jiter_value.specs.declared.settings.Settings.{Settings}
-use Rattle.jiter_value.specs.declared.stacks.Open.{Open}
+use Rattle.jiter_value.specs.declared.stacks.OpenContainer.{OpenContainer}
 use Rattle.jiter_value.specs.declared.stacks.Slot.{Slot}
 use Rattle.jiter_value.specs.declared.stacks.Slot.TheVariants as slot
 use Rattle.jiter_value.specs.declared.stacks.Stacks.{Stacks}
@@ -56,9 +56,9 @@ HaveKeys ks ms = keys_of ms ≡ take (length ms) ks
 abbrev pub but_last : List Member → List Member
 but_last ms = take (length ms - 1) ms
 
--- Each open container has what stands from its base up, the innermost first. In an object that awaits a value the last
+-- Each open container has what is from its base up, the innermost first. In an object that awaits a value the last
 -- member has its key alone.
-abbrev pub frames : Slot → List Open → List JsonValue → List Member → List (Frame Text Tree)
+abbrev pub frames : Slot → List OpenContainer → List JsonValue → List Member → List (Frame Text Tree)
 frames a [] items members = []
 frames slot.Item (o ∷ os) items members =
     items_frame (map view (drop o.base items)) ∷ frames o.outer os (take o.base items) members
@@ -76,23 +76,23 @@ abbrev pub built : (h : ContainerKind) → List (PartTree h) → Tree
 built shape.Array xs = array (items_of xs)
 built shape.Object xs = object (members_of xs)
 
--- the parts that stand above a base,
+-- the parts that are above a base,
 abbrev pub parts_above : (h : ContainerKind) → ℕ → List JsonValue → List Member → List (PartTree h)
 parts_above shape.Array n items members = map view (drop n items)
 parts_above shape.Object n items members = map member_view (drop n members)
 
--- and what stands below an open container.
-abbrev pub frames_below : ContainerKind → Open → List Open → List JsonValue → List Member → List (Frame Text Tree)
+-- and what is below an open container.
+abbrev pub frames_below : ContainerKind → OpenContainer → List OpenContainer → List JsonValue → List Member → List (Frame Text Tree)
 frames_below shape.Array o os items members = frames o.outer os (take o.base items) members
 frames_below shape.Object o os items members = frames o.outer os items (take o.base members)
 
--- the fault of the key at j that the members of the innermost object make
-abbrev pub refused_in : Keeping → List ℕ → List Open → List Member → ℕ → Option (Kind × ℕ)
-refused_in made t [] members j = None
-refused_in made t (o ∷ os) members j = refused_as made (map member_view (drop o.base members)) t j
+-- the error of the key at j that the members of the innermost object make
+abbrev pub refused_in : TextPolicy → List ℕ → List OpenContainer → List Member → ℕ → Option (Kind × ℕ)
+refused_in policy t [] members j = None
+refused_in policy t (o ∷ os) members j = refused_as policy (map member_view (drop o.base members)) t j
 
 -- the bases lie within the stacks, and below the outermost there is nothing
-abbrev pub HaveBases : Slot → List Open → ℕ → ℕ → Type 0
+abbrev pub HaveBases : Slot → List OpenContainer → ℕ → ℕ → Type 0
 HaveBases slot.Root [] n m = (n ≡ 0) × (m ≡ 0)
 HaveBases slot.Root (o ∷ os) n m = ⊥
 HaveBases slot.Item [] n m = ⊥
@@ -101,53 +101,53 @@ HaveBases slot.Member [] n m = ⊥
 HaveBases slot.Member (o ∷ os) n m = (o.base < m) × HaveBases o.outer os n o.base
 
 -- the same where the innermost is an object that awaits a key
-abbrev pub HaveKeyBase : List Open → ℕ → ℕ → Type 0
+abbrev pub HaveKeyBase : List OpenContainer → ℕ → ℕ → Type 0
 HaveKeyBase [] n m = ⊥
 HaveKeyBase (o ∷ os) n m = (o.base ≤ m) × HaveBases o.outer os n o.base
 
 -- the same where the innermost is of this shape, and awaits no value
-abbrev pub HavePartBase : ContainerKind → List Open → ℕ → ℕ → Type 0
+abbrev pub HavePartBase : ContainerKind → List OpenContainer → ℕ → ℕ → Type 0
 HavePartBase shape.Array os n m = HaveBases slot.Item os n m
 HavePartBase shape.Object os n m = HaveKeyBase os n m
 
-module _ (made : Keeping) (p : Settings) (t : List ℕ) where
+module _ (policy : TextPolicy) (p : Settings) (t : List ℕ) where
   -- where the innermost object awaits a key at j
-  abbrev pub key_in : List Open → List JsonValue → List Member → ℕ → Reading Tree
+  abbrev pub key_in : List OpenContainer → List JsonValue → List Member → ℕ → Reading Tree
   key_in [] items members j = fault eof_object j j
   key_in (o ∷ os) items members j =
-      key_from (rules_as made p) t (frames o.outer os items (take o.base members))
+      key_from (rules_as policy p) t (frames o.outer os items (take o.base members))
       (map member_view (drop o.base members)) j
 
   -- where the innermost container has a value that ends at e
-  abbrev pub after_in : Slot → List Open → List JsonValue → List Member → JsonValue → ℕ → Reading Tree
+  abbrev pub after_in : Slot → List OpenContainer → List JsonValue → List Member → JsonValue → ℕ → Reading Tree
   after_in a [] items members root e = done (view root) e
   after_in slot.Item (o ∷ os) items members root e =
-      items_from (rules_as made p) t (frames o.outer os (take o.base items) members) (map view (drop o.base items)) e
+      items_from (rules_as policy p) t (frames o.outer os (take o.base items) members) (map view (drop o.base items)) e
   after_in slot.Member (o ∷ os) items members root e =
-      members_from (rules_as made p) t (frames o.outer os items (take o.base members))
+      members_from (rules_as policy p) t (frames o.outer os items (take o.base members))
       (map member_view (drop o.base members)) e
   after_in slot.Root (o ∷ os) items members root e = done (view root) e
 
   -- where the innermost container ends at e
-  abbrev pub container_in : ContainerKind → List Open → List JsonValue → List Member → ℕ → Reading Tree
+  abbrev pub container_in : ContainerKind → List OpenContainer → List JsonValue → List Member → ℕ → Reading Tree
   container_in h [] items members e = fault (end_kind_of h) e e
   container_in h (o ∷ os) items members e =
-      resume (rules_as made p) t (frames_below h o os items members)
+      resume (rules_as policy p) t (frames_below h o os items members)
       (done (built h (parts_above h o.base items members)) e)
 
-  -- where a fault follows its parts
-  abbrev pub container_fault_in : ContainerKind → List Open → List JsonValue → List Member → Kind → ℕ → ℕ → Reading Tree
+  -- where an error follows its parts
+  abbrev pub container_fault_in : ContainerKind → List OpenContainer → List JsonValue → List Member → Kind → ℕ → ℕ → Reading Tree
   container_fault_in h [] items members k x stop = fault k x stop
   container_fault_in h (o ∷ os) items members k x stop =
-      resume (rules_as made p) t (frames_below h o os items members)
-      (if_forgiven (rules_as made p) (λ e. built h (parts_above h o.base items members)) k x stop)
+      resume (rules_as policy p) t (frames_below h o os items members)
+      (if_forgiven (rules_as policy p) (λ e. built h (parts_above h o.base items members)) k x stop)
 
   -- The same of all that is held.
   abbrev pub resume_with : Stacks → Slot → Reading Tree → Reading Tree
-  resume_with s a x = resume (rules_as made p) t (frames a (reverse s.nest.items) s.items.items s.members.items) x
+  resume_with s a x = resume (rules_as policy p) t (frames a (reverse s.nest.items) s.items.items s.members.items) x
 
   abbrev pub from_value : Stacks → Slot → ℕ → Reading Tree
-  from_value s a j = value_from (rules_as made p) t (frames a (reverse s.nest.items) s.items.items s.members.items) j
+  from_value s a j = value_from (rules_as policy p) t (frames a (reverse s.nest.items) s.items.items s.members.items) j
 
   abbrev pub from_key : Stacks → ℕ → Reading Tree
   from_key s j = key_in (reverse s.nest.items) s.items.items s.members.items j
@@ -162,13 +162,13 @@ module _ (made : Keeping) (p : Settings) (t : List ℕ) where
   container_fault h s k x stop = container_fault_in h (reverse s.nest.items) s.items.items s.members.items k x stop
 
   -- What the rest of the text completes the machine to.
-  abbrev pub meaning : Stacks → State → ℕ → Reading Tree
-  meaning s state.Root j = from_value s slot.Root j
-  meaning s state.Item j = from_value s slot.Item j
-  meaning s state.Member j = from_value s slot.Member j
-  meaning s state.Key j = from_key s j
-  meaning s state.Done j = done (view s.root) j
-  meaning s state.GivenUp j = done (view s.root) j
+  abbrev pub denotes : Stacks → State → ℕ → Reading Tree
+  denotes s state.Root j = from_value s slot.Root j
+  denotes s state.Item j = from_value s slot.Item j
+  denotes s state.Member j = from_value s slot.Member j
+  denotes s state.Key j = from_key s j
+  denotes s state.Done j = done (view s.root) j
+  denotes s state.GivenUp j = done (view s.root) j
 
 abbrev pub Stands : Stacks → Slot → Type 0
 Stands s a = HaveBases a (reverse s.nest.items) (length s.items.items) (length s.members.items)
@@ -185,8 +185,8 @@ abbrev pub StandsInside : ContainerKind → Stacks → Type 0
 StandsInside h s = HavePartBase h (reverse s.nest.items) (length s.items.items) (length s.members.items)
 
 -- the key at j is not refused for the members before it
-abbrev pub IsFree : Keeping → List ℕ → Stacks → ℕ → Type 0
-IsFree made t s j = refused_in made t (reverse s.nest.items) s.members.items j ≡ None
+abbrev pub IsFree : TextPolicy → List ℕ → Stacks → ℕ → Type 0
+IsFree policy t s j = refused_in policy t (reverse s.nest.items) s.members.items j ≡ None
 
 -- where a value of a container goes, and what is awaited where a part of it begins
 abbrev pub slot_in : ContainerKind → Slot

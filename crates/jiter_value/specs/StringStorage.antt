@@ -1,14 +1,14 @@
--- Where a text lies that is lent from the input.
+-- Where a text lies that is borrowed from the input.
 use Rattle.std.specs.Prelude.{◌≡◌, ℕ, ◌+◌, ◌≤◌, false, List, length, slice_range}
 use Rattle.jiter_scan.specs.Number.{Number, integer, big, float}
 use Rattle.jiter_steps.specs.Tree.{Text}
 
--- the bytes w stand in t from i on
+-- the bytes w are in t from i on
 pub record LieAt (t : List ℕ) (i : ℕ) (w : List ℕ) : Type 0 where
   pub within : i + length w ≤ length t
   pub same : w ≡ slice_range t i (i + length w)
 
--- a text that is lent stands in t from i on
+-- a text that is borrowed is in t from i on
 abbrev pub IsLentAt : List ℕ → ℕ → Text → Type 0
 IsLentAt t i s = s.owned ≡ false → LieAt t i s.bytes
 

@@ -1,6 +1,6 @@
 -- What contracts see of a turn.
 use Rattle.std.specs.Prelude.{◌≡◌, ◌+◌, ◌≤◌, ◌<◌, IfOk}
-use Rattle.jiter_value.specs.Machine.{Progress, left, held}
+use Rattle.jiter_value.specs.Machine.{Progress, turns_left, held}
 use Rattle.jiter_value.specs.Parses.{Parses, as_read}
 use Rattle.jiter_value.specs.Size.{size}
 use Rattle.jiter_value.specs.Value.{view, MayGrow}
@@ -13,7 +13,7 @@ pub record GoesOn (m n : Progress) : Type 0 where
   pub text : n.text ≡ m.text
   pub settings : n.settings ≡ m.settings
   pub position : m.position ≤ n.position
-  pub left : left n < left m
+  pub turns_left : turns_left n < turns_left m
   pub held : held n ≤ held m + 1
 
 -- Where a turn leads: to a machine that goes on, or to what a parse of the text promises, a value of at most one more

@@ -15,6 +15,6 @@ abbrev pub IsDuplicateKey : UniqueErrorType → Type 0
 IsDuplicateKey (error.JsonError kind) = ⊥
 IsDuplicateKey (error.DuplicateKey key) = Unit {0}
 
--- memory was refused
+-- an allocation failed
 abbrev pub IsMemoryRefused : UniqueErrorType → Type 0
 IsMemoryRefused cause = cause ≡ error.JsonError OutOfMemory

@@ -46,12 +46,12 @@ views vs = items_of (map view vs)
 abbrev pub member_views : List (CowStr Global × JsonValue) → Members
 member_views ms = members_seen (map (λ m. (m.0, view m.1)) ms)
 
--- What a parse returns: the value that was read, or the fault's kind and index, unless memory was refused.
+-- What a parse returns: the value that was read, or the error's kind and index, unless an allocation fails.
 abbrev pub Answers : Result JsonValue JsonError → Reading Tree → Type 0
 Answers (Ok v) r = (e : ℕ) × (r ≡ done (view v) e)
 Answers (Err e) r = (e.error_type ≡ OutOfMemory) ⊎ ((stop : ℕ) × (r ≡ fault (kind_of e.error_type) e.index stop))
 
--- a part stands after the container's bracket
+-- a part is after the container's bracket
 abbrev pub LeadsOn : Step → Type 0
 LeadsOn (more j) = Unit {0}
 LeadsOn (closed e) = ⊥

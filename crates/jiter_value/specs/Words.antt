@@ -12,7 +12,7 @@ pub use Rattle.jiter_steps.specs.Cut.{IsBegunContainer, cut}
 pub use Rattle.jiter_steps.specs.Found.{step_of}
 pub use Rattle.jiter_steps.specs.Literal.{literal_tree, start_of}
 pub use Rattle.jiter_steps.specs.Node.{IsDocument, Node, nesting_limit, number_tree, value_of}
-pub use Rattle.jiter_steps.specs.Parse.{Gives, Moves}
+pub use Rattle.jiter_steps.specs.Parse.{Returns, NeverMovesBack}
 pub use Rattle.jiter_steps.specs.Read.{done, fault, value_at}
 pub use Rattle.jiter_steps.specs.ReadError.{WhereRefused}
 pub use Rattle.jiter_steps.specs.Step.{colon, container_first, more, opening, step}
@@ -31,11 +31,11 @@ pub use Rattle.jiter_value.specs.Pointer.{is_slash, item_spelled, part_spelled, 
 pub use Rattle.jiter_value.specs.QuotedKeys.{EndsAtAscii, quoted_from}
 pub use Rattle.jiter_value.specs.Reading.{GivesWhole, IsErrorOf}
 pub use Rattle.jiter_value.specs.Scratch.{HoldsNothing, IsCleared}
-pub use Rattle.jiter_value.specs.Settings.{Keeping, answer_as, each, forgives, lent_unique, rules, rules_as}
+pub use Rattle.jiter_value.specs.Settings.{TextPolicy, answer_as, each, forgives, lent_unique, rules, rules_as}
 pub use Rattle.jiter_value.specs.Size.{after_size, inside_size, size, value_size}
 pub use Rattle.jiter_value.specs.Stacks.{HasRoom, HasRoomIn, HaveKeys, HoldsSame, IsFree, LeavesKeys, Member, Stands, StandsAtKey, StandsInside, after, base_of, container_ends, container_fault, empty_tree, from_value, keys_of, member_view, part_of, resume_with, slot_in, without_root}
 pub use Rattle.jiter_value.specs.StringStorage.{IsLentAt, IsNumberAt}
-pub use Rattle.jiter_value.specs.Turns.{Follows, HasTakenKey, IsAtKey, IsAtValue, IsKeyRead, IsPutAt, IsReady, IsRefusedAt, IsResolved, Proceeds, Turned, left, outcome}
+pub use Rattle.jiter_value.specs.Turns.{Follows, HasTakenKey, IsAtKey, IsAtValue, IsKeyRead, IsPutAt, IsReady, IsRefusedAt, IsResolved, Proceeds, Turned, work_left, outcome}
 pub use Rattle.jiter_value.specs.UniqueErrors.{IsDuplicateKey, IsMemoryRefused, unique_kind}
 pub use Rattle.jiter_value.specs.UniqueKeys.{GivesUnique, GivesUniqueWhole, HasStopped, IsUniqueErrorOf, WhereUniqueRefused, fault_at_key, fault_of, has_key, innermost_base, object_has_key}
 pub use Rattle.jiter_value.specs.Value.{Answers, BeginsContainer, MayGrow, MayGrowAt, MayGrowBy, member_views, view, views}

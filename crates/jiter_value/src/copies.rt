@@ -1,5 +1,4 @@
-//! Copies of values. A text is a string, a key or the source of a number. In a `clone` each text is borrowed or owned
-//! as it was; `to_static` and `into_static` own every text.
+//! Copies of values. A text is a string, a key or the source of a number. Only a `clone` may have borrowed texts.
 ghost use Rattle.std.specs.Prelude.{◌≡◌, IfOk, OnErr, false, map, true};
 ghost use Rattle.jiter_value.specs.Words.{text_view, owned_text, owned_tree, owned_member, HoldsTextOrPart};
 ghost use Rattle.jiter_value.specs.Words.{HoldsOwnedTextOrPart, HoldsBorrowedTextOrPart, member_view, view};
@@ -13,8 +12,7 @@ use std::mem;
 impl<'s> JsonValue<'s> {
     /// Returns a copy in which each string, key and number text is borrowed or owned as it is here.
     ///
-    /// Allocates one vector for each non-empty container, of the exact length, and one string for each owned text that
-    /// isn't empty.
+    /// Allocates one vector of the exact length for each container, and one string for each owned text, if not empty.
     ///
     /// # Errors
     ///
@@ -28,8 +26,7 @@ impl<'s> JsonValue<'s> {
 
     /// Returns a copy that owns all its strings, keys and number texts, so it borrows nothing.
     ///
-    /// Allocates one vector for each non-empty container, of the exact length, and one string for each text that isn't
-    /// empty.
+    /// Allocates one vector of the exact length for each container, and one string for each text, if not empty.
     ///
     /// # Errors
     ///
@@ -47,8 +44,7 @@ impl<'s> JsonValue<'s> {
     ///
     /// # Errors
     ///
-    /// `AllocError` if an allocation fails: only for a non-empty container, a borrowed string or a borrowed number
-    /// text. The value is then dropped.
+    /// `AllocError`, only for a non-empty container or a borrowed text, if an allocation fails. The value is dropped.
     pub fn into_static(self, alloc: Global) -> Result<JsonValue<'static>, AllocError>
         ensures value { IfOk result (λ v. view v ≡ owned_tree (view self.entry)) }
         ensures memory { OnErr result (HoldsBorrowedTextOrPart (view self.entry)) }

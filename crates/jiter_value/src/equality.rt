@@ -14,8 +14,7 @@ impl<'s> PartialEq for JsonValue<'s> {
 
     /// Returns whether two values hold the same, borrowed or owned.
     ///
-    /// A `BigInt` or a `Float` is compared by its source text, so `1.0` isn't equal to `1.00`. Members are compared in
-    /// order.
+    /// A `BigInt` or a `Float` is compared by its text, so `1.0` isn't equal to `1.00`. Members are compared in order.
     fn eq(&self, other: &Self) -> bool
         ensures value { result ≡ same_content (view self.now) (view other.now) }
         ensures decided { Decides result (HoldSame (view self.now) (view other.now)) }

@@ -1,5 +1,4 @@
-//! JSON documents as trees (`JsonValue`), and the calls that parse them. A string without a backslash is borrowed from
-//! the input.
+//! JSON documents as trees (`JsonValue`), and the calls that parse them. Strings without a backslash are borrowed.
 #![tactic(auto)]
 
 pub mod access;
@@ -13,7 +12,7 @@ pub mod reading;
 pub mod scratch;
 pub mod settings;
 pub mod stacks;
-pub mod texts;
+pub mod string_storage;
 pub(crate) mod turns;
 pub mod unique;
 pub mod unique_error;

@@ -1,20 +1,20 @@
 //! A parse that the caller takes on turn by turn.
 ghost use Rattle.std.specs.Prelude.{◌≡◌, ◌≤◌, ◌+◌, ◌*◌, IfOk, false, length, true};
-ghost use Rattle.jiter_value.specs.Machine.{left, held, IsOver, IsReadingOn};
+ghost use Rattle.jiter_value.specs.Machine.{turns_left, held, IsOver, IsReadingOn};
 ghost use Rattle.jiter_value.specs.Parses.{Parses, as_read};
 ghost use Rattle.jiter_value.specs.Value.{MayGrow};
 
 use crate::reading::{error_at, finish_whole};
 use crate::settings::Settings;
 use crate::stacks::{State, drop_root, take_error, take_root};
-use crate::texts::Borrowing;
+use crate::string_storage::Borrowing;
 use crate::turns::{AnyKey, Reading};
 use crate::value::JsonValue;
 use jiter_scan::errors::{FaultKind, fault_at};
 use jiter_scan::{JsonError, PartialMode};
-use jiter_steps::blank::past_blanks;
 use jiter_steps::parse::Parser;
 use jiter_steps::read_error::ReadError;
+use jiter_steps::whitespace::past_blanks;
 use std::alloc::Global;
 use std::marker::Model;
 
@@ -63,16 +63,21 @@ pub enum Turn<'j> {
     Done(Result<JsonValue<'j>, JsonError>),
 }
 
-// Skips the whitespace before the value. If the input ends there, stores the error and returns `false`.
-fn begin<'j>(reading: &mut Reading<'j>, bytes: &'j [u8]) -> bool
-    requires { IsReadingOn false bytes.now reading.old }
+// Skips the whitespace before the value, once. If the input ends there, stores the error and returns `false`.
+#[inline(always)]
+fn begin<'j>(reading: &mut Reading<'j>, bytes: &'j [u8], begun: bool) -> bool
+    requires { IsReadingOn begun bytes.now reading.old }
     ensures begun { result ≡ true → IsReadingOn true bytes.now reading.new }
     ensures over { result ≡ false → IsOver bytes.now reading.new }
     ensures given_up { result ≡ false → reading.new.state ≡ State.GivenUp }
+    ensures forward { result ≡ true → reading.old.at ≤ reading.new.at }
     ensures stacks { result ≡ true → reading.new.stacks ≡ reading.old.stacks }
     ensures state { result ≡ true → reading.new.state ≡ reading.old.state }
     ensures settings { reading.new.settings ≡ reading.old.settings }
 {
+    if begun {
+        return true;
+    }
     reading.at = past_blanks(bytes, 0);
     if reading.at < bytes.len() {
         return true;
@@ -128,7 +133,7 @@ impl<'j> Machine<'j> {
         ensures names { result.settings.allow_inf_nan ≡ allow_inf_nan }
         ensures mode { result.settings.mode ≡ allow_partial }
         ensures position { result.position ≡ 0 }
-        ensures left { left result ≤ 3 * length bytes.now + 3 }
+        ensures turns_left { turns_left result ≤ 3 * length bytes.now + 3 }
         ensures held { held result ≡ 0 }
     {
         let settings = Settings {
@@ -154,7 +159,7 @@ impl<'j> Machine<'j> {
             begun,
         } = self;
         let mut reading = old;
-        if !begun && !begin(&mut reading, bytes) {
+        if !begin(&mut reading, bytes, begun) {
             return Turn::Done(answer(&mut reading, bytes));
         }
         match reading.go::<Borrowing<'j>, AnyKey, true>(Borrowing { bytes }, &mut AnyKey, bytes) {
@@ -170,23 +175,5 @@ impl<'j> Machine<'j> {
                 })
             }
         }
-    }
-
-    /// Takes all turns that are left, and returns the result.
-    pub(crate) fn finish(self) -> Result<JsonValue<'j>, JsonError>
-        ensures { Parses as_read (MayGrow self.entry.text) self.entry.settings.allow_inf_nan self.entry.settings.mode
-            self.entry.text result }
-    {
-        let Machine {
-            bytes,
-            reading: old,
-            begun,
-        } = self;
-        let mut reading = old;
-        if !begun && !begin(&mut reading, bytes) {
-            return answer(&mut reading, bytes);
-        }
-        let _ = reading.go::<Borrowing<'j>, AnyKey, false>(Borrowing { bytes }, &mut AnyKey, bytes);
-        answer(&mut reading, bytes)
     }
 }

@@ -1,6 +1,6 @@
 //! Parsing into values that own all their strings, keys and number texts.
 ghost use Rattle.std.specs.Prelude.{◌≡◌, ◌<◌, ◌⊎◌, IfOk, length, true};
-ghost use Rattle.jiter_value.specs.Words.{past_blanks, nesting_limit, Moves, Gives, value_at, WhereRefused};
+ghost use Rattle.jiter_value.specs.Words.{past_blanks, nesting_limit, NeverMovesBack, Returns, value_at, WhereRefused};
 ghost use Rattle.jiter_value.specs.Words.{owned_text, owned_tree, ReadHolds, IsOwnedAnswer, OwnedMayGrow};
 ghost use Rattle.jiter_value.specs.Words.{Parses, reading_as, HoldsNothing, IsCleared, each, rules, rules_as};
 ghost use Rattle.jiter_value.specs.Words.{view, BeginsContainer, MayGrowAt, MayGrow};
@@ -8,13 +8,13 @@ ghost use Rattle.jiter_value.specs.Words.{view, BeginsContainer, MayGrowAt, MayG
 use crate::copies::move_value;
 use crate::reading::{error_at, read_text, read_text_as, read_value};
 use crate::settings::Settings;
-use crate::texts::Owning;
+use crate::string_storage::Owning;
 use crate::turns::Reading;
 use crate::value::JsonValue;
 use jiter_scan::{JsonError, PartialMode};
-use jiter_steps::blank::past_blanks;
 use jiter_steps::parse::{Parser, Start, start_of};
 use jiter_steps::read_error::ReadError;
+use jiter_steps::whitespace::past_blanks;
 use std::alloc::Global;
 use std::mem::swap;
 
@@ -88,7 +88,7 @@ fn own_once<'s>(alloc: Global, bytes: &[u8], settings: Settings) -> Result<JsonV
 // A scalar is copied last, so a borrowed one isn't copied if an error follows it.
 fn own_scalar(
     alloc: Global,
-    tape: &mut Vec<u8>,
+    buffer: &mut Vec<u8>,
     bytes: &[u8],
     settings: Settings,
 ) -> Result<JsonValue<'static>, JsonError>
@@ -96,9 +96,9 @@ fn own_scalar(
         settings.allow_inf_nan settings.mode bytes.now result }
 {
     let mut borrowed = Reading::new(alloc, settings);
-    swap(tape, &mut borrowed.tape);
+    swap(buffer, &mut borrowed.buffer);
     let read = read_text(&mut borrowed, bytes);
-    swap(tape, &mut borrowed.tape);
+    swap(buffer, &mut borrowed.buffer);
     own_answer(alloc, read, bytes.len())
 }
 
@@ -109,8 +109,8 @@ fn own_container<'s>(
 ) -> Result<JsonValue<'s>, ReadError>
     requires within { parser.old.index < length parser.old.bytes.now }
     requires container { BeginsContainer parser.old.bytes.now parser.old.index }
-    ensures moves { Moves parser.old parser.new }
-    ensures value { Gives view result parser.new.index
+    ensures moves { NeverMovesBack parser.old parser.new }
+    ensures value { Returns view result parser.new.index
         (value_at (rules_as (each owned_text) settings) parser.old.bytes.now nesting_limit parser.old.index) }
     ensures memory { WhereRefused result (MayGrowAt parser.old.bytes.now parser.old.index) }
 {
@@ -132,7 +132,7 @@ pub(crate) fn read_text_owned(
     if begins_container(bytes, past_blanks(bytes, 0)) {
         return own_text(reading, bytes);
     }
-    own_scalar(reading.alloc, &mut reading.tape, bytes, reading.settings)
+    own_scalar(reading.alloc, &mut reading.buffer, bytes, reading.settings)
 }
 
 /// Returns the same result, with the texts of its value owned. If an allocation fails, the error is at `index`.
@@ -154,8 +154,8 @@ pub fn read_owned(
     settings: Settings,
 ) -> Result<JsonValue<'static>, ReadError>
     requires { parser.old.index < length parser.old.bytes.now }
-    ensures moves { Moves parser.old parser.new }
-    ensures value { Gives view result parser.new.index (reading_as owned_tree
+    ensures moves { NeverMovesBack parser.old parser.new }
+    ensures value { Returns view result parser.new.index (reading_as owned_tree
         (value_at (rules settings) parser.old.bytes.now nesting_limit parser.old.index)) }
     ensures memory { WhereRefused result (MayGrowAt parser.old.bytes.now parser.old.index
         ⊎ ReadHolds (value_at (rules settings) parser.old.bytes.now nesting_limit parser.old.index)) }

@@ -1,12 +1,12 @@
 //! Reading a complete document, or the value at a reader's position.
 ghost use Rattle.std.specs.Prelude.{◌≡◌, ◌≤◌, ◌<◌, IfOk, length, false};
-ghost use Rattle.jiter_value.specs.Words.{past_blanks, nesting_limit, Moves, Gives, done, value_at};
+ghost use Rattle.jiter_value.specs.Words.{past_blanks, nesting_limit, NeverMovesBack, Returns, done, value_at};
 ghost use Rattle.jiter_value.specs.Words.{WhereRefused, tree_as, Parses, as_read, GivesWhole, IsErrorOf};
 ghost use Rattle.jiter_value.specs.Words.{HoldsNothing, IsCleared, answer_as, rules, rules_as, view};
 ghost use Rattle.jiter_value.specs.Words.{MayGrowAt, MayGrowBy, MayGrow};
 
 use crate::settings::Settings;
-use crate::texts::{Borrowing, StringStorage};
+use crate::string_storage::{Borrowing, StringStorage};
 use crate::turns::Reading;
 use crate::value::JsonValue;
 use jiter_scan::{JsonError, JsonErrorType, PartialMode};
@@ -15,8 +15,7 @@ use jiter_steps::read_error::ReadError;
 use jiter_steps::step::value_first;
 use std::alloc::Global;
 
-/// Converts an error to the one that a public call returns. A failed allocation is reported at `index`, any other error
-/// at its own index.
+/// Converts an error to the one that a public call returns. A failed allocation gets `index`; other errors have one.
 #[cold]
 pub fn error_at(error: ReadError, index: usize) -> JsonError
     ensures { IsErrorOf error index result }
@@ -38,11 +37,11 @@ pub(crate) fn finish_whole<'s, T: StringStorage<'s>>(
     value: JsonValue<'s>,
 ) -> Result<JsonValue<'s>, ReadError>
     requires begins { past_blanks parser.old.bytes.now 0 < length parser.old.bytes.now }
-    requires value { value_at (rules_as T.made settings) parser.old.bytes.now nesting_limit
+    requires value { value_at (rules_as T.policy settings) parser.old.bytes.now nesting_limit
         (past_blanks parser.old.bytes.now 0) ≡ done (view value) parser.old.index }
-    ensures moves { Moves parser.old parser.new }
+    ensures moves { NeverMovesBack parser.old parser.new }
     ensures value { GivesWhole result parser.new.index
-        (answer_as T.made settings parser.old.bytes.now) }
+        (answer_as T.policy settings parser.old.bytes.now) }
     ensures same { IfOk result (λ v. v ≡ value.entry) }
     ensures memory { WhereRefused result ⊥ }
 {
@@ -61,8 +60,8 @@ pub fn read_value<'j>(
     settings: Settings,
 ) -> Result<JsonValue<'j>, ReadError>
     requires { parser.old.index < length parser.old.bytes.now }
-    ensures moves { Moves parser.old parser.new }
-    ensures value { Gives view result parser.new.index
+    ensures moves { NeverMovesBack parser.old parser.new }
+    ensures value { Returns view result parser.new.index
         (value_at (rules settings) parser.old.bytes.now nesting_limit parser.old.index) }
     ensures memory { WhereRefused result (MayGrowAt parser.old.bytes.now parser.old.index) }
 {
@@ -73,20 +72,20 @@ pub fn read_value<'j>(
     reading.run(texts, parser)
 }
 
-/// Reads a document from index 0, with the buffers and settings of this reading. With partial reading off, only
-/// whitespace may follow the value.
+/// Reads a document from index 0, with this reading's buffers and settings: with partial reading off, to its end.
+#[inline(always)]
 fn read_whole<'s, T: StringStorage<'s>>(
     reading: &mut Reading<'s>,
     texts: T,
     parser: &mut Parser<'_>,
 ) -> Result<JsonValue<'s>, ReadError>
     requires texts { T.of texts parser.old.bytes.now }
-    requires repeats { T.made.unique ≡ false }
+    requires repeats { T.policy.unique ≡ false }
     requires begins { parser.old.index ≡ 0 }
     requires empty { HoldsNothing reading.old.stacks }
-    ensures moves { Moves parser.old parser.new }
+    ensures moves { NeverMovesBack parser.old parser.new }
     ensures value { GivesWhole result parser.new.index
-        (answer_as T.made reading.old.settings parser.old.bytes.now) }
+        (answer_as T.policy reading.old.settings parser.old.bytes.now) }
     ensures memory { WhereRefused result
         (MayGrowBy T.wants parser.old.bytes.now (past_blanks parser.old.bytes.now 0)) }
     ensures place { WhereRefused result (past_blanks parser.old.bytes.now 0 ≤ parser.new.index) }
@@ -97,16 +96,17 @@ fn read_whole<'s, T: StringStorage<'s>>(
     finish_whole::<T>(parser, reading.settings, value)
 }
 
-/// Parses a document with the buffers and settings of this reading. `texts` decides what becomes of each text.
+/// Parses a document with the buffers and settings of this reading. `texts` decides how each text is stored.
+#[inline(always)]
 pub(crate) fn read_text_as<'s, T: StringStorage<'s>>(
     reading: &mut Reading<'s>,
     texts: T,
     bytes: &[u8],
 ) -> Result<JsonValue<'s>, JsonError>
     requires texts { T.of texts bytes.now }
-    requires repeats { T.made.unique ≡ false }
+    requires repeats { T.policy.unique ≡ false }
     requires empty { HoldsNothing reading.old.stacks }
-    ensures parses { Parses (tree_as T.made.text) (MayGrowBy T.wants bytes.now (past_blanks bytes.now 0))
+    ensures parses { Parses (tree_as T.policy.text) (MayGrowBy T.wants bytes.now (past_blanks bytes.now 0))
         reading.old.settings.allow_inf_nan reading.old.settings.mode bytes.now result }
     ensures cleared { IfOk result (λ v. IsCleared reading.new.stacks) }
 {
@@ -118,6 +118,7 @@ pub(crate) fn read_text_as<'s, T: StringStorage<'s>>(
 }
 
 /// Parses a document with the buffers and settings of this reading. Strings without a backslash are borrowed.
+#[inline(always)]
 pub(crate) fn read_text<'j>(
     reading: &mut Reading<'j>,
     bytes: &'j [u8],

@@ -14,8 +14,7 @@ pub struct Settings {
     pub mode: PartialMode,
 }
 
-/// Returns whether an error inside a container is forgiven. The rest is then read as if the container had been closed
-/// there.
+/// Returns whether an error inside a container is forgiven. Reading then goes on as if the container had closed there.
 pub fn forgives(mode: PartialMode, kind: FaultKind) -> bool
     ensures { result ≡ forgives mode (fault_kind kind) }
 {

@@ -2,7 +2,7 @@
 ghost use Rattle.std.specs.Prelude.{◌≡◌, ℕ, ℤ, List, ◌+◌, ◌≤◌, ◌<◌, ◌∷◌, ◌++◌, [], IfOk, IsTrue, OnOk, length};
 ghost use Rattle.std.specs.Prelude.{take, drop, false, map, true, vec_len};
 ghost use Rattle.jiter_value.specs.Words.{Global, CowStrView, done, object, members_of, view, size};
-ghost use Rattle.jiter_value.specs.Words.{value_size, inside_size, after_size, Keeping, HoldsNothing};
+ghost use Rattle.jiter_value.specs.Words.{value_size, inside_size, after_size, TextPolicy, HoldsNothing};
 ghost use Rattle.jiter_value.specs.Words.{IsCleared, Member, member_view, resume_with, after, container_ends};
 ghost use Rattle.jiter_value.specs.Words.{Stands, StandsInside, HasRoom, HasRoomIn, HoldsSame, LeavesKeys};
 ghost use Rattle.jiter_value.specs.Words.{without_root, SettingsView, JsonValueView};
@@ -31,8 +31,7 @@ pub enum Slot {
     Member,
 }
 
-/// What is expected at the reader's position: a value for a slot, a key, or nothing more. No variant has a field, so a
-/// state is passed in a register.
+/// What is expected at the reader's position: a value, a key, or nothing. It has no fields, so it fits in a register.
 #[derive(Clone, Copy, Debug, Default)]
 pub enum State {
     /// The value of the document.
@@ -52,7 +51,7 @@ pub enum State {
 
 /// An open container: the slot of its value, and its base in its stack.
 #[derive(Clone, Copy, Debug, Default)]
-pub struct Open {
+pub struct OpenContainer {
     /// Where its value goes once it is closed.
     pub outer: Slot,
     /// How many items or members of outer containers are below its own.
@@ -68,13 +67,12 @@ pub struct Stacks<'j> {
     /// The members of all open objects.
     pub members: Vec<(CowStr<'j>, JsonValue<'j>)>,
     /// The open containers, the innermost last.
-    pub nest: SmallVec<Open, 8>,
+    pub nest: SmallVec<OpenContainer, 8>,
     /// The value of the document, once it is complete.
     pub root: JsonValue<'j>,
     /// The error that stopped the reading, once one did.
     pub error: ReadError,
-    /// Whether the stacks are reused for further documents. Then the root's parts are split off too, so the stacks keep
-    /// their capacity.
+    /// Whether the stacks are reused for further documents. The root's parts are then split off, to keep the capacity.
     pub reused: bool,
 }
 
@@ -116,7 +114,7 @@ fn set_last<'j>(members: &mut Vec<(CowStr<'j>, JsonValue<'j>)>, value: JsonValue
 fn take_parts<T: Drop>(
     alloc: Global,
     parts: &mut Vec<T>,
-    container: Open,
+    container: OpenContainer,
     reused: bool,
 ) -> Result<Vec<T>, AllocFailed>
     requires { container.base ≤ vec_len parts.old }
@@ -157,8 +155,8 @@ pub fn reserve_part(stacks: &mut Stacks<'_>, shape: ContainerKind) -> Result<(),
 pub fn put_reserved<'j>(stacks: &mut Stacks<'j>, slot: Slot, value: JsonValue<'j>)
     requires stands { Stands stacks.old slot }
     requires room { HasRoom stacks.old slot }
-    ensures value { (made : Keeping) → (p : SettingsView) → (t : List ℕ) → (e : ℕ)
-        → resume_with made p t stacks.old slot (done (view value.entry) e) ≡ after made p t stacks.new slot e }
+    ensures value { (policy : TextPolicy) → (p : SettingsView) → (t : List ℕ) → (e : ℕ)
+        → resume_with policy p t stacks.old slot (done (view value.entry) e) ≡ after policy p t stacks.new slot e }
     ensures stands { Stands stacks.new slot }
     ensures nest { stacks.new.nest ≡ stacks.old.nest }
     ensures held { after_size stacks.new slot
@@ -176,8 +174,8 @@ pub fn put_reserved<'j>(stacks: &mut Stacks<'j>, slot: Slot, value: JsonValue<'j
 #[inline(always)]
 pub fn put<'j>(stacks: &mut Stacks<'j>, slot: Slot, value: JsonValue<'j>) -> Result<(), AllocFailed>
     requires { Stands stacks.old slot }
-    ensures value { OnOk result ((made : Keeping) → (p : SettingsView) → (t : List ℕ) → (e : ℕ)
-        → resume_with made p t stacks.old slot (done (view value.entry) e) ≡ after made p t stacks.new slot e) }
+    ensures value { OnOk result ((policy : TextPolicy) → (p : SettingsView) → (t : List ℕ) → (e : ℕ)
+        → resume_with policy p t stacks.old slot (done (view value.entry) e) ≡ after policy p t stacks.new slot e) }
     ensures stands { OnOk result (Stands stacks.new slot) }
     ensures nest { stacks.new.nest ≡ stacks.old.nest }
     ensures held { OnOk result (after_size stacks.new slot
@@ -209,8 +207,8 @@ pub fn close<'j>(
     shape: ContainerKind,
 ) -> Result<Slot, AllocFailed>
     requires { StandsInside shape stacks.old }
-    ensures value { IfOk result (λ a. (made : Keeping) → (p : SettingsView) → (t : List ℕ) → (e : ℕ)
-        → container_ends made p t shape stacks.old e ≡ after made p t stacks.new a e) }
+    ensures value { IfOk result (λ a. (policy : TextPolicy) → (p : SettingsView) → (t : List ℕ) → (e : ℕ)
+        → container_ends policy p t shape stacks.old e ≡ after policy p t stacks.new a e) }
     ensures stands { IfOk result (λ a. Stands stacks.new a) }
     ensures nest { length stacks.new.nest.items + 1 ≡ length stacks.old.nest.items }
     ensures held { IfOk result (λ a. after_size stacks.new a ≡ inside_size shape stacks.old) }
@@ -280,10 +278,14 @@ pub fn take_root<'j>(stacks: &mut Stacks<'j>) -> JsonValue<'j>
     mem::replace(&mut stacks.root, JsonValue::Null)
 }
 
-/// Drops the value of the document, if there is one.
+/// Drops the value of the document, if there is one. Between turns there is none, and a test costs less than a drop.
+#[inline(always)]
 pub fn drop_root<'j>(stacks: &mut Stacks<'j>)
     ensures { stacks.new ≡ without_root stacks.old }
 {
+    if let JsonValue::Null = stacks.root {
+        return;
+    }
     stacks.root = JsonValue::Null;
 }
 

@@ -3,23 +3,23 @@
 ghost use Rattle.std.specs.Prelude.{◌≡◌, ◌⊎◌, ◌+◌, ◌≤◌, ◌<◌, ◌++◌, ◌∷◌, ℕ, [], Bool, List, IfOk, OnOk, length, not, true};
 ghost use Rattle.std.specs.Prelude.{false};
 ghost use Rattle.jiter_steps.specs.Node.{nesting_limit};
-ghost use Rattle.jiter_steps.specs.Parse.{Moves, Gives};
+ghost use Rattle.jiter_steps.specs.Parse.{NeverMovesBack, Returns};
 ghost use Rattle.jiter_steps.specs.Read.{value_at};
 ghost use Rattle.jiter_steps.specs.ReadError.{WhereRefused};
 ghost use Rattle.jiter_steps.specs.StringDecoder.{text_view};
 ghost use Rattle.jiter_value.specs.Scratch.{HoldsNothing, IsCleared};
-ghost use Rattle.jiter_value.specs.Settings.{Keeping, rules_as};
+ghost use Rattle.jiter_value.specs.Settings.{TextPolicy, rules_as};
 ghost use Rattle.jiter_value.specs.Size.{value_size};
 ghost use Rattle.jiter_value.specs.Stacks.{slot_of, from_value, StandsAtKey, IsFree};
 ghost use Rattle.jiter_value.specs.Stacks.{HaveKeys, LeavesKeys, keys_of};
 ghost use Rattle.jiter_value.specs.Turns.{GoesOn, HasGone, HasTurned, IsAtValue, Turned, IsKeyRead, Proceeds};
-ghost use Rattle.jiter_value.specs.Turns.{MayGrowFor, left, outcome};
+ghost use Rattle.jiter_value.specs.Turns.{MayGrowFor, work_left, outcome};
 ghost use Rattle.jiter_value.specs.Value.{view, MayGrowBy};
 ghost use Rattle.jiter_value.specs.declared.stacks.Stacks.{Stacks as StacksView};
 
 use crate::settings::Settings;
 use crate::stacks::{Slot, Stacks, State, no_error, take_error, take_root};
-use crate::texts::StringStorage;
+use crate::string_storage::StringStorage;
 use crate::turns::key_turns::key_turn;
 use crate::turns::scalars::turn_into;
 use crate::value::JsonValue;
@@ -35,7 +35,7 @@ pub(crate) mod key_turns;
 pub(crate) mod scalars;
 pub(crate) mod unique;
 
-// One turn at a value.
+// One turn at a value. `ONCE` and the number of the slot make three copies of the code for one turn and three for all.
 #[inline(always)]
 fn value_turn<'s, T: StringStorage<'s>, const ONCE: bool>(
     reading: &mut Reading<'s>,
@@ -46,7 +46,7 @@ fn value_turn<'s, T: StringStorage<'s>, const ONCE: bool>(
 ) -> (usize, State)
     requires texts { T.of texts bytes.now }
     requires at_value { IsAtValue bytes.now reading.old.stacks slot at }
-    ensures { Turned T.made T.wants bytes.now at slot reading.old reading.new result }
+    ensures { Turned T.policy T.wants bytes.now at slot reading.old reading.new result }
 {
     match slot {
         Slot::Item => turn_into::<T, ONCE, 0>(reading, texts, bytes, at, Slot::Item),
@@ -67,9 +67,9 @@ fn slot_of(state: State) -> Slot
 }
 
 /// Decides after each key whether the reading may go on with it.
-pub trait Keys<'s> {
-    // It serves readings with this `Keeping`.
-    ghost serves: { Self → Keeping → Type 0 };
+pub trait KeyPolicy<'s> {
+    // It serves readings with this `TextPolicy`.
+    ghost serves: { Self → TextPolicy → Type 0 };
 
     // It knows these keys of the members on the stack.
     ghost knows: { Self → List (List ℕ) → Type 0 };
@@ -90,18 +90,18 @@ pub trait Keys<'s> {
         end: usize,
         key: &CowStr<'s>,
     ) -> bool
-        requires read { (made : Keeping) × (after : ℕ) × serves self.old made
-            × IsKeyRead made bytes.now at end after (text_view key.now) }
+        requires read { (policy : TextPolicy) × (after : ℕ) × serves self.old policy
+            × IsKeyRead policy bytes.now at end after (text_view key.now) }
         requires going { stopped self.old ≡ false }
         requires stands { StandsAtKey stacks.now }
         requires known { (ks : List (List ℕ)) × knows self.old ks × HaveKeys ks stacks.now.members.items }
-        ensures free { (made : Keeping) → serves self.old made → result ≡ true
-            → IsFree made bytes.now stacks.now at }
+        ensures free { (policy : TextPolicy) → serves self.old policy → result ≡ true
+            → IsFree policy bytes.now stacks.now at }
         ensures known { result ≡ true
             → knows self.new (keys_of stacks.now.members.items ++ (text_view key.now).bytes ∷ []) }
         ensures refused { result ≡ false → refuses self.new bytes.now stacks.now at }
         ensures stopped { stopped self.new ≡ not result }
-        ensures serves { (made : Keeping) → serves self.old made → serves self.new made };
+        ensures serves { (policy : TextPolicy) → serves self.old policy → serves self.new policy };
 
     /// Returns whether it didn't allow a key.
     fn has_stopped(&self) -> bool
@@ -112,8 +112,8 @@ pub trait Keys<'s> {
 #[derive(Clone, Copy, Debug)]
 pub struct AnyKey;
 
-impl<'s> Keys<'s> for AnyKey {
-    ghost serves = { λ k made. made.unique ≡ false };
+impl<'s> KeyPolicy<'s> for AnyKey {
+    ghost serves = { λ k policy. policy.unique ≡ false };
 
     ghost knows = { λ k ks. Unit {0} };
 
@@ -154,7 +154,7 @@ pub struct Reading<'s> {
     /// The position: a byte index, from 0.
     pub at: usize,
     /// The buffer of decoded strings.
-    pub tape: Vec<u8>,
+    pub buffer: Vec<u8>,
     /// The values and open containers so far.
     pub stacks: Stacks<'s>,
 }
@@ -172,7 +172,7 @@ impl<'s> Reading<'s> {
             settings,
             state: State::Root,
             at: 0,
-            tape: Vec::new(alloc),
+            buffer: Vec::new(alloc),
             stacks: Stacks {
                 items: Vec::new(alloc),
                 members: Vec::new(alloc),
@@ -186,20 +186,20 @@ impl<'s> Reading<'s> {
 
     /// Takes one turn if `ONCE`, otherwise all turns. Stops before a key that `keys` doesn't allow.
     #[inline(never)]
-    pub fn go<T: StringStorage<'s>, K: Keys<'s>, const ONCE: bool>(
+    pub fn go<T: StringStorage<'s>, K: KeyPolicy<'s>, const ONCE: bool>(
         &mut self,
         texts: T,
         keys: &mut K,
         bytes: &[u8],
     ) -> State
         requires texts { T.of texts bytes.now }
-        requires serves { K.serves keys.old T.made }
+        requires serves { K.serves keys.old T.policy }
         requires going { K.stopped keys.old ≡ false }
-        requires begun { (i : ℕ) × HasGone T.made T.wants bytes.now i self.old }
+        requires begun { (i : ℕ) × HasGone T.policy T.wants bytes.now i self.old }
         requires goes_on { GoesOn self.old.state }
         requires known { (ks : List (List ℕ)) × K.knows keys.old ks × HaveKeys ks self.old.stacks.members.items }
-        ensures gone { (i : ℕ) → HasGone T.made T.wants bytes.now i self.old
-            → HasGone T.made T.wants bytes.now i self.new }
+        ensures gone { (i : ℕ) → HasGone T.policy T.wants bytes.now i self.old
+            → HasGone T.policy T.wants bytes.now i self.new }
         ensures turned { ONCE ≡ true
             → K.refuses keys.new bytes.now self.new.stacks self.new.at ⊎ HasTurned bytes.now self.old self.new }
         ensures ended { ONCE ≡ false → GoesOn self.new.state
@@ -233,19 +233,19 @@ impl<'s> Reading<'s> {
         state
     }
 
-    /// Reads the value at the reader's position. `texts` decides what becomes of its texts; duplicate keys are kept.
+    /// Reads the value at the reader's position. `texts` decides how its texts are stored; duplicate keys are kept.
     pub fn run<T: StringStorage<'s>>(
         &mut self,
         texts: T,
         parser: &mut Parser<'_>,
     ) -> Result<JsonValue<'s>, ReadError>
         requires texts { T.of texts parser.old.bytes.now }
-        requires repeats { T.made.unique ≡ false }
+        requires repeats { T.policy.unique ≡ false }
         requires within { parser.old.index < length parser.old.bytes.now }
         requires holds { HoldsNothing self.old.stacks }
-        ensures moves { Moves parser.old parser.new }
-        ensures value { Gives view result parser.new.index
-            (value_at (rules_as T.made self.old.settings) parser.old.bytes.now nesting_limit
+        ensures moves { NeverMovesBack parser.old parser.new }
+        ensures value { Returns view result parser.new.index
+            (value_at (rules_as T.policy self.old.settings) parser.old.bytes.now nesting_limit
             parser.old.index) }
         ensures memory { WhereRefused result
             (MayGrowBy T.wants parser.old.bytes.now parser.old.index) }

@@ -149,7 +149,7 @@ impl UniqueError {
         Ok(self.describe(alloc, bytes)?)
     }
 
-    // Only a failed allocation makes an `AllocFailed`, but anyone can make an `AllocError`.
+    // Fails only if an allocation failed: only that makes an `AllocFailed`, but anyone can make an `AllocError`.
     fn describe(&self, alloc: Global, bytes: &[u8]) -> Result<String, AllocFailed>
         ensures { IfOk result (λ text. string_bytes text
             ≡ description_text (unique_kind self.now.error_type) self.now.index bytes.now) }

@@ -3,7 +3,9 @@ ghost use Rattle.std.specs.Prelude.{◌≡◌, IfOk, MatchResult, Some, Bool, �
 ghost use Rattle.jiter_value.specs.Words.{is_active, answer, answer_in, cut, IsBegunContainer, Node};
 ghost use Rattle.jiter_value.specs.Words.{IsDocument, value_of, Parses, as_read, view, Answers, MayGrow};
 
-use crate::machine::Machine;
+use crate::reading::read_text;
+use crate::settings::Settings;
+use crate::turns::Reading;
 use jiter_scan::{JsonError, JsonErrorType, PartialMode};
 use std::alloc::Global;
 use std::borrow::CowStr;
@@ -193,7 +195,12 @@ impl<'j> JsonValue<'j> {
         ensures parses { Parses as_read (MayGrow bytes.now) allow_inf_nan allow_partial bytes.now
             result }
     {
-        Machine::new(alloc, bytes, allow_inf_nan, allow_partial).finish()
+        let settings = Settings {
+            allow_inf_nan,
+            mode: allow_partial,
+        };
+        let mut reading = Reading::new(alloc, settings);
+        read_text(&mut reading, bytes)
     }
 }
 

@@ -6,8 +6,8 @@ use Rattle.std.specs.declared.alloc.Global.{Global}
 use Rattle.std.specs.declared.borrow.CowStr.{CowStr}
 use Rattle.std.specs.Prelude.{IfSome, Option, Some, None, option_map, slice_get, slice_index}
 use Rattle.jiter_scan.specs.Scanned.{Scanned, failed, taken}
-use Rattle.jiter_scan.specs.Word.{Extent}
-use Rattle.jiter_scan.specs.NumberReading.{extent_then}
+use Rattle.jiter_scan.specs.Word.{Span}
+use Rattle.jiter_scan.specs.NumberReading.{span_then}
 use Rattle.jiter_steps.specs.Answer.{only_ends, seen_as}
 use Rattle.jiter_steps.specs.Blank.{past_blanks}
 use Rattle.jiter_steps.specs.Literal.{start_of}
@@ -78,7 +78,7 @@ module _ {C S : Type 0} (after : List ℕ → List ℕ → ℕ → Node → S �
 
   key-told : (j p : ℕ) (k : Option (List ℕ × ℕ)) → told j ≡ gave k p → KeyTold j p k
   key-told j p k h = by (string_at whole t j) refl h where
-    by-colon : (x : Text) (e : ℕ) → string_at whole t j ≡ taken x e → (c : Extent) → step t colon e ≡ c
+    by-colon : (x : Text) (e : ℕ) → string_at whole t j ≡ taken x e → (c : Span) → step t colon e ≡ c
         → indexed j (colon_reply x c) ≡ gave k p → KeyTold j p k
     by-colon x e text (taken u m) there h =
         let both = gave-is (Some (x.bytes, j)) k m p h in
@@ -99,7 +99,7 @@ module _ {C S : Type 0} (after : List ℕ → List ℕ → ℕ → Node → S �
       let key = key-told j p (Some k) h in
       member-value (only_ends s0.names) t inner j key.end (past_blanks t p) tt (done tt e)
       (ap (seen_as (λ s i. tt)) (raw-whole t j key.end key.text key.string))
-      (ap (λ x. extent_then x (step t value_first)) key.colon
+      (ap (λ x. span_then x (step t value_first)) key.colon
       ∙ ap (value_first (past_blanks t p)) (slice_get-get_or t (past_blanks t p) 0 inside)) is
 
   abbrev pub members : Form s0 (Key × Node) (List ℕ × ℕ) (Unit {0} × Unit {0}) C S
@@ -151,7 +151,7 @@ module _ {C S : Type 0} (after : List ℕ → List ℕ → ℕ → Node → S �
     by (gave None i) h = absurd (none-some _ (gave-is None (Some k.0) i p h).0)
     by (refused c x stop) h = absurd (gave-refused (sym h))
   step-gave (more j) None p h at = by (string_at whole t j) h where
-    by-colon : (x : Text) (c : Extent) → reply_seen key_bytes (colon_reply x c) ≡ gave None p
+    by-colon : (x : Text) (c : Span) → reply_seen key_bytes (colon_reply x c) ≡ gave None p
         → indexed j (colon_reply x c) ≡ gave None p
     by-colon x (taken u m) h = absurd (none-some _ (sym (gave-is (Some x.bytes) None m p h).0))
     by-colon x (failed c m) h = absurd (gave-refused (sym h))

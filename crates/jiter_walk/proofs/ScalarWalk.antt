@@ -5,7 +5,7 @@ use Rattle.std.specs.Prelude.{Result, Ok, Err, IsErrAnd, Option, Some, None, sli
 use Rattle.jiter_scan.specs.Number.{Number}
 use Rattle.jiter_scan.specs.NumberReading.{Integer, float_seen, int_at, int_seen, number_at}
 use Rattle.jiter_scan.specs.Scanned.{Scanned, failed, taken}
-use Rattle.jiter_scan.specs.Word.{Extent}
+use Rattle.jiter_scan.specs.Word.{Span}
 use Rattle.jiter_steps.specs.Answer.{only_ends, read_at, seen_as, skip_at}
 use Rattle.jiter_steps.specs.Literal.{literal_at, start_of}
 use Rattle.jiter_steps.specs.Node.{nesting_limit}
@@ -105,10 +105,10 @@ module _ (s0 : ReaderState) where
         ap (skipped (value_place s0)) (ap start_of (get_or_from_slice_get t (value_place s0) c 0 there))
         ∙ law (value_place s0) (slice_get_within t (value_place s0) c there) (start_of c) a e h
 
-  extent-skips : {A : Type 0} (i : ℕ) (f : Unit {0} → ℕ → A) (x : Extent) (a : A) (e : ℕ)
+  span-skips : {A : Type 0} (i : ℕ) (f : Unit {0} → ℕ → A) (x : Span) (a : A) (e : ℕ)
       → scalar_reply i (seen_as f x) ≡ gave a e → scalar_at i x ≡ done (tt {0}) e
-  extent-skips i f (taken u m) a e h = ap (λ j. done tt j) (gave-is (f u m) a m e h).1
-  extent-skips i f (failed k j) a e h = absurd (gave-refused (sym h))
+  span-skips i f (taken u m) a e h = ap (λ j. done tt j) (gave-is (f u m) a m e h).1
+  span-skips i f (failed k j) a e h = absurd (gave-refused (sym h))
 
   seen-skips : {A B : Type 0} (i : ℕ) (f : B → ℕ → A) (x : Scanned B) (a : A) (e : ℕ)
       → scalar_reply i (seen_as f x) ≡ gave a e → scalar_at i (seen_as (λ s j. tt {0}) x) ≡ done (tt {0}) e
@@ -121,13 +121,13 @@ module _ (s0 : ReaderState) where
   plain-skips i (failed k j) a e h = absurd (gave-refused (sym h))
 
   bool-skips : (i : ℕ) → i < length t → (b : Start) (a : Bool) (e : ℕ) → bool_read s0 i b ≡ gave a e → skipped i b ≡ done (tt {0}) e
-  bool-skips i lt (start.Literal literal.True) a e h = extent-skips i (λ u j. true) (literal_at t literal.True i) a e h
-  bool-skips i lt (start.Literal literal.False) a e h = extent-skips i (λ u j. false) (literal_at t literal.False i) a e h
+  bool-skips i lt (start.Literal literal.True) a e h = span-skips i (λ u j. true) (literal_at t literal.True i) a e h
+  bool-skips i lt (start.Literal literal.False) a e h = span-skips i (λ u j. false) (literal_at t literal.False i) a e h
   bool-skips i lt b a e h = absurd (gave-refused (sym h))
 
   null-skips : (i : ℕ) → i < length t → (b : Start) (a : Unit {0}) (e : ℕ) → null_read s0 i b ≡ gave a e → skipped i b ≡ done (tt {0}) e
   null-skips i lt (start.Literal literal.Null) a e h = by (literal_at t literal.Null i) h where
-    by : (x : Extent) → scalar_reply i x ≡ gave a e → scalar_at i x ≡ done (tt {0}) e
+    by : (x : Span) → scalar_reply i x ≡ gave a e → scalar_at i x ≡ done (tt {0}) e
     by (taken u m) h = ap (λ j. done tt j) (gave-is u a m e h).1
     by (failed k j) h = absurd (gave-refused (sym h))
   null-skips i lt b a e h = absurd (gave-refused (sym h))

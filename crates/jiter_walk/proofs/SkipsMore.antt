@@ -2,7 +2,7 @@
 use Rattle.std.proofs.Common.{◌≡◌, ◌∙◌, ℕ, zero, suc, ◌+◌, ◌<◌, ◌≤◌, Bool, List, [], ◌∷◌, ◌++◌, length, refl, sym, subst, arith}
 use Rattle.std.specs.Prelude.{Option, slice_index}
 use Rattle.jiter_scan.specs.Scanned.{Scanned, taken, failed}
-use Rattle.jiter_scan.specs.Word.{Extent}
+use Rattle.jiter_scan.specs.Word.{Span}
 use Rattle.jiter_steps.specs.Answer.{only_ends}
 use Rattle.jiter_steps.specs.Literal.{start_of}
 use Rattle.jiter_steps.specs.Read.{Container, Reading, Rules, after_colon, after_key, after_part, container_at}
@@ -73,7 +73,7 @@ module _ (names : Bool) (t : List ℕ) where
         subst (λ z. Keeps (with_key k (done a e)) (with_key k z)) (sym is) (keeps-same (with_key k (done a e)))
     key-keeps k (fault c i stop) y is = tt
 
-    colon-keeps : (k : Unit {0}) (x : Extent) → Keeps (after_colon k f x) (after_colon k g x)
+    colon-keeps : (k : Unit {0}) (x : Span) → Keeps (after_colon k f x) (after_colon k g x)
     colon-keeps k (taken u j) = key-keeps k (f j) (g j) (all j)
     colon-keeps k (failed c j) = tt
 

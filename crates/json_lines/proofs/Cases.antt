@@ -43,7 +43,7 @@ rest-is n bs = let long = length-drop n bs in take_all (length bs - n) (drop n b
 pub some-is : (a b : List ℕ) → ◌≡◌ {A = Option (List ℕ)} (Some a) (Some b) → a ≡ b
 some-is a b e = cc
 
--- what is no blank piece has an item
+-- what is not whitespace piece has an item
 item-shape : (j : ℕ) (l cause : List ℕ) (end : ℕ) → (l ≡ [] → ⊥) → item_or j l cause end ≡ item j (trim_end l)
 item-shape j [] cause end some = absurd (some refl)
 item-shape j (b ∷ l) cause end some = refl

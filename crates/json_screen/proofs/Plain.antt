@@ -130,9 +130,9 @@ pub plain-rows : (options : Options) (width : ℕ) (t : List ℕ) → IsPlain (r
 plain-rows options width t =
     let p = parts_of t in
     let before = put_bytes width (empty_row width) p.before in
-    let value = put_reading width p.extent.depth before p.inside (answer_in options.inf_nan options.mode p.inside) in
+    let value = put_reading width p.span.depth before p.inside (answer_in options.inf_nan options.mode p.inside) in
     let all = put_bytes width value p.after in
     let plain = plain-bytes width value p.after
-    (plain-reading width p.extent.depth before p.inside (answer_in options.inf_nan options.mode p.inside)
+    (plain-reading width p.span.depth before p.inside (answer_in options.inf_nan options.mode p.inside)
     (plain-bytes width (empty_row width) p.before tt)) in
     either (nat_lt all.left width) (new_row width all) all (plain-row width all plain) plain

@@ -114,7 +114,7 @@ abbrev pub put_parts : Options → ℕ → Parts → Filled
 put_parts options width p =
     let value = answer_in options.inf_nan options.mode p.inside in
     let before = put_bytes width (empty_row width) p.before in
-    put_bytes width (put_reading width p.extent.depth before p.inside value) p.after
+    put_bytes width (put_reading width p.span.depth before p.inside value) p.after
 
 -- the rows of an input so far
 abbrev pub rows_of : Options → ℕ → List ℕ → Filled

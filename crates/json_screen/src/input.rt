@@ -34,25 +34,25 @@ pub enum Place {
 
 /// The place of the next byte, and how many containers are open there.
 #[derive(Debug, Clone, Copy, PartialEq, Eq)]
-pub struct Extent {
+pub struct Span {
     /// Where the next byte is.
     pub place: Place,
     /// The number of open containers.
     pub depth: usize,
 }
 
-fn at(place: Place, depth: usize) -> Extent
+fn at(place: Place, depth: usize) -> Span
     ensures { result ≡ at place depth }
 {
-    Extent { place, depth }
+    Span { place, depth }
 }
 
-impl Extent {
+impl Span {
     /// Returns the place after one more byte.
     ///
     /// The document begins at the first `[` or `{`, and ends at the `]` or `}` after which none is open. Brackets in
     /// strings don't count.
-    pub fn step(self, byte: u8) -> Extent
+    pub fn step(self, byte: u8) -> Span
         ensures { result ≡ step self byte }
     {
         let depth = self.depth;
@@ -76,7 +76,7 @@ impl Extent {
 #[derive(Drop)]
 pub struct Input {
     /// The place of the next byte.
-    pub extent: Extent,
+    pub span: Span,
     /// The bytes before the document.
     pub before: Vec<u8>,
     /// The bytes of the document.
@@ -93,7 +93,7 @@ impl Input {
         ensures { HasArrived options result [] }
     {
         Input {
-            extent: at(Place::Before, 0),
+            span: at(Place::Before, 0),
             before: Vec::new(alloc),
             inside: Vec::new(alloc),
             after: Vec::new(alloc),
@@ -129,9 +129,9 @@ impl Input {
         ensures grows { OnOk result (Grows self.old.inside.items self.new.inside.items) }
         ensures document { self.new.document ≡ self.old.document }
     {
-        let old = self.extent.place;
-        self.extent = self.extent.step(byte);
-        match (old, self.extent.place) {
+        let old = self.span.place;
+        self.span = self.span.step(byte);
+        match (old, self.span.place) {
             (Place::Before, Place::Before) => self.before.push(byte)?,
             (Place::After, _) => self.after.push(byte)?,
             _ => self.inside.push(byte)?,

@@ -36,7 +36,7 @@ pub fn rows_of(alloc: Global, width: usize, input: &Input) -> Result<Shown, Allo
 
 fn append_document(alloc: Global, input: &Input, rows: &mut Rows) -> Result<(), AllocError>
     ensures rows { (options : Options) → (t : List ℕ) → ReadsAs options input.now.document t → t ≡ input.now.inside.items
-        → OnOk result (filled rows.new ≡ put_reading rows.old.width input.now.extent.depth (filled rows.old) t
+        → OnOk result (filled rows.new ≡ put_reading rows.old.width input.now.span.depth (filled rows.old) t
         (answer_in options.inf_nan options.mode t)) }
     ensures width { rows.new.width ≡ rows.old.width }
 {
@@ -44,8 +44,8 @@ fn append_document(alloc: Global, input: &Input, rows: &mut Rows) -> Result<(), 
         return rows.append(alloc, input.inside.as_slice());
     };
     let text = print_pretty(alloc, value, 2)?;
-    if input.extent.depth == 0 {
+    if input.span.depth == 0 {
         return rows.append(alloc, text.as_slice());
     }
-    rows.append_marked(alloc, text.as_slice(), input.extent.depth)
+    rows.append_marked(alloc, text.as_slice(), input.span.depth)
 }

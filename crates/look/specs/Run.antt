@@ -20,7 +20,7 @@ use Rattle.look.specs.declared.running.NoLine.TheVariants as cause
 use Rattle.look.specs.declared.running.Line as code
 use Rattle.look.specs.declared.running.Line.TheVariants as variant
 
--- the one line that a run writes, and where: a value to one writer, a fault to the other
+-- the one line that a run writes, and where: a value to one writer, an error to the other
 pub data Line : Type 0 where
   value_line : List ℕ → Line
   fault_line : List ℕ → Line
@@ -68,13 +68,13 @@ abbrev pub line_view : code.Line → Line
 line_view (variant.Value v) = value_line v.items
 line_view (variant.Fault v) = fault_line v.items
 
--- where memory was refused: of the parse's own faults only that one
+-- where an allocation failed: of the parse's own errors only that one
 abbrev pub IsOfMemory : refusal.NoMemory → Type 0
 IsOfMemory (reason.Parse e) = e.error_type ≡ OutOfMemory
 IsOfMemory (reason.ParseUnique e) = IsMemoryRefused e.error_type
 IsOfMemory (reason.Line e) = ⊤
 
--- where a read failed or memory was refused
+-- where a read failed or an allocation failed
 abbrev pub IsOfReadOrMemory : absence.NoLine → Type 0
 IsOfReadOrMemory (cause.Read e) = ⊤
 IsOfReadOrMemory (cause.Make m) = IsOfMemory m

@@ -7,10 +7,7 @@ use counted::{Calls, CountedReader, CountedWriter};
 use std::alloc::{AllocError, Global};
 
 mod counted;
-mod printing;
-mod reading;
 mod reads;
-mod repeats;
 mod words;
 mod writing;
 

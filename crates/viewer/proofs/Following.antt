@@ -194,7 +194,7 @@ module _ (output : Output) (options : Options) (from out : Option (List ℕ)) wh
           subst (Consumes from from'') joined
           (Consumes-trans from from' from'' (concat h.pieces) piece h.taken read)
 
-      -- what stands then is shown
+      -- what is then is shown
       pub goes-on : (input' : Input) → HasArrived options input' (concat h.pieces ++ piece)
           → (out'' : Option (List ℕ)) (new : Look) → WritesChange output options (concat h.pieces ++ piece) last new out' out''
           → Follows output options from from'' out out'' input' new

@@ -96,7 +96,7 @@ half-told (Ok whole) is name t o text told err err' prefix = absurd (cc)
 half-told (Err e) is name t None text told err err' prefix = absurd told
 half-told (Err e) is name t (Some x) text told err err' prefix = subst (AppendsPrefix err err') told prefix
 
--- all was shown, and then the fault
+-- all was shown, and then the error
 pub ran : {E : Type 0} (settings : Settings) (from out read out' err err' : Option (List ℕ)) (end : Result Bool E)
     → IfSome from (λ t. ShowsRead settings.output settings.options t out read)
     → IfSome from (λ t. Appends read out' (shown_at_end settings.output settings.options t))

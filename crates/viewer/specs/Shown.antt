@@ -33,7 +33,7 @@ abbrev pub new_line : List ℕ → Option (List ℕ) → List ℕ
 new_line last None = []
 new_line last (Some line) = if bytes_eq line last then [] else line
 
--- what stands after each piece
+-- what is after each piece
 abbrev pub prefixes : List ℕ → List (List ℕ) → List (List ℕ)
 prefixes t [] = []
 prefixes t (p ∷ ps) = (t ++ p) ∷ prefixes (t ++ p) ps

@@ -1,4 +1,4 @@
--- What the steps through arrays and objects reply, and where the reader stands then, by computation.
+-- What the steps through arrays and objects reply, and where the reader is then, by computation.
 use Rattle.jiter.proofs.Words.{[], ◌∷◌, ◌++◌, refl, codes, Some, None, eof_string, eof_value, invalid_number}
 use Rattle.jiter.proofs.Words.{invalid_code_point, trailing_comma, whole, raw, json_error, wrong_type, int, array}
 use Rattle.jiter.proofs.Words.{object, gave, refused, peek, next, array_read, item_step, object_read, key_step, finish}

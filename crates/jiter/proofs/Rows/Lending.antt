@@ -1,5 +1,5 @@
--- What the words about a lending call say of a result and of where the reader stands, row by row. That it stands so
--- when the loan ends (`LeavesReader`) is a formula of the toolchain's logic over these words, which no row computes.
+-- What the words about a borrowing call say of a result and of where the reader is, row by row. That it is so
+-- when the borrow ends (`LeavesReader`) is a formula of the toolchain's logic over these words, which no row computes.
 use Rattle.jiter.proofs.Words.{◌≡◌, ℕ, List, refl, arith, codes, Ok, Err, Some, None, Result, subst, slice_get, Option}
 use Rattle.jiter.proofs.Words.{trailing_comma, past_blanks, Text, json_error, wrong_type, int, string, reply_seen}
 use Rattle.jiter.proofs.Words.{text_bytes, ReaderState, Reply, gave, refused, next, str_read, Reads, never}
@@ -19,7 +19,7 @@ error_at t i = record { error_type = t; index = i }
 abbrev lent : ReaderState → Reply (List ℕ)
 lent s = reply_seen text_bytes (next s (str_read s))
 
--- the bytes of a text that was lent, and how the call leaves a reader that stood at 0
+-- the bytes of a text that was borrowed, and how the call leaves a reader that was at 0
 abbrev Leaves : List ℕ → Result (List ℕ) JiterError → ℕ → Type 0
 Leaves t result i =
     Reads (string_memory t (past_blanks t 0)) (λ x. x) (lent (at t 0)) result (at t 0) (at t i)
@@ -44,7 +44,7 @@ another_type =
       memory = λ m. absurd (cc);
     }
 
--- where memory was refused, at the error's index
+-- where an allocation failed, at the error's index
 memory_refused : Leaves (codes "\"\\n\"") (Err (error_at (error.JsonError kind.OutOfMemory) 0)) 0
 memory_refused =
     unfold computed_replies in record {
@@ -63,7 +63,7 @@ not_after_blanks h = by (unfold computed_replies in h.value) where
 not_past_the_index : Leaves (codes "\"\\n\"") (Err (error_at (error.JsonError kind.OutOfMemory) 0)) 4 → ⊥
 not_past_the_index h = let out = h.memory refl in let place = out.0 in cc
 
--- A refusal is the reply's.
+-- An error is the reply's.
 abbrev wrong : Reply (List ℕ)
 wrong = refused (wrong_type string int) 1 1
 
@@ -80,7 +80,7 @@ never_out r s h = h.memory refl
 same_byte : (b c : ℕ) → Some b ≡ Some c → b ≡ c
 same_byte b c e = cc
 
--- A peek that was handed out is the byte where the reader stands.
+-- A peek that was handed out is the byte where the reader is.
 told_here : TellsHere (Ok (Some of.True)) (at (codes "[true]") 1)
 told_here = refl
 
@@ -90,7 +90,7 @@ nothing_told = tt
 not_told_elsewhere : TellsHere (Ok (Some of.True)) (at (codes "[true]") 2) → ⊥
 not_told_elsewhere h = let same = same_byte 114 116 h in omega (arith, same)
 
--- After a key the reader stands right after its colon.
+-- After a key the reader is right after its colon.
 abbrev key_of_a : Result (Option Text) JiterError
 key_of_a = Ok (Some (borrowed (codes "a")))
 

@@ -13,7 +13,7 @@ numbers_of d =
     (d ++ (codes "." ++ (d ++ (codes "e-" ++ d)))) ∷
     []
 
--- what may follow a number: nothing, a comma, a closer or a blank
+-- what may follow a number: nothing, a comma, a closer or whitespace
 abbrev followers : List (List ℕ)
 followers = [] ∷ codes "," ∷ codes "]" ∷ codes " " ∷ []
 

@@ -1,4 +1,4 @@
--- What reads of scalars reply, and where the reader stands then, by computation.
+-- What reads of scalars reply, and where the reader is then, by computation.
 use Rattle.jiter.proofs.Words.{pos, true, false, [], ◌∷◌, ◌++◌, refl, codes, eof_string, eof_value, expected_ident}
 use Rattle.jiter.proofs.Words.{expected_value, invalid_escape, invalid_number, invalid_code_point, json_error}
 use Rattle.jiter.proofs.Words.{wrong_type, null, bool, int, string, array, object, gave, refused, next, null_read}

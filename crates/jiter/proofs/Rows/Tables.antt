@@ -11,7 +11,7 @@ Row A = ReaderState × Reply A
 abbrev pub RepliesOn : {A : Type 0} → (ReaderState → Reply A) → List (Row A) → Type 0
 RepliesOn call rows = map (λ r. call r.0) rows ≡ map (λ r. r.1) rows
 
--- a reader of these bytes that stands at the place
+-- a reader of these bytes that is at the place
 abbrev pub at : List ℕ → ℕ → ReaderState
 at t i = record { text = t; position = i; names = false; partial_strings = false }
 

@@ -1,4 +1,4 @@
--- What reads and skips of whole values reply, and where the reader stands then, by computation.
+-- What reads and skips of whole values reply, and where the reader is then, by computation.
 use Rattle.jiter.proofs.Words.{ℕ, ◌+◌, pos, List, [], ◌∷◌, ◌++◌, refl, codes, flat_map, replicate, eof_string}
 use Rattle.jiter.proofs.Words.{eof_value, expected_ident, expected_value, invalid_escape, invalid_number}
 use Rattle.jiter.proofs.Words.{invalid_code_point, trailing_comma, recursion_limit, Text, Tree, json_error, ReaderState}

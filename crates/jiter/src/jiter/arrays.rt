@@ -91,8 +91,7 @@ impl<'j> Jiter<'j> {
         self.next_array()
     }
 
-    /// Moves past the comma after an item and returns the first byte of the next item, or `None` at the array's end
-    /// (RFC 8259, 5).
+    /// Moves past the comma after an item. Returns the next item's first byte, or `None` at the end (RFC 8259, 5).
     ///
     /// The first byte of an item is not consumed, and it may be any byte except `]`. The closing bracket of the array
     /// is consumed.

@@ -36,8 +36,7 @@ impl<'j> Jiter<'j> {
         }
     }
 
-    // Fails at `at`, where another value begins. Nothing is assigned: in this form of an error the prover sees that the
-    // reader is borrowed.
+    // Fails at `at`, where another value begins. Nothing is assigned, so that the prover sees the reader as borrowed.
     #[inline(always)]
     fn no_object(&mut self, at: usize) -> JiterResult<Option<&str>>
         requires place { at ≡ value_place self.old }

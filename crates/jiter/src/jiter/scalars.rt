@@ -9,7 +9,7 @@ use crate::errors::{JiterResult, JsonType};
 use crate::jiter::{Jiter, refusal, wrong_type};
 use crate::peek::Peek;
 use jiter_scan::number_decoder::{Integer, int_at};
-use jiter_scan::number_extent::fast_number_end;
+use jiter_scan::number_span::fast_number_end;
 use jiter_scan::{NumberAny, NumberInt};
 use jiter_steps::fast::fast_literal_end;
 use jiter_steps::parse::{Literal, Start, literal_end, start_of};

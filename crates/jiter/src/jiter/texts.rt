@@ -25,7 +25,7 @@ pub(super) fn plain_text<'j>(
     at: usize,
 ) -> Result<(&'j str, usize), Option<(usize, bool)>>
     requires { at < length bytes.now }
-    ensures value { IfOk result (λ read. (keep : Bool) → string_at (text_form keep) bytes.now at
+    ensures value { IfOk result (λ read. (partial : Bool) → string_at (text_form partial) bytes.now at
         ≡ taken (record { owned = false; bytes = read.0.now }) read.1) }
     ensures within { IfOk result (λ read. (at < read.1) × (read.1 ≤ length bytes.now)) }
     ensures escaped { IfErr result (λ e. IfSome e (IsEscapedAt bytes.now at)) }

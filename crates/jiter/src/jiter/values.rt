@@ -14,8 +14,7 @@ use std::alloc::Global;
 impl<'j> Jiter<'j> {
     /// Parses the next value, whatever its type, with partial reading off (RFC 8259, 3).
     ///
-    /// A string without a backslash and the text of a number are borrowed from the document. Bytes after the value are
-    /// not read.
+    /// Strings without a backslash and the texts of numbers are borrowed. Bytes after the value are not read.
     ///
     /// # Errors
     ///

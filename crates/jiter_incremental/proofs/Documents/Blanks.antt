@@ -1,4 +1,4 @@
--- Blanks of a document that arrives in chunks: a run of them is taken at once, and before the first byte that is none
+-- Whitespace of a document that arrives in chunks: a run of them is taken at once, and before the first byte that is none
 -- no memory is wanted.
 use Rattle.jiter_incremental.proofs.Words.{◌≡◌, ◌≢◌, ℕ, zero, suc, ◌+◌, ◌-◌, ◌<◌, ◌≤◌, true, false, List, [], ◌∷◌, ◌++◌}
 use Rattle.jiter_incremental.proofs.Words.{length, take, drop, ◌⊎◌, get_or, inl, inr, refl, sym, ap, ◌∙◌, subst, arith}
@@ -6,7 +6,7 @@ use Rattle.jiter_incremental.proofs.Words.{append_assoc, length-append, slice_ge
 use Rattle.jiter_incremental.proofs.Words.{Err, OnErr, false≢true, append-nil, take-append-drop, take_more}
 use Rattle.jiter_incremental.proofs.Words.{get_or_from_slice_get, slice_get-get_or, slice_get_within, slice-one}
 use Rattle.jiter_incremental.proofs.Words.{slice_range-split, is_blank, past_blanks, IsScalarStart, Document}
-use Rattle.jiter_incremental.proofs.Words.{HasTakenIn, Holding, HoldsScalar, MayRefuseAt, Opened, anything}
+use Rattle.jiter_incremental.proofs.Words.{HasTakenIn, HoldsOpened, HoldsScalar, MayRefuseAt, Opened, any_bytes}
 use Rattle.jiter_incremental.proofs.Words.{between_tokens, in_key, in_scalar, with_byte, Token}
 use Rattle.std.proofs.lemmas.Bool.{cases_lt}
 use Rattle.std.proofs.lemmas.List.{get_or_append_left}
@@ -18,23 +18,23 @@ use Rattle.jiter_incremental.proofs.Documents.Ends.{name-starts, no-blank}
 use Rattle.jiter_incremental.proofs.Documents.{byte-first, known-any, taken-between, takes-byte}
 use Rattle.jiter_incremental.proofs.Between.{goes-blank}
 
--- a blank is taken
-blank-taken : (d : Document) (t : List ℕ) (c : ℕ) → HasTakenIn anything d t → d.fault ≡ None
-    → d.token ≡ token.Nothing → is_blank c ≡ true → HasTakenIn anything d (t ++ c ∷ [])
+-- whitespace is taken
+blank-taken : (d : Document) (t : List ℕ) (c : ℕ) → HasTakenIn any_bytes d t → d.fault ≡ None
+    → d.token ≡ token.Nothing → is_blank c ≡ true → HasTakenIn any_bytes d (t ++ c ∷ [])
 blank-taken d t c h unset none blank =
-    let b = taken-between anything d t h unset none in
+    let b = taken-between any_bytes d t h unset none in
     takes-byte d d.value c t b.state (known-any (with_byte c) d t (between_tokens b.state) b.known) none
     (goes-blank d.value b.state c blank b.left)
 
-module _ (d : Document) (t : List ℕ) (h : HasTakenIn anything d t) (unset : d.fault ≡ None)
+module _ (d : Document) (t : List ℕ) (h : HasTakenIn any_bytes d t) (unset : d.fault ≡ None)
     (none : d.token ≡ token.Nothing) (s : List ℕ) (i : ℕ) where
   -- and each of so many
   blanks-taken : (n : ℕ) → i + n ≤ length s → ((k : ℕ) → i ≤ k → k < i + n → is_blank (get_or s k 0) ≡ true)
-      → HasTakenIn anything d (t ++ slice_range s i (i + n))
+      → HasTakenIn any_bytes d (t ++ slice_range s i (i + n))
   blanks-taken zero within each =
       let nothing : i + zero - i ≡ 0 = omega arith in
       let empty : slice_range s i (i + zero) ≡ [] = ap (λ n. take n (drop i s)) nothing in
-      subst (HasTakenIn anything d) (sym (ap (λ w. t ++ w) empty ∙ append-nil t)) h
+      subst (HasTakenIn any_bytes d) (sym (ap (λ w. t ++ w) empty ∙ append-nil t)) h
   blanks-taken (suc n) within each =
       let j = i + n in
       let c = get_or s j 0 in
@@ -46,17 +46,17 @@ module _ (d : Document) (t : List ℕ) (h : HasTakenIn anything d t) (unset : d.
       let last = slice-one s j c (slice_get-get_or s j 0 here) in
       let all : w ++ c ∷ [] ≡ slice_range s i (j + 1) =
       ap (λ u. w ++ u) (sym last) ∙ sym (slice_range-split s i j (omega arith) (j + 1) (omega arith)) in
-      subst (HasTakenIn anything d)
+      subst (HasTakenIn any_bytes d)
       (append_assoc t w (c ∷ []) ∙ ap (λ u. t ++ u) (all ∙ ap (slice_range s i) end)) one
 
-  -- A run of blanks is taken.
-  pub run-taken : (n : ℕ) → i + n ≡ past_blanks s i → i ≤ length s → HasTakenIn anything d (t ++ slice_range s i (i + n))
+  -- A run of whitespace is taken.
+  pub run-taken : (n : ℕ) → i + n ≡ past_blanks s i → i ≤ length s → HasTakenIn any_bytes d (t ++ slice_range s i (i + n))
   unfolding past_blanks
   run-taken n end le =
       let bound = past_blanks-bound s i le in
       blanks-taken n (omega arith) (λ k from to. run_end-passes is_blank s i k from (omega arith))
 
--- a byte that is no blank is not passed
+-- a byte that is not whitespace is not passed
 blank-stops : (s : List ℕ) (i c : ℕ) → slice_get s i ≡ Some c → is_blank c ≡ false → past_blanks s 0 ≤ i
 unfolding past_blanks
 blank-stops s i c here other = by (cases_lt i (past_blanks s 0)) where
@@ -67,14 +67,14 @@ blank-stops s i c here other = by (cases_lt i (past_blanks s 0)) where
       let same = ap is_blank (get_or_from_slice_get s i c 0 here) in
       absurd (false≢true (sym other ∙ sym same ∙ passed))
 
--- Before a byte that is no blank memory may be refused.
+-- Before a byte that is not whitespace an allocation may fail.
 pub refuse-here : (t : List ℕ) (c : ℕ) → is_blank c ≡ false → MayRefuseAt (t ++ c ∷ []) (length t)
 refuse-here t c other = record {
   begun = blank-stops (t ++ c ∷ []) (length t) c (byte-first c t []) other;
   before = omega (arith, length-append t (c ∷ []));
 }
 
--- a byte is no blank
+-- a byte is not whitespace
 pub record HasByte (t : List ℕ) : Type 0 where
   pub place : ℕ
   pub byte : ℕ
@@ -104,7 +104,7 @@ refuse-on s r i h =
     let stops = blank-stops (s ++ r) j c (before-more s r j c here) (no_blank-after s 0 (Some c) here) in
     record { begun = omega (arith, h.begun); before = omega (arith, h.before, length-append s r) }
 
--- a token begins with a byte that is no blank
+-- a token begins with a byte that is not whitespace
 scalar-begins : (d : Document) (k : Token) (w : List ℕ) → HoldsScalar d k w
     → (c : ℕ) × (rest : List ℕ) × (w ≡ c ∷ rest) × (is_blank c ≡ false)
 scalar-begins d token.Word w h =
@@ -114,7 +114,7 @@ scalar-begins d token.Number w h =
 scalar-begins d token.Text w h = (34, h.rest, h.is, refl)
 scalar-begins d other w h = absurd h
 
-pub held-byte : (d : Document) (t : List ℕ) (o : Opened) → Holding d t o → d.token ≢ token.Nothing → HasByte t
+pub held-byte : (d : Document) (t : List ℕ) (o : Opened) → HoldsOpened d t o → d.token ≢ token.Nothing → HasByte t
 held-byte d t (between_tokens s) h begun = absurd (begun h.0)
 held-byte d t (in_scalar fs b) h begun =
     let f = h.1 in
@@ -137,12 +137,12 @@ held-byte d t (in_key fs ms b) h begun =
       other = refl;
     }
 
--- a byte that is passed is a blank
+-- a byte that is passed is whitespace
 pub first-blank : (s : List ℕ) (i : ℕ) → i < past_blanks s i → is_blank (get_or s i 0) ≡ true
 unfolding past_blanks
 first-blank s i more = run_end-passes is_blank s i i (omega arith) more
 
--- a byte that is not passed is no blank
+-- a byte that is not passed is not whitespace
 pub not-passed : (s : List ℕ) (i : ℕ) → i < length s → past_blanks s i ≡ i → is_blank (get_or s i 0) ≡ false
 not-passed s i lt stays =
     no_blank-after s i (Some (get_or s i 0)) (ap (slice_get s) stays ∙ slice_get-get_or s i 0 lt)

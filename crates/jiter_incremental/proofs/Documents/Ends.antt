@@ -5,8 +5,8 @@ use Rattle.jiter_incremental.proofs.Words.{Option, Some, None, if◌then◌else�
 use Rattle.jiter_incremental.proofs.Words.{slice_get_within, get_or_from_slice_get, none-some, same_Some, ◌&&◌, ◌||◌}
 use Rattle.jiter_incremental.proofs.Words.{is_some, not, option_map, false≢true, if-true, if-false, Kind, fault_kind}
 use Rattle.jiter_incremental.proofs.Words.{is_forgiven, eof_object, eof_value, is_active, Stands, Fault, slice-stands}
-use Rattle.jiter_incremental.proofs.Words.{invalid_code_point, extent_then, number_extent, is_whole}
-use Rattle.jiter_incremental.proofs.Words.{allows_trailing_strings, failed, FaultKind, Extent, is_blank, past_blanks}
+use Rattle.jiter_incremental.proofs.Words.{invalid_code_point, span_then, number_span, is_whole}
+use Rattle.jiter_incremental.proofs.Words.{allows_trailing_strings, failed, FaultKind, Span, is_blank, past_blanks}
 use Rattle.jiter_incremental.proofs.Words.{items_frame, members_frame, resume, value_in, value_from, key_from, start_of}
 use Rattle.jiter_incremental.proofs.Words.{done, fault, prefix_answer, whole_answer, to_end, if_last, container_step}
 use Rattle.jiter_incremental.proofs.Words.{step, end_kind_of, comma_kind_of, Text, Tree, array, object, items_of}
@@ -15,12 +15,12 @@ use Rattle.jiter_incremental.proofs.Words.{resume-fault, if_forgiven-yes, key-fa
 use Rattle.jiter_incremental.proofs.Words.{nothing_forgiven, seen_as, value_form, text_or, scalar_at, content_at, kept}
 use Rattle.jiter_incremental.proofs.Words.{text_form, whole, string, colon, value_first, Arrived, at_end, at_value}
 use Rattle.jiter_incremental.proofs.Words.{between_parts, end_of, leads_on, owned, shown, value_then, IsScalarStart}
-use Rattle.jiter_incremental.proofs.Words.{after_value, text_of, BeginsAs, Document, EndsRight, HasCome, Holding}
+use Rattle.jiter_incremental.proofs.Words.{after_value, text_of, BeginsAs, Document, EndsRight, HasTakenAll, HoldsOpened}
 use Rattle.jiter_incremental.proofs.Words.{HoldsScalar, HoldsString, IsAllowed, Opened, ReadsAt, TakenFrom}
 use Rattle.jiter_incremental.proofs.Words.{between_tokens, in_key, in_scalar, opened_to, shown_as, strictly, token_tree}
 use Rattle.jiter_incremental.proofs.Words.{AnswersSo, IsEndFault, KeepsText, broken_as, is_broken, kind_at_end, so_far}
 use Rattle.jiter_incremental.proofs.Words.{name_start, OpenFrame, begun, filled, IsOfString, answer_as, rules_as, built}
-use Rattle.jiter_incremental.proofs.Words.{Settings, Awaits, owned_text, Name, Token, rules_as-advances}
+use Rattle.jiter_incremental.proofs.Words.{Settings, Awaits, owned_text, WordValue, Token, rules_as-advances}
 use Rattle.jiter_scan.specs.Kind.{eof_string}
 use Rattle.jiter_scan.proofs.OpenNumbers.{ended as number-ended}
 use Rattle.jiter_scan.proofs.WordLaws.{word_at-cut}
@@ -32,7 +32,7 @@ use Rattle.jiter_steps.specs.declared.parse.Start.TheVariants as start
 use Rattle.jiter_steps.specs.Read.{if_forgiven}
 use Rattle.jiter_incremental.specs.Ends.{kind_as}
 use Rattle.jiter_incremental.specs.declared.reader.Awaits.TheVariants as awaits
-use Rattle.jiter_incremental.specs.declared.names.Name.TheVariants as name
+use Rattle.jiter_incremental.specs.declared.names.WordValue.TheVariants as name
 use Rattle.jiter_incremental.specs.declared.reader.Token.TheVariants as token
 use Rattle.jiter_incremental.proofs.Arrivals.{Sticks, all-close, fault-closes, led-answers, led-end, off-answers}
 use Rattle.jiter_incremental.proofs.Between.{scalar-read}
@@ -40,7 +40,7 @@ use Rattle.jiter_incremental.proofs.Documents.{ends-after, prefix-fault}
 use Rattle.jiter_incremental.proofs.Documents.Strings.{begin_of, is-held, is-placed, text-low}
 use Rattle.jiter_incremental.proofs.Documents.Tokens.{held-end, held-stands, number-done, number-failed, word-failed}
 
--- A byte that begins a scalar is neither a blank, a comma nor a closer.
+-- A byte that begins a scalar is neither whitespace, a comma nor a closer.
 not-such : (c d : ℕ) → IsScalarStart (start_of c) → (IsScalarStart (start_of d) → ⊥) → (c == d) ≡ false
 not-such c d h other = by (c == d) refl where
   by : (b : Bool) → (c == d) ≡ b → (c == d) ≡ false
@@ -88,7 +88,7 @@ dropped-answers p t f fs b c k i on here starts read ok led =
     if-true (is_active p.mode) (prefix_answer r t) (whole_answer r t) on ∙ led ∙ ap (resume r t (f ∷ fs)) read
     ∙ fault-closes p t on b (sticks-scalar t b c here starts) f fs k i ok
 
--- A fault that is not forgiven, or where nothing is, is the answer.
+-- An error that is not forgiven, or where nothing is, is the answer.
 pub fault-answers : (p : Settings) (t : List ℕ) (fs : List OpenFrame) (b : ℕ) (k : Kind) (i stop : ℕ)
     → (rules_as owned p).forgives k ≡ false
     → value_in (rules_as owned p) t (length fs) b ≡ fault k i stop
@@ -134,20 +134,20 @@ step-past t row =
     ap (λ m. row m (slice_get t m)) (past_blanks-end t (length t) past)
     ∙ ap (row (length t)) (slice_get_past t (length t) past)
 
--- A scalar that begins at b is cut there, or has this fault.
+-- A scalar that begins at b is cut there, or has this error.
 pub record CutAt (p : Settings) (t : List ℕ) (depth b : ℕ) (k : Kind) (i : ℕ) : Type 0 where
   pub byte : ℕ
   pub here : slice_get t b ≡ Some byte
   pub starts : IsScalarStart (start_of byte)
   pub read : value_in (rules_as owned p) t depth b ≡ fault k i b
 
-allowed-so : (p q : Settings) (k : Name) → p.allow_inf_nan ≡ q.allow_inf_nan → IsAllowed q k → IsAllowed p k
+allowed-so : (p q : Settings) (k : WordValue) → p.allow_inf_nan ≡ q.allow_inf_nan → IsAllowed q k → IsAllowed p k
 allowed-so p q (name.Literal l) same h = tt
 allowed-so p q name.NaN same h = same ∙ h
 allowed-so p q name.Infinity same h = same ∙ h
 allowed-so p q name.MinusInfinity same h = same ∙ h
 
-pub name-starts : (k : Name) → IsScalarStart (name_start k)
+pub name-starts : (k : WordValue) → IsScalarStart (name_start k)
 name-starts (name.Literal l) = tt
 name-starts other = tt
 
@@ -178,9 +178,9 @@ module _ (d : Document) (t : List ℕ) (b : ℕ) (w : List ℕ) (from : TakenFro
           ∙ ap (failed eof_value) at-end);
     }
 
-    number-extent : HoldsScalar d token.Number w → (all : Bool) → is_whole d.number.stage ≡ all
-        → number_extent p.allow_inf_nan t b ≡ ended_so all (length t)
-    number-extent h all is =
+    number-span : HoldsScalar d token.Number w → (all : Bool) → is_whole d.number.stage ≡ all
+        → number_span p.allow_inf_nan t b ≡ ended_so all (length t)
+    number-span h all is =
         h.0.goes p.allow_inf_nan t b all-stand
         ∙ number-ended t (b + length w) none-there p.allow_inf_nan d.number.stage
         ∙ ap (λ x. ended_so x (b + length w)) is ∙ ap (ended_so all) at-end
@@ -191,7 +191,7 @@ module _ (d : Document) (t : List ℕ) (b : ℕ) (w : List ℕ) (from : TakenFro
       here = first-there _ h.1;
       starts = subst IsScalarStart (sym h.1.starts) tt;
       read = number-failed p t depth b h.1.first few (first-there _ h.1) eof_value (length t) h.1.starts
-          (number-extent h false is);
+          (number-span h false is);
     }
 
     number-read : HoldsScalar d token.Number w → is_whole d.number.stage ≡ true
@@ -199,7 +199,7 @@ module _ (d : Document) (t : List ℕ) (b : ℕ) (w : List ℕ) (from : TakenFro
     number-read h is =
         let bytes = subst (λ e. Stands t b e w) at-end all-stand in
         number-done p t depth b h.1.first few (first-there _ h.1) (string_bytes d.number.text) (length t) h.1.starts
-        (number-extent h true is) (sym (slice-stands t b (length t) w bytes) ∙ sym h.0.text)
+        (number-span h true is) (sym (slice-stands t b (length t) w bytes) ∙ sym h.0.text)
 
   -- of a string
   module _ (h : HoldsString d w) where
@@ -234,7 +234,7 @@ module _ (d : Document) (t : List ℕ) (b : ℕ) (w : List ℕ) (from : TakenFro
         here = quote-there;
         starts = tt;
         read = text-read (failed eof_string (length t))
-            (ap (λ keep. content_at (text_form keep) t (b + 1)) off ∙ cut-whole);
+            (ap (λ partial. content_at (text_form partial) t (b + 1)) off ∙ cut-whole);
       }
 
       -- that is kept
@@ -244,7 +244,7 @@ module _ (d : Document) (t : List ℕ) (b : ℕ) (w : List ℕ) (from : TakenFro
         kept-read : value_in (rules_as owned p) t depth b
             ≡ scalar_at b (seen_as (λ s e. string (owned_text s))
             (text_or (not bad) (b + 1) escaped d.string.text.text (b + 1 + length h.rest)))
-        kept-read = text-read _ (ap (λ keep. content_at (text_form keep) t (b + 1)) on ∙ is)
+        kept-read = text-read _ (ap (λ partial. content_at (text_form partial) t (b + 1)) on ∙ is)
 
         kept-done : bad ≡ false
             → value_in (rules_as owned p) t depth b ≡ done (string (text_of d.string.text.text)) (length t)
@@ -270,7 +270,7 @@ module _ (d : Document) (t : List ℕ) (b : ℕ) (w : List ℕ) (from : TakenFro
         key-failed (rules_as owned p) t (rules_as-advances owned p t) fs ms b (length t) eof_string
         (slice_get_within t b 34 quote-there) refl (ap (seen_as (λ s e. owned_text s)) cut-whole)
 
--- ---- the fault of the end
+-- ---- the error of the end
 
 pub end-some : (d : Document) (k : Option Kind) (x : Option FaultKind) (kind : FaultKind) (f : Fault)
     → option_map fault_kind x ≡ k → x ≡ Some kind → f ≡ record { kind = kind; index = d.position }
@@ -295,13 +295,13 @@ pub nothing-comes : (p : Settings) (t : List ℕ) (o : Opened) → ReadsAt p t [
 nothing-comes p t o h =
     subst (λ v. prefix_answer (rules_as owned p) v ≡ opened_to p v o (length t)) (append-nil t) h
 
--- a fault that was found
+-- an error that was found
 pub fault-found : (p : Settings) (t : List ℕ) (x : Option Fault) (o : Opened) (v : Option Tree) → ReadsAt p t [] x o
     → is_some x ≡ true → AnswersSo p t x v
 fault-found p t (Some f) o v h some = (h.0, sym (ap (answer_as owned p) (append-nil t)) ∙ h.1)
 fault-found p t None o v h some = absurd (false≢true some)
 
--- the fault of the end
+-- the error of the end
 pub end-answered : (d : Document) (p : Settings) (t : List ℕ) (x : Option Kind) (k : Kind) (stop : ℕ)
     (r : Option Fault) (v : Option Tree) → x ≡ Some k → IsEndFault d x r → d.position ≡ length t
     → answer_as owned p t ≡ fault k (length t) stop → AnswersSo p t r v
@@ -428,7 +428,7 @@ module _ (d : Document) (t : List ℕ) (place : d.position ≡ length t) where
   strict-scalar fs b w r from token.Nothing is h few end led = absurd h
 
   -- and in a key.
-  pub strict-answers : (o : Opened) (r : Option Fault) → Holding d t o → EndsRight t o
+  pub strict-answers : (o : Opened) (r : Option Fault) → HoldsOpened d t o → EndsRight t o
       → IsEndFault d (kind_at_end d o) r → prefix_answer (rules_as owned p) t ≡ opened_to p t o (length t)
       → AnswersSo p t r (shown (so_far d o))
   strict-answers (between_tokens s) r h ends end led =
@@ -470,7 +470,7 @@ broken-text d token.Key is h = absurd (false≢true h)
 
 -- ---- in a partial mode
 
--- The value is answered, or, where there is none, this fault of the end.
+-- The value is answered, or, where there is none, this error of the end.
 pub data IsAnsweredSo (p : Settings) (t : List ℕ) : Option Tree → Option Kind → Type 0 where
   with_value : (v : Tree) (k : Option Kind) (e : ℕ) → answer_as owned p t ≡ done v e → IsAnsweredSo p t (Some v) k
   with_fault : (k : Kind) (stop : ℕ) → answer_as owned p t ≡ fault k (length t) stop → IsAnsweredSo p t None (Some k)
@@ -479,10 +479,10 @@ pub data IsAnsweredSo (p : Settings) (t : List ℕ) : Option Tree → Option Kin
 root-ends : (p : Settings) (t : List ℕ) (a : Awaits) (k : Kind) → end_of (at_value a []) ≡ Some k
     → leads_on (rules_as owned p) t (at_value a []) (length t) ≡ fault k (length t) (length t)
 root-ends p t awaits.Colon k h =
-    ap (λ (x : Extent). value_then (rules_as owned p) t 0 (extent_then x (step t value_first))) (step-past t colon)
+    ap (λ (x : Span). value_then (rules_as owned p) t 0 (span_then x (step t value_first))) (step-past t colon)
     ∙ ap (λ l. fault l (length t) (length t)) (same_Some _ _ h)
 root-ends p t a k h =
-    ap (λ (x : Extent). value_then (rules_as owned p) t 0 x) (step-past t value_first)
+    ap (λ (x : Span). value_then (rules_as owned p) t 0 x) (step-past t value_first)
     ∙ ap (λ l. fault l (length t) (length t)) (same_Some _ _ h)
 
 end-some-of : (a : Awaits) → (k : Kind) × (end_of (at_value a []) ≡ Some k)
@@ -560,7 +560,7 @@ module _ (d : Document) (t : List ℕ) (on : is_active d.settings.mode ≡ true)
   module _ (fs : List OpenFrame) (b : ℕ) (w : List ℕ) (from : TakenFrom d t b w) (h : HoldsString d w)
       (is : d.token ≡ token.Text) (few : length fs ≤ 200)
       (led : prefix_answer (rules_as owned q) t ≡ value_from (rules_as owned q) t fs b) where
-    -- as it stands there
+    -- as it is there
     stands-kept : KeepsText d → allows_trailing_strings q.mode ≡ true
         → content_at kept t (b + 1)
         ≡ text_or (not d.string.text.broken) (b + 1) (h.taken.escaped || is_some d.string.escape)
@@ -606,7 +606,7 @@ module _ (d : Document) (t : List ℕ) (on : is_active d.settings.mode ≡ true)
   partial-scalar fs b w from token.Nothing is h few keeps good led = absurd h
 
   -- What the bytes answer, where no string is broken.
-  pub partial-answers : (o : Opened) → Holding d t o → KeepsText d → is_broken d ≡ false
+  pub partial-answers : (o : Opened) → HoldsOpened d t o → KeepsText d → is_broken d ≡ false
       → prefix_answer (rules_as owned q) t ≡ opened_to q t o (length t)
       → So (shown (so_far d o)) (kind_at_end d o)
   partial-answers (between_tokens s) h keeps good led =
@@ -623,8 +623,8 @@ module _ (d : Document) (t : List ℕ) (on : is_active d.settings.mode ≡ true)
       (ap (λ x. (if x then is_forgiven else nothing_forgiven) eof_string) on))
       ∙ all-close q t on b (sticks-scalar t b 34 here tt) fs (object (members_of ms)))
 
-  -- Where the string is, it has a fault.
-  pub broken-answers : (o : Opened) → Holding d t o → KeepsText d → is_broken d ≡ true → d.token ≡ token.Text
+  -- Where the string is, it has an error.
+  pub broken-answers : (o : Opened) → HoldsOpened d t o → KeepsText d → is_broken d ≡ true → d.token ≡ token.Text
       → prefix_answer (rules_as owned q) t ≡ opened_to q t o (length t)
       → (stop : ℕ) × (answer_as owned q t ≡ fault invalid_code_point (d.begin + 1 + length d.string.text.text) stop)
   broken-answers (between_tokens s) h keeps bad is led = absurd (nothing-text (sym h.0 ∙ is))
@@ -635,7 +635,7 @@ module _ (d : Document) (t : List ℕ) (on : is_active d.settings.mode ≡ true)
         ∙ ap (λ x. fault invalid_code_point (x + 1 + length d.string.text.text) b) (sym h.1.place),
   )
 
--- The value, where there is one; else the fault.
+-- The value, where there is one; else the error.
 pub value-answered : (d : Document) (t : List ℕ) (v : Option Tree) (k : Option Kind) → is_some v ≡ true
     → IsAnsweredSo d.settings t v k → AnswersSo d.settings t None v
 value-answered d t (Some v) k sure (with_value w l e h) = (w, refl, (e, h))
@@ -648,7 +648,7 @@ none-answered d t (Some v) k r none end place a = absurd (false≢true (sym none
 none-answered d t None k r none end place (with_fault l stop h) = end-answered d d.settings t k l stop r None refl end place h
 
 pub broken-answered : (d : Document) (t : List ℕ) (o : Opened) (v : Option Tree) (f : Fault) (i : ℕ)
-    → is_active d.settings.mode ≡ true → Holding d t o → KeepsText d → is_broken d ≡ true
+    → is_active d.settings.mode ≡ true → HoldsOpened d t o → KeepsText d → is_broken d ≡ true
     → prefix_answer (rules_as owned d.settings) t ≡ opened_to d.settings t o (length t)
     → i ≡ d.begin + 1 + length d.string.text.text
     → f ≡ record { kind = fault_of.InvalidUnicodeCodePoint; index = i } → AnswersSo d.settings t (Some f) v
@@ -660,7 +660,7 @@ broken-answered d t o v f i on held keeps bad led place made =
     )
 
 -- Its place is none that is too large.
-pub broken-low : (d : Document) (t : List ℕ) (h : HasCome d t) → d.fault ≡ None → is_broken d ≡ true
+pub broken-low : (d : Document) (t : List ℕ) (h : HasTakenAll d t) → d.fault ≡ None → is_broken d ≡ true
     → d.begin + 1 + length d.string.text.text ≤ d.position
 broken-low d t h unset bad =
     let k : IsOfString d.token = inl (broken-text d d.token refl bad) in

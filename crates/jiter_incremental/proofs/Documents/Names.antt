@@ -2,16 +2,16 @@
 use Rattle.jiter_incremental.proofs.Words.{◌≡◌, ℕ, ◌+◌, ◌==◌, true, false, List, [], ◌∷◌, ◌++◌, length, refl, sym}
 use Rattle.jiter_incremental.proofs.Words.{subst, ap, ◌∙◌, arith, append_assoc, codes, drop, slice_get, Option, Some}
 use Rattle.jiter_incremental.proofs.Words.{None, eqb-true, failed-taken, stands-length, word_at-complete, word_at-sound}
-use Rattle.jiter_incremental.proofs.Words.{eof_value, invalid_number, after_minus, extent_from, number_extent}
-use Rattle.jiter_incremental.proofs.Words.{HoldsNumber, IsBegun, word_from, taken, failed, Stands, Extent, word_at}
+use Rattle.jiter_incremental.proofs.Words.{eof_value, invalid_number, after_minus, span_from, number_span}
+use Rattle.jiter_incremental.proofs.Words.{HoldsNumber, IsBegun, word_from, taken, failed, Stands, Span, word_at}
 use Rattle.jiter_incremental.proofs.Words.{PartialNumber, IsLeft, at_value, BeginsAs, Document, HasTakenIn, HoldsMinus}
-use Rattle.jiter_incremental.proofs.Words.{HoldsScalar, HoldsWord, IsAllowed, IsRefused, Known, anything, in_scalar}
+use Rattle.jiter_incremental.proofs.Words.{HoldsScalar, HoldsWord, IsAllowed, IsRefused, ReadSoFar, any_bytes, in_scalar}
 use Rattle.jiter_incremental.proofs.Words.{name_start, OpenFrame}
 use Rattle.std.proofs.lemmas.List.{nil_from_length}
 use Rattle.jiter_scan.proofs.Choices.{if_both}
 use Rattle.jiter_scan.specs.NumberReading.{decimal_at, name_at}
 use Rattle.jiter_scan.specs.declared.partial_number.Stage.TheVariants as stage
-use Rattle.jiter_incremental.specs.declared.names.Name.TheVariants as name
+use Rattle.jiter_incremental.specs.declared.names.WordValue.TheVariants as name
 use Rattle.jiter_incremental.specs.declared.reader.Token.TheVariants as token
 use Rattle.jiter_incremental.specs.declared.reader.Awaits.TheVariants as awaits
 use Rattle.jiter_incremental.proofs.Documents.{Keeps, known-in}
@@ -21,12 +21,12 @@ use Rattle.jiter_incremental.proofs.Documents.Tokens.{number-failed, reading-nam
 -- ---- the bytes of a number of which the minus was read
 
 module _ (P : Type 0) (t : List ℕ) (e j : ℕ) where
-  -- What is read to e where names are allowed, and where they are not is a fault of a number at j, gives P.
-  abbrev Tells : Extent → Extent → Type 0
+  -- What is read to e where names are allowed, and where they are not is an error of a number at j, gives P.
+  abbrev Tells : Span → Span → Type 0
   Tells allowed denied = allowed ≡ taken tt e → denied ≡ failed invalid_number j → P
 
   -- no decimal number does, which is the same with names and without
-  same-tells : (x : Extent) → Tells x x
+  same-tells : (x : Span) → Tells x x
   same-tells x goes fails = absurd (failed-taken invalid_number j tt e (sym fails ∙ goes))
 
   -- and no name in the place of a value
@@ -40,17 +40,17 @@ module _ (P : Type 0) (t : List ℕ) (e j : ℕ) where
   after-tells i (Some c) word =
       if_both Tells (c == 73) _ _ _ _ (λ is goes fails. word goes) (λ other. same-tells (decimal_at t i))
 
-  extent-tells : (i : ℕ) (o : Option ℕ) → (o ≡ Some 45 → word_at t (codes "Infinity") (i + 1) ≡ taken tt e → P)
-      → Tells (extent_from true t i o) (extent_from false t i o)
-  extent-tells i None word = same-tells (failed eof_value i)
-  extent-tells i (Some c) word =
+  span-tells : (i : ℕ) (o : Option ℕ) → (o ≡ Some 45 → word_at t (codes "Infinity") (i + 1) ≡ taken tt e → P)
+      → Tells (span_from true t i o) (span_from false t i o)
+  span-tells i None word = same-tells (failed eof_value i)
+  span-tells i (Some c) word =
       if_both Tells (c == 45) _ _ _ _
       (λ is. after-tells (i + 1) (slice_get t (i + 1)) (word (ap Some (eqb-true c 45 is))))
       (λ no_minus. if_both Tells (c == 78) _ _ _ _ (λ is. name-tells (codes "NaN") i)
       (λ no_n. if_both Tells (c == 73) _ _ _ _ (λ is. name-tells (codes "Infinity") i)
       (λ no_i. same-tells (decimal_at t i))))
 
--- A minus begins these bytes, and the same word stands after it and after all of them.
+-- A minus begins these bytes, and the same word is after it and after all of them.
 first-alone : (w : List ℕ) → slice_get (w ++ codes "Infinity") 0 ≡ Some 45
     → Stands (w ++ codes "Infinity") 1 (length w + 8) (codes "Infinity") → w ≡ 45 ∷ []
 first-alone [] first word = absurd cc
@@ -66,7 +66,7 @@ begun-minus w begun =
     let t = w ++ word in
     let n = length w in
     let s : Stands t n (n + 8) word = stands-prefix w word [] in
-    extent-tells (w ≡ 45 ∷ []) t (n + 8) n 0 (slice_get t 0)
+    span-tells (w ≡ 45 ∷ []) t (n + 8) n 0 (slice_get t 0)
     (λ first read. first-alone w first (word_at-sound t word 1 (n + 8) tt read))
     (begun.goes true word ∙ ap (after_minus true t n) s.0 ∙ word_at-complete t word n (n + 8) s)
     (begun.goes false word ∙ ap (after_minus false t n) s.0)
@@ -77,7 +77,7 @@ minus-alone n w h is = begun-minus w (subst (IsBegun w) is h.begun)
 
 -- ---- the letter after the minus
 
-module _ (d : Document) (t : List ℕ) (fs : List OpenFrame) (b : ℕ) (known : Known anything d t (in_scalar fs b))
+module _ (d : Document) (t : List ℕ) (fs : List OpenFrame) (b : ℕ) (known : ReadSoFar any_bytes d t (in_scalar fs b))
     (h : HoldsMinus d t fs b)
   where
     abbrev both : List ℕ
@@ -89,10 +89,10 @@ module _ (d : Document) (t : List ℕ) (fs : List OpenFrame) (b : ℕ) (known : 
     -- where names are allowed, a word is held
     pub name-taken : (e : Document) → Keeps d e → e.value ≡ d.value → e.begin ≡ d.begin → e.token ≡ token.Word
         → e.name ≡ name.MinusInfinity → e.word.word.now ≡ codes "Infinity" → e.word.seen ≡ 1
-        → d.settings.allow_inf_nan ≡ true → HasTakenIn anything e (t ++ 73 ∷ [])
+        → d.settings.allow_inf_nan ≡ true → HasTakenIn any_bytes e (t ++ 73 ∷ [])
     name-taken e k value begin tok is word one allowed = record {
       opened = in_scalar fs b;
-      known = known-in anything anything d e t (73 ∷ []) (in_scalar fs b) h.low k (λ u comes. tt) known;
+      known = known-in any_bytes any_bytes d e t (73 ∷ []) (in_scalar fs b) h.low k (λ u comes. tt) known;
       held = λ unset. (
         both,
         record { prefix = h.prefix; is = both-last; begin = h.begin; place = begin ∙ h.place },
@@ -114,10 +114,10 @@ module _ (d : Document) (t : List ℕ) (fs : List OpenFrame) (b : ℕ) (known : 
 
     -- where they are not, it is refused
     pub name-refused : d.position ≡ length t → d.settings.allow_inf_nan ≡ false
-        → IsRefused d anything (t ++ 73 ∷ []) invalid_number d.position
+        → IsRefused d any_bytes (t ++ 73 ∷ []) invalid_number d.position
     name-refused position off =
-        subst (IsRefused d anything (t ++ 73 ∷ []) invalid_number) (sym position)
-        (scalar-refused anything anything d t (73 ∷ []) fs b invalid_number (length t) known (λ u comes. tt) refl
+        subst (IsRefused d any_bytes (t ++ 73 ∷ []) invalid_number) (sym position)
+        (scalar-refused any_bytes any_bytes d t (73 ∷ []) fs b invalid_number (length t) known (λ u comes. tt) refl
         (λ p u reading comes.
         let all = t ++ 73 ∷ u in
         let s : Stands all b (b + 2) both =
@@ -125,5 +125,5 @@ module _ (d : Document) (t : List ℕ) (fs : List OpenFrame) (b : ℕ) (known : 
         (held-stands h.prefix both (t ++ 73 ∷ []) b both-last h.begin u) in
         let place : b + 1 ≡ length t = held-end h.prefix (45 ∷ []) t b h.is h.begin in
         number-failed p all (length fs) b 45 h.low s.0 invalid_number (length t) refl
-        (ap (λ n. number_extent n all b) (reading-names d p reading ∙ off) ∙ minus-fails all b s
+        (ap (λ n. number_span n all b) (reading-names d p reading ∙ off) ∙ minus-fails all b s
         ∙ ap (failed invalid_number) place)))

@@ -6,13 +6,13 @@ use Rattle.jiter_incremental.proofs.Words.{None, ◌==◌, slice_get-get_or, sli
 use Rattle.jiter_incremental.proofs.Words.{false≢true, if_case, failed-taken, slice-one, Kind, fault_kind, is_forgiven}
 use Rattle.jiter_incremental.proofs.Words.{invalid_code_point, allows_trailing_strings, is_active, Off, taken, failed}
 use Rattle.jiter_incremental.proofs.Words.{Stands, Fault, FaultKind, nothing_forgiven, seen_as, value_form}
-use Rattle.jiter_incremental.proofs.Words.{members_frame, resume, value_in, key_from, start_of, Goes, HasTaken, text_or}
+use Rattle.jiter_incremental.proofs.Words.{members_frame, resume, value_in, key_from, start_of, GoesOnWith, HasTaken, text_or}
 use Rattle.jiter_incremental.proofs.Words.{Rules, done, fault, scalar_at, to_end, whole, text_form, content_at, Text}
 use Rattle.jiter_incremental.proofs.Words.{Tree, string, PartialString, if_forgiven-no, key-failed, resume-fault}
 use Rattle.jiter_incremental.proofs.Words.{inside_at-starts, whole-is, IsLeft, OpenValue, at_value, owned, completed}
-use Rattle.jiter_incremental.proofs.Words.{text_of, Comes, Document, Follows, HasCome, HasTakenIn, Holding, HoldsScalar}
-use Rattle.jiter_incremental.proofs.Words.{HoldsString, IsReading, IsRefused, Known, Next, Opened, ReadsAt, Strictness}
-use Rattle.jiter_incremental.proofs.Words.{TakenFrom, anything, by_mode, fault_by, settings_by, strict, between_tokens}
+use Rattle.jiter_incremental.proofs.Words.{text_of, MayFollow, Document, Follows, HasTakenAll, HasTakenIn, HoldsOpened, HoldsScalar}
+use Rattle.jiter_incremental.proofs.Words.{HoldsString, IsReading, IsRefused, ReadSoFar, Next, Opened, ReadsAt, Strictness}
+use Rattle.jiter_incremental.proofs.Words.{TakenFrom, any_bytes, by_mode, fault_by, settings_by, strict, between_tokens}
 use Rattle.jiter_incremental.proofs.Words.{in_key, in_scalar, noted_in, opened_to, strictly, with_byte, with_first}
 use Rattle.jiter_incremental.proofs.Words.{OpenFrame, IsClosedAs, IsKeyAs, IsOfString, IsTextAs, owned_text, rules_as}
 use Rattle.jiter_incremental.proofs.Words.{Token, Settings, rules_as-advances}
@@ -24,7 +24,7 @@ use Rattle.jiter_scan.specs.declared.errors.FaultKind.TheVariants as fault_of
 use Rattle.jiter_steps.specs.PartialText.{HoldsBytes}
 use Rattle.jiter_steps.specs.StringReading.{Form, Stop, text_in_form}
 use Rattle.jiter_steps.specs.StringReading.{Body, body_at, closed, unclosed, cut, wrong}
-use Rattle.jiter_steps.specs.declared.partial_string.Went.TheVariants as went
+use Rattle.jiter_steps.specs.declared.partial_string.StringStep.TheVariants as went
 use Rattle.jiter_steps.specs.declared.parse.Start.TheVariants as start
 use Rattle.jiter_steps.proofs.Grammar.Places.{IsPlaceKind}
 use Rattle.jiter_steps.proofs.Reading.Bodies.{StopWithin, body_at-long, body_at-within}
@@ -33,7 +33,7 @@ use Rattle.jiter_incremental.proofs.Documents.{IsInside, ends-inside, known-as, 
 use Rattle.jiter_incremental.specs.declared.reader.Token.TheVariants as token
 use Rattle.jiter_incremental.specs.declared.reader.Awaits.TheVariants as awaits
 
--- the same document, with this string and this first fault
+-- the same document, with this string and this first error
 abbrev pub turned : Document → PartialString → Option Fault → Document
 turned d s f = record d { string = s; first = f }
 
@@ -57,7 +57,7 @@ form_of p (between_tokens s) = whole
 form_of p (in_scalar fs b) = value_form p.mode
 form_of p (in_key fs ms b) = whole
 
--- Its bytes stand at the end of those that were read.
+-- Its bytes are at the end of those that were read.
 pub record InString (s : PartialString) (t : List ℕ) (b : ℕ) : Type 0 where
   pub prefix : List ℕ
   pub rest : List ℕ
@@ -86,17 +86,17 @@ held-scalar d k w e (inl x) h = (x, subst (λ k. HoldsScalar d k w) (e ∙ x) h)
 held-scalar d k w e (inr x) h = absurd (subst (λ k. HoldsScalar d k w) (e ∙ x) h)
 
 module _ (d : Document) (t : List ℕ) (k : IsOfString d.token) where
-  pub is-inside : (o : Opened) → Holding d t o → IsInside o
+  pub is-inside : (o : Opened) → HoldsOpened d t o → IsInside o
   is-inside (between_tokens s) h = no-token d.token k h.0
   is-inside (in_scalar fs b) h = h.4
   is-inside (in_key fs ms b) h = tt
 
-  pub is-held : (o : Opened) → Holding d t o → InString d.string t (begin_of o)
+  pub is-held : (o : Opened) → HoldsOpened d t o → InString d.string t (begin_of o)
   is-held (between_tokens s) h = absurd (no-token d.token k h.0)
   is-held (in_scalar fs b) h = in-string d t b h.0 h.1 (held-scalar d d.token h.0 refl k h.2).1
   is-held (in_key fs ms b) h = in-string d t b h.0 h.1 h.3
 
-  pub is-placed : (o : Opened) → Holding d t o → d.begin ≡ begin_of o
+  pub is-placed : (o : Opened) → HoldsOpened d t o → d.begin ≡ begin_of o
   is-placed (between_tokens s) h = absurd (no-token d.token k h.0)
   is-placed (in_scalar fs b) h = h.1.place
   is-placed (in_key fs ms b) h = h.1.place
@@ -118,7 +118,7 @@ module _ (d : Document) (t : List ℕ) (k : IsOfString d.token) where
       taken = more h.rest h.taken;
     }
 
-    pub goes-on : (o : Opened) → Holding d t o → Holding (turned d s f) (t ++ v) o
+    pub goes-on : (o : Opened) → HoldsOpened d t o → HoldsOpened (turned d s f) (t ++ v) o
     goes-on (between_tokens a) h = absurd (no-token d.token k h.0)
     goes-on (in_scalar fs b) h =
         let x = held-scalar d d.token h.0 refl k h.2 in (
@@ -133,27 +133,27 @@ module _ (d : Document) (t : List ℕ) (k : IsOfString d.token) where
 
 -- Bytes are taken into the string.
 pub taken-on : (d : Document) (s : PartialString) (t v : List ℕ) → IsOfString d.token → d.fault ≡ None
-    → ((w : List ℕ) → HasTaken d.string w → HasTaken s (w ++ v)) → HasTakenIn anything d t
-    → HasTakenIn anything (with_string d s) (t ++ v)
+    → ((w : List ℕ) → HasTaken d.string w → HasTaken s (w ++ v)) → HasTakenIn any_bytes d t
+    → HasTakenIn any_bytes (with_string d s) (t ++ v)
 taken-on d s t v k unset more h =
     let held = h.held unset in
     record {
       opened = h.opened;
       known =
-          known-in anything anything d (with_string d s) t v h.opened (is-inside d t k h.opened held) (refl, refl, refl)
+          known-in any_bytes any_bytes d (with_string d s) t v h.opened (is-inside d t k h.opened held) (refl, refl, refl)
           (λ u c. tt) h.known;
       held = λ e. goes-on d t k s d.first v more h.opened held;
     }
 
 -- or none, and it is as it was.
 pub taken-same : (d : Document) (s : PartialString) (t : List ℕ) → IsOfString d.token → d.fault ≡ None
-    → ((w : List ℕ) → HasTaken d.string w → HasTaken s w) → HasTakenIn anything d t
-    → HasTakenIn anything (with_string d s) t
+    → ((w : List ℕ) → HasTaken d.string w → HasTaken s w) → HasTakenIn any_bytes d t
+    → HasTakenIn any_bytes (with_string d s) t
 taken-same d s t k unset same h =
-    subst (HasTakenIn anything (with_string d s)) (append-nil t)
+    subst (HasTakenIn any_bytes (with_string d s)) (append-nil t)
     (taken-on d s t [] k unset (λ w x. subst (HasTaken s) (sym (append-nil w)) (same w x)) h)
 
--- bytes stand after those before them
+-- bytes are after those before them
 stands-from : (w f x t : List ℕ) (i j : ℕ) → t ≡ f ++ (w ++ x) → i ≡ length f → j ≡ i + length w → Stands t i j w
 stands-from [] f x t i j is at end = omega arith
 stands-from (c ∷ w) f x t i j is at end =
@@ -192,11 +192,11 @@ module _ (s : PartialString) (t : List ℕ) (b : ℕ) (h : InString s t b) where
       ap (slice_get T) (sym size)
       ∙ (stands-from (c ∷ []) t u T (length t) (length t + 1) text refl refl).0
 
-  -- and where its quote comes next, the string is this text, or has this fault.
-  pub content-closed : (keep answer : Bool) → IsClosedAs s keep answer → s.escape ≡ None → (T u : List ℕ)
+  -- and where its quote comes next, the string is this text, or has this error.
+  pub content-closed : (partial answer : Bool) → IsClosedAs s partial answer → s.escape ≡ None → (T u : List ℕ)
       → T ≡ t ++ 34 ∷ u
-      → content_at (text_form keep) T (b + 1) ≡ text_or answer (b + 1) h.taken_so.escaped s.text.text (length t + 1)
-  content-closed keep answer is none T u text =
+      → content_at (text_form partial) T (b + 1) ≡ text_or answer (b + 1) h.taken_so.escaped s.text.text (length t + 1)
+  content-closed partial answer is none T u text =
       is h.rest h.taken_so none T (b + 1) (rest-stand T (34 ∷ u) text) (next-byte T u 34 text)
       ∙ ap (λ j. text_or answer (b + 1) h.taken_so.escaped s.text.text (j + 1)) (sym size)
 
@@ -221,12 +221,12 @@ module _ (s : PartialString) (t : List ℕ) (b : ℕ) (h : InString s t b) where
       )
 
 -- What is read whole is read so in each form,
-form-taken : (keep : Bool) (t : List ℕ) (i e : ℕ) (x : Text) → content_at whole t i ≡ taken x e
-    → content_at (text_form keep) t i ≡ taken x e
+form-taken : (partial : Bool) (t : List ℕ) (i e : ℕ) (x : Text) → content_at whole t i ≡ taken x e
+    → content_at (text_form partial) t i ≡ taken x e
 form-taken true t i e x h = (content-kept t i x e h).0
 form-taken false t i e x h = h
 
--- and a fault before the end of the text is not forgiven.
+-- and an error before the end of the text is not forgiven.
 place-kept : (k : Kind) → IsPlaceKind k → is_forgiven k ≡ false
 place-kept k (inl e) = ap is_forgiven e
 place-kept k (inr (inl e)) = ap is_forgiven e
@@ -290,7 +290,7 @@ module _ (p : Settings) (T : List ℕ) where
 
 -- A key that is read leads on after it.
 module _ (d : Document) (v : OpenValue) (n m : Next) (t w : List ℕ) (fs : List OpenFrame) (ms : List (Text × Tree))
-    (b : ℕ) (k : Text) (known : Known n d t (in_key fs ms b)) (follows : Follows n w m) (unset : d.fault ≡ None)
+    (b : ℕ) (k : Text) (known : ReadSoFar n d t (in_key fs ms b)) (follows : Follows n w m) (unset : d.fault ≡ None)
     (left : IsLeft v (at_value awaits.Colon (members_frame ms k ∷ fs))) (begun : b < length (t ++ w))
     (is : IsKeyAs d m (t ++ w) b k)
     (goes : (p : Settings) (t : List ℕ) (j e : ℕ) (ms : List (Text × Tree)) (fs : List OpenFrame) → j < length t
@@ -312,11 +312,11 @@ module _ (d : Document) (v : OpenValue) (n m : Next) (t w : List ℕ) (fs : List
     held = λ e. (refl, left);
   }
 
--- What was read is refused with a fault of the string.
+-- What was read is refused with an error of the string.
 pub refused-so : (n m : Next) (d : Document) (t v : List ℕ) (o : Opened) (k : Kind) (x : ℕ) → IsInside o
-    → Known n d t o → Follows n v m → is_forgiven k ≡ false
-    → ((p : Settings) (u : List ℕ) → IsReading d p → Comes m u → slice_get ((t ++ v) ++ u) (begin_of o) ≡ Some 34)
-    → ((p : Settings) (u : List ℕ) → IsReading d p → Comes m u
+    → ReadSoFar n d t o → Follows n v m → is_forgiven k ≡ false
+    → ((p : Settings) (u : List ℕ) → IsReading d p → MayFollow m u → slice_get ((t ++ v) ++ u) (begin_of o) ≡ Some 34)
+    → ((p : Settings) (u : List ℕ) → IsReading d p → MayFollow m u
     → content_at (form_of p o) ((t ++ v) ++ u) (begin_of o + 1) ≡ failed k x)
     → IsRefused d m (t ++ v) k x
 refused-so n m d t v o k x i known follows bad quote fails = λ p u r c. (
@@ -326,11 +326,11 @@ refused-so n m d t v o k x i known follows bad quote fails = λ p u r c. (
       ∙ opened-fails p ((t ++ v) ++ u) o k x (length (t ++ v)) i (quote p u r c) bad (fails p u r c),
 )
 
-module _ (d : Document) (k : IsOfString d.token) (unset : d.fault ≡ None) (t : List ℕ) (h : HasCome d t) where
+module _ (d : Document) (k : IsOfString d.token) (unset : d.fault ≡ None) (t : List ℕ) (h : HasTakenAll d t) where
   abbrev o : Opened
   o = h.read.opened
 
-  held : Holding d t o
+  held : HoldsOpened d t o
   held = h.read.held unset
 
   inside : IsInside o
@@ -341,7 +341,7 @@ module _ (d : Document) (k : IsOfString d.token) (unset : d.fault ≡ None) (t :
 
   -- Where a byte of it is wrong it is refused.
   module _ (s : PartialString) (chunk : List ℕ) (at back : ℕ) (kind : FaultKind) (there : at < length chunk)
-      (goes : (w : List ℕ) → HasTaken d.string w → Goes s w chunk at (went.Wrong kind back)) where
+      (goes : (w : List ℕ) → HasTaken d.string w → GoesOnWith s w chunk at (went.Wrong kind back)) where
     pub wrong-low : back ≤ d.position
     wrong-low =
         let g = goes string-in.rest string-in.taken_so in
@@ -367,14 +367,14 @@ module _ (d : Document) (k : IsOfString d.token) (unset : d.fault ≡ None) (t :
         (next-byte d.string t b string-in T u c text ∙ sym here) form
         ∙ ap (failed (fault_kind kind)) place
 
-    pub wrong-refused : IsRefused d anything (t ++ slice_range chunk at (at + 1)) (fault_kind kind) (d.position - back)
+    pub wrong-refused : IsRefused d any_bytes (t ++ slice_range chunk at (at + 1)) (fault_kind kind) (d.position - back)
     wrong-refused =
         let text = λ (u : List ℕ). append_assoc t (c ∷ []) u in
         let T = λ (u : List ℕ). (t ++ c ∷ []) ++ u in
         let low : (u : List ℕ) → d.position - back < length (T u) =
         λ u. omega (arith, h.position, length-append t (c ∷ []), length-append (t ++ c ∷ []) u) in
-        subst (λ w. IsRefused d anything (t ++ w) (fault_kind kind) (d.position - back)) (sym one)
-        (refused-so anything anything d t (c ∷ []) o (fault_kind kind) (d.position - back) inside h.read.known
+        subst (λ w. IsRefused d any_bytes (t ++ w) (fault_kind kind) (d.position - back)) (sym one)
+        (refused-so any_bytes any_bytes d t (c ∷ []) o (fault_kind kind) (d.position - back) inside h.read.known
         (λ u x. tt)
         (fault-kept (T []) (begin_of o + 1) (d.position - back) (fault_kind kind) (low [])
         (wrong-content whole (T []) [] (text [])))
@@ -402,17 +402,17 @@ module _ (d : Document) (k : IsOfString d.token) (unset : d.fault ≡ None) (t :
     quoted : (T u : List ℕ) → T ≡ t ++ 34 ∷ u → slice_get T (begin_of o) ≡ Some 34
     quoted T u is = quote-here d.string t (begin_of o) string-in T (34 ∷ u) is
 
-    content : (keep answer : Bool) → IsClosedAs d.string keep answer → (T u : List ℕ) → T ≡ t ++ 34 ∷ u
-        → content_at (text_form keep) T (begin_of o + 1)
+    content : (partial answer : Bool) → IsClosedAs d.string partial answer → (T u : List ℕ) → T ≡ t ++ 34 ∷ u
+        → content_at (text_form partial) T (begin_of o + 1)
         ≡ text_or answer (begin_of o + 1) string-in.taken_so.escaped text (length t + 1)
-    content keep answer is = content-closed d.string t (begin_of o) string-in keep answer is none
+    content partial answer is = content-closed d.string t (begin_of o) string-in partial answer is none
 
     -- a text that each reading takes is the string's,
     text-is : (e : Document) (q : Opened) → IsInside q → begin_of q ≡ begin_of o
         → ((p : Settings) (u : List ℕ) → IsReading e p
         → content_at (form_of p q) (on u) (begin_of o + 1)
         ≡ text_or true (begin_of o + 1) string-in.taken_so.escaped text (length t + 1))
-        → IsTextAs e anything (t ++ 34 ∷ []) q text
+        → IsTextAs e any_bytes (t ++ 34 ∷ []) q text
     text-is e (between_tokens s) i same is = i
     text-is e (in_scalar fs b) i same is = λ p u r x.
         scalar-done p (on u) b (ap (slice_get (on u)) same ∙ quoted (on u) u (on-is u)) (length fs) (length t + 1) _ i
@@ -429,7 +429,7 @@ module _ (d : Document) (k : IsOfString d.token) (unset : d.fault ≡ None) (t :
     closed-form (in_scalar fs b) p T i e x h = form-taken (allows_trailing_strings p.mode) T i e x h
     closed-form (in_key fs ms b) p T i e x h = h
 
-    pub whole-text : IsClosedAs d.string false true → IsTextAs d anything (t ++ 34 ∷ []) o text
+    pub whole-text : IsClosedAs d.string false true → IsTextAs d any_bytes (t ++ 34 ∷ []) o text
     whole-text is =
         text-is d o inside refl
         (λ p u r. closed-form o p (on u) (begin_of o + 1) (length t + 1) _ (content false true is (on u) u (on-is u)))
@@ -438,18 +438,18 @@ module _ (d : Document) (k : IsOfString d.token) (unset : d.fault ≡ None) (t :
     module _ (kept : Bool) (text_kept : d.token ≡ token.Text → kept ≡ allows_trailing_strings d.settings.mode)
         (key_kept : d.token ≡ token.Key → kept ≡ false) (broken : IsClosedAs d.string false false) where
       -- by each form that reads it, where the answer is the same for what is kept,
-      form-closed : (answer : Bool) → IsClosedAs d.string kept answer → (q : Opened) → Holding d t q → (T u : List ℕ)
+      form-closed : (answer : Bool) → IsClosedAs d.string kept answer → (q : Opened) → HoldsOpened d t q → (T u : List ℕ)
           → T ≡ t ++ 34 ∷ u → content_at (form_of d.settings q) T (begin_of o + 1)
           ≡ text_or answer (begin_of o + 1) string-in.taken_so.escaped text (length t + 1)
       form-closed answer is (between_tokens s) h T u at = absurd (no-token d.token k h.0)
       form-closed answer is (in_scalar fs b) h T u at =
           let same = text_kept (held-scalar d d.token h.0 refl k h.2).0 in
-          subst (λ keep. content_at (text_form keep) T (begin_of o + 1)
+          subst (λ partial. content_at (text_form partial) T (begin_of o + 1)
           ≡ text_or answer (begin_of o + 1) string-in.taken_so.escaped text (length t + 1)) same
           (content kept answer is T u at)
       form-closed answer is (in_key fs ms b) h T u at =
           let same = key_kept h.2 in
-          subst (λ keep. content_at (text_form keep) T (begin_of o + 1)
+          subst (λ partial. content_at (text_form partial) T (begin_of o + 1)
           ≡ text_or answer (begin_of o + 1) string-in.taken_so.escaped text (length t + 1)) same
           (content kept answer is T u at)
 
@@ -470,9 +470,9 @@ module _ (d : Document) (k : IsOfString d.token) (unset : d.fault ≡ None) (t :
         index-is = omega (arith, is-placed d t k o held, place)
 
         pub closed-refused : IsClosedAs d.string kept false
-            → IsRefused d anything (t ++ 34 ∷ []) invalid_code_point index
+            → IsRefused d any_bytes (t ++ 34 ∷ []) invalid_code_point index
         closed-refused is =
-            refused-so anything anything d t (34 ∷ []) o invalid_code_point index inside h.read.known (λ u x. tt) refl
+            refused-so any_bytes any_bytes d t (34 ∷ []) o invalid_code_point index inside h.read.known (λ u x. tt) refl
             (λ p u r x. quoted (on u) u (on-is u)) (λ p u r x. by p u r ∙ ap (failed invalid_code_point) index-is) where
               by : (p : Settings) (u : List ℕ) → IsReading d p
                   → content_at (form_of p o) (on u) (begin_of o + 1)
@@ -490,7 +490,7 @@ module _ (d : Document) (k : IsOfString d.token) (unset : d.fault ≡ None) (t :
         abbrev noted : Document
         noted = with_first d (noted_in d.first fault_of.InvalidUnicodeCodePoint index)
 
-        is-kept : (keep : Bool) → IsClosedAs d.string keep true → keep ≡ true
+        is-kept : (partial : Bool) → IsClosedAs d.string partial true → partial ≡ true
         is-kept true is = refl
         is-kept false is =
             absurd (failed-taken _ _ _ _ (sym (content false false broken (on []) [] (on-is []))
@@ -505,7 +505,7 @@ module _ (d : Document) (k : IsOfString d.token) (unset : d.fault ≡ None) (t :
         on-mode (inl x) on off = not-off d.settings.mode (sym (text_kept x) ∙ on) off
         on-mode (inr x) on off = absurd (false≢true (sym (key_kept x) ∙ on))
 
-        strict-noted : (u : List ℕ) → Comes (with_byte 34) u → (f : Option Fault)
+        strict-noted : (u : List ℕ) → MayFollow (with_byte 34) u → (f : Option Fault)
             → ReadsAt (strictly d.settings) t u f o
             → ReadsAt (strictly d.settings) t u (noted_in f fault_of.InvalidUnicodeCodePoint index) o
         strict-noted u c (Some f) reads = reads
@@ -519,13 +519,13 @@ module _ (d : Document) (k : IsOfString d.token) (unset : d.fault ≡ None) (t :
                   (quoted T c.0 at) refl (strict-fails T c.0 at ∙ ap (failed invalid_code_point) index-is)),
             )
 
-        reads-noted : (by : Strictness) (u : List ℕ) → Comes (with_byte 34) u
+        reads-noted : (by : Strictness) (u : List ℕ) → MayFollow (with_byte 34) u
             → ReadsAt (settings_by by noted.settings) t u (fault_by by noted.fault noted.first) o
         reads-noted by_mode u c = h.read.known.reads by_mode u tt
         reads-noted strict u c = strict-noted u c d.first (h.read.known.reads strict u tt)
 
         module _ (is : IsClosedAs d.string kept true) where
-          pub noted-known : Known (with_byte 34) noted t o
+          pub noted-known : ReadSoFar (with_byte 34) noted t o
           noted-known = record {
             reads = reads-noted;
             ends = λ e. ends-inside t o inside;
@@ -533,9 +533,9 @@ module _ (d : Document) (k : IsOfString d.token) (unset : d.fault ≡ None) (t :
             same = λ off e. absurd (on-mode k (is-kept kept is) off);
           }
 
-          pub noted-held : Holding noted t o
+          pub noted-held : HoldsOpened noted t o
           noted-held =
-              subst (λ t. Holding noted t o) (append-nil t)
+              subst (λ t. HoldsOpened noted t o) (append-nil t)
               (goes-on d t k d.string (noted_in d.first fault_of.InvalidUnicodeCodePoint index) []
               (λ w x. subst (HasTaken d.string) (sym (append-nil w)) x) o held)
 
@@ -544,7 +544,7 @@ module _ (d : Document) (k : IsOfString d.token) (unset : d.fault ≡ None) (t :
           noted-reading p (strict, same, none) =
               absurd (noted-some d.first fault_of.InvalidUnicodeCodePoint index none)
 
-          pub noted-text : IsTextAs noted anything (t ++ 34 ∷ []) o text
+          pub noted-text : IsTextAs noted any_bytes (t ++ 34 ∷ []) o text
           noted-text =
               text-is noted o inside refl
               (λ p u r. subst (λ q. content_at (form_of q o) (on u) (begin_of o + 1)

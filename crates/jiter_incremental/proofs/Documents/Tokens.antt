@@ -5,18 +5,18 @@ use Rattle.jiter_incremental.proofs.Words.{append_assoc, length-append, slice_ra
 use Rattle.jiter_incremental.proofs.Words.{Some, None, append-nil, slice_get-get_or, get_or_from_slice_get, if_case}
 use Rattle.jiter_incremental.proofs.Words.{slice-one, slice_range-split, stands-length, slice-stands, word_at-complete}
 use Rattle.jiter_incremental.proofs.Words.{word_at-sound, Kind, expected_value, invalid_number, is_forgiven}
-use Rattle.jiter_incremental.proofs.Words.{number_value, after_minus, extent_from, number_extent, HoldsNumber, IsBegun}
-use Rattle.jiter_incremental.proofs.Words.{Leads, begins_decimal, number_by, number_from, word_by, word_from, is_active}
-use Rattle.jiter_incremental.proofs.Words.{taken, failed, Stands, Extent, word_at, PartialNumber, PartialWord}
+use Rattle.jiter_incremental.proofs.Words.{number_value, after_minus, span_from, number_span, HoldsNumber, IsBegun}
+use Rattle.jiter_incremental.proofs.Words.{StepsTo, begins_decimal, number_by, number_from, word_by, word_from, is_active}
+use Rattle.jiter_incremental.proofs.Words.{taken, failed, Stands, Span, word_at, PartialNumber, PartialWord}
 use Rattle.jiter_incremental.proofs.Words.{resume-fault, inside_at-starts, nothing_forgiven, seen_as, resume, value_in}
 use Rattle.jiter_incremental.proofs.Words.{literal_at, literal_tree, start_of, word_of, nesting_limit, number_tree}
 use Rattle.jiter_incremental.proofs.Words.{HasTaken, Rules, done, fault, prefix_answer, scalar_at, Text, Tree, Literal}
-use Rattle.jiter_incremental.proofs.Words.{Start, IsLeft, at_value, owned, BeginsAs, BeginsHere, Comes, Document}
-use Rattle.jiter_incremental.proofs.Words.{Follows, HasCome, HasTakenIn, Holding, HoldsMinus, HoldsScalar, HoldsString}
-use Rattle.jiter_incremental.proofs.Words.{HoldsWord, IsAllowed, IsNumberWithin, IsReadAs, IsReading, IsRefused, Known}
-use Rattle.jiter_incremental.proofs.Words.{NameBegins, Next, Opened, TakenFrom, WordBegins, anything, between_tokens}
+use Rattle.jiter_incremental.proofs.Words.{Start, IsLeft, at_value, owned, BeginsAs, BeginsHere, MayFollow, Document}
+use Rattle.jiter_incremental.proofs.Words.{Follows, HasTakenAll, HasTakenIn, HoldsOpened, HoldsMinus, HoldsScalar, HoldsString}
+use Rattle.jiter_incremental.proofs.Words.{HoldsWord, IsAllowed, IsNumberWithin, IsReadAs, IsReading, IsRefused, ReadSoFar}
+use Rattle.jiter_incremental.proofs.Words.{NameBegins, Next, Opened, TakenFrom, WordBegins, any_bytes, between_tokens}
 use Rattle.jiter_incremental.proofs.Words.{in_key, in_scalar, own_number, by_mode, strict, with_byte, name_start}
-use Rattle.jiter_incremental.proofs.Words.{name_tree, name_word, OpenFrame, owned_text, tree_as, rules_as, Name, Token}
+use Rattle.jiter_incremental.proofs.Words.{name_tree, name_word, OpenFrame, owned_text, tree_as, rules_as, WordValue, Token}
 use Rattle.jiter_incremental.proofs.Words.{Settings}
 use Rattle.std.proofs.Math.Seq.{drop-append_seam, take-append_seam}
 use Rattle.std.proofs.lemmas.Bool.Decides.{nat_tests}
@@ -25,17 +25,17 @@ use Rattle.jiter_scan.proofs.WordLaws.{word_at-same}
 use Rattle.jiter_scan.specs.Kind.{expected_ident}
 use Rattle.jiter_scan.specs.NumberReading.{number_at}
 use Rattle.jiter_scan.specs.NumberReading.{with_value}
-use Rattle.jiter_scan.specs.declared.partial_number.Went.{Went}
-use Rattle.jiter_scan.specs.declared.partial_number.Went.TheVariants as went
-use Rattle.jiter_scan.specs.declared.partial_word.Seen.TheVariants as seen
+use Rattle.jiter_scan.specs.declared.partial_number.NumberStep.{NumberStep}
+use Rattle.jiter_scan.specs.declared.partial_number.NumberStep.TheVariants as went
+use Rattle.jiter_scan.specs.declared.partial_word.WordStep.TheVariants as seen
 use Rattle.jiter_steps.specs.Read.{inside_at, value_with}
 use Rattle.jiter_steps.specs.declared.parse.Literal.TheVariants as literal
 use Rattle.jiter_steps.specs.declared.parse.Start.TheVariants as start
 use Rattle.jiter_incremental.proofs.Chunks.{range-long}
 use Rattle.jiter_incremental.proofs.Documents.{Keeps, byte-first, follows-byte, known-as, known-in, reads-so}
 use Rattle.jiter_incremental.specs.Document.{EndsBefore}
-use Rattle.jiter_incremental.specs.Names.{name_bytes, name_extent}
-use Rattle.jiter_incremental.specs.declared.names.Name.TheVariants as name
+use Rattle.jiter_incremental.specs.Names.{name_bytes, name_span}
+use Rattle.jiter_incremental.specs.declared.names.WordValue.TheVariants as name
 use Rattle.jiter_incremental.specs.declared.reader.Token.TheVariants as token
 use Rattle.jiter_incremental.specs.declared.reader.Awaits.TheVariants as awaits
 
@@ -69,7 +69,7 @@ module _ (prefix w t : List ℕ) (b : ℕ) (is : t ≡ prefix ++ w) (begin : len
       subst (λ v. Stands v b (b + length w) w) (sym (ap (λ v. v ++ u) is ∙ append_assoc prefix w u))
       (subst (λ k. Stands (prefix ++ (w ++ u)) k (k + length w) w) begin (stands-prefix prefix w u))
 
--- ---- what is read where a scalar stands
+-- ---- what is read where a scalar is
 module _ (p : Settings) (t : List ℕ) where
   abbrev r : Rules Text Tree
   r = rules_as owned p
@@ -84,26 +84,26 @@ module _ (p : Settings) (t : List ℕ) where
     begins-so s h =
         inside_at-starts r t (201 - depth) b s (omega (arith, few)) (ap start_of (get_or_from_slice_get t b c 0 here) ∙ h)
 
-    number-in : (x : Extent) → start_of c ≡ start.Number → number_extent p.allow_inf_nan t b ≡ x
+    number-in : (x : Span) → start_of c ≡ start.Number → number_span p.allow_inf_nan t b ≡ x
         → value_in r t depth b
         ≡ scalar_at b (seen_as (λ n e. tree_as owned_text (number_tree n)) (with_value t b x))
     unfolding number_at
     number-in x h e =
         begins-so start.Number h
-        ∙ ap (λ (y : Extent). scalar_at b (seen_as (λ n e. tree_as owned_text (number_tree n)) (with_value t b y))) e
+        ∙ ap (λ (y : Span). scalar_at b (seen_as (λ n e. tree_as owned_text (number_tree n)) (with_value t b y))) e
 
-    literal-in : (l : Literal) (x : Extent) → start_of c ≡ start.Literal l → literal_at t l b ≡ x
+    literal-in : (l : Literal) (x : Span) → start_of c ≡ start.Literal l → literal_at t l b ≡ x
         → value_in r t depth b ≡ scalar_at b (seen_as (λ u e. literal_tree l) x)
     literal-in l x h e =
-        begins-so (start.Literal l) h ∙ ap (λ (y : Extent). scalar_at b (seen_as (λ u e. literal_tree l) y)) e
+        begins-so (start.Literal l) h ∙ ap (λ (y : Span). scalar_at b (seen_as (λ u e. literal_tree l) y)) e
 
-    name-in : (x : Extent) → start_of c ≡ start.Number → p.allow_inf_nan ≡ true → number_extent true t b ≡ x
+    name-in : (x : Span) → start_of c ≡ start.Number → p.allow_inf_nan ≡ true → number_span true t b ≡ x
         → value_in r t depth b
         ≡ scalar_at b (seen_as (λ n e. tree_as owned_text (number_tree n)) (with_value t b x))
-    name-in x h ok e = number-in x h (ap (λ n. number_extent n t b) ok ∙ e)
+    name-in x h ok e = number-in x h (ap (λ n. number_span n t b) ok ∙ e)
 
     -- a word, whole,
-    pub word-done : (k : Name) (e : ℕ) → start_of c ≡ name_start k → IsAllowed p k → name_extent k t b ≡ taken tt e
+    pub word-done : (k : WordValue) (e : ℕ) → start_of c ≡ name_start k → IsAllowed p k → name_span k t b ≡ taken tt e
         → slice_range t b e ≡ name_bytes k → value_in r t depth b ≡ done (name_tree k) e
     unfolding number_value
     word-done (name.Literal l) e h ok x is = literal-in l (taken tt e) h x
@@ -111,21 +111,21 @@ module _ (p : Settings) (t : List ℕ) where
     word-done name.Infinity e h ok x is = name-in (taken tt e) h ok x ∙ ap (λ w. done (own_number w) e) is
     word-done name.MinusInfinity e h ok x is = name-in (taken tt e) h ok x ∙ ap (λ w. done (own_number w) e) is
 
-    -- and with a fault
-    pub word-failed : (k : Name) (f : Kind) (j : ℕ) → start_of c ≡ name_start k → IsAllowed p k
-        → name_extent k t b ≡ failed f j → value_in r t depth b ≡ fault f j b
+    -- and with an error
+    pub word-failed : (k : WordValue) (f : Kind) (j : ℕ) → start_of c ≡ name_start k → IsAllowed p k
+        → name_span k t b ≡ failed f j → value_in r t depth b ≡ fault f j b
     word-failed (name.Literal l) f j h ok x = literal-in l (failed f j) h x
     word-failed name.NaN f j h ok x = name-in (failed f j) h ok x
     word-failed name.Infinity f j h ok x = name-in (failed f j) h ok x
     word-failed name.MinusInfinity f j h ok x = name-in (failed f j) h ok x
 
     -- the same of a number
-    pub number-done : (w : List ℕ) (e : ℕ) → start_of c ≡ start.Number → number_extent p.allow_inf_nan t b ≡ taken tt e
+    pub number-done : (w : List ℕ) (e : ℕ) → start_of c ≡ start.Number → number_span p.allow_inf_nan t b ≡ taken tt e
         → slice_range t b e ≡ w → value_in r t depth b ≡ done (own_number w) e
     number-done w e h x is = number-in (taken tt e) h x ∙ ap (λ v. done (own_number v) e) is
 
     pub number-failed : (f : Kind) (j : ℕ) → start_of c ≡ start.Number
-        → number_extent p.allow_inf_nan t b ≡ failed f j → value_in r t depth b ≡ fault f j b
+        → number_span p.allow_inf_nan t b ≡ failed f j → value_in r t depth b ≡ fault f j b
     number-failed f j h x = number-in (failed f j) h x
 
 -- ---- words
@@ -155,9 +155,9 @@ nan-begins = record {
   number = refl;
   allowed = record {
     spelled = refl;
-    goes = λ t b here. ap (extent_from true t b) here ∙ word_at-same t (codes "NaN") 0 b 78 (omega arith) here refl;
+    goes = λ t b here. ap (span_from true t b) here ∙ word_at-same t (codes "NaN") 0 b 78 (omega arith) here refl;
   };
-  denied = λ t b here. ap (extent_from false t b) here;
+  denied = λ t b here. ap (span_from false t b) here;
 }
 
 pub infinity-begins : NameBegins name.Infinity 73
@@ -166,24 +166,24 @@ infinity-begins = record {
   number = refl;
   allowed = record {
     spelled = refl;
-    goes = λ t b here. ap (extent_from true t b) here
+    goes = λ t b here. ap (span_from true t b) here
         ∙ word_at-same t (codes "Infinity") 0 b 73 (omega arith) here refl;
   };
-  denied = λ t b here. ap (extent_from false t b) here;
+  denied = λ t b here. ap (span_from false t b) here;
 }
 
 -- the name after a minus
 pub minus-goes : (t : List ℕ) (b : ℕ) → Stands t b (b + 2) (45 ∷ 73 ∷ [])
-    → number_extent true t b ≡ word_from (codes "Infinity") 1 t (b + 2)
+    → number_span true t b ≡ word_from (codes "Infinity") 1 t (b + 2)
 minus-goes t b h =
     let place : b + 1 + 1 ≡ b + 2 = omega arith in
-    ap (extent_from true t b) h.0 ∙ ap (after_minus true t (b + 1)) h.1.0
+    ap (span_from true t b) h.0 ∙ ap (after_minus true t (b + 1)) h.1.0
     ∙ word_at-same t (codes "Infinity") 0 (b + 1) 73 (omega arith) h.1.0 refl
     ∙ ap (word_at t (drop 1 (codes "Infinity"))) place
 
 pub minus-fails : (t : List ℕ) (b : ℕ) → Stands t b (b + 2) (45 ∷ 73 ∷ [])
-    → number_extent false t b ≡ failed invalid_number (b + 1)
-minus-fails t b h = ap (extent_from false t b) h.0 ∙ ap (after_minus false t (b + 1)) h.1.0
+    → number_span false t b ≡ failed invalid_number (b + 1)
+minus-fails t b h = ap (span_from false t b) h.0 ∙ ap (after_minus false t (b + 1)) h.1.0
 
 -- a word of which one byte more was seen
 module _ (w : List ℕ) (n m : ℕ) (c : ℕ)
@@ -207,8 +207,8 @@ module _ (w : List ℕ) (n m : ℕ) (c : ℕ)
         slice-stands rest 0 (length rest) (drop n w) (word_at-sound rest (drop n w) 0 (length rest) tt rest-read)
         ∙ sym (slice-stands rest 0 (length rest) rest (stands-whole rest))
 
-pub number-known : (n : Next) (d : Document) (m : PartialNumber) (t : List ℕ) (o : Opened) → Known n d t o
-    → Known n (record d { number = m }) t o
+pub number-known : (n : Next) (d : Document) (m : PartialNumber) (t : List ℕ) (o : Opened) → ReadSoFar n d t o
+    → ReadSoFar n (record d { number = m }) t o
 number-known n d m t o =
     known-as n d (record d { number = m }) t o (refl, refl, refl)
 
@@ -216,16 +216,16 @@ pub reading-names : (d : Document) (p : Settings) → IsReading d p → p.allow_
 reading-names d p (by_mode, is, none) = ap (λ q. q.allow_inf_nan) is
 reading-names d p (strict, is, none) = ap (λ q. q.allow_inf_nan) is
 
-reading-allows : (d : Document) (p : Settings) (k : Name) → IsReading d p → IsAllowed d.settings k → IsAllowed p k
+reading-allows : (d : Document) (p : Settings) (k : WordValue) → IsReading d p → IsAllowed d.settings k → IsAllowed p k
 reading-allows d p (name.Literal l) h ok = tt
 reading-allows d p name.NaN h ok = reading-names d p h ∙ ok
 reading-allows d p name.Infinity h ok = reading-names d p h ∙ ok
 reading-allows d p name.MinusInfinity h ok = reading-names d p h ∙ ok
 
--- A scalar with a fault is refused.
+-- A scalar with an error is refused.
 pub scalar-refused : (n m : Next) (d : Document) (t w : List ℕ) (fs : List OpenFrame) (b : ℕ) (k : Kind) (i : ℕ)
-    → Known n d t (in_scalar fs b) → Follows n w m → is_forgiven k ≡ false
-    → ((p : Settings) (u : List ℕ) → IsReading d p → Comes m u
+    → ReadSoFar n d t (in_scalar fs b) → Follows n w m → is_forgiven k ≡ false
+    → ((p : Settings) (u : List ℕ) → IsReading d p → MayFollow m u
     → value_in (rules_as owned p) (t ++ (w ++ u)) (length fs) b ≡ fault k i b)
     → IsRefused d m (t ++ w) k i
 scalar-refused n m d t w fs b k i known follows bad fails = λ p u reading comes. (
@@ -241,10 +241,10 @@ scalar-refused n m d t w fs b k i known follows bad fails = λ p u reading comes
 -- a scalar, of which these bytes begin with the one that comes
 pub scalar-begins : (d e : Document) (t : List ℕ) (c : ℕ) (w : List ℕ) (fs : List OpenFrame) → BeginsHere c d t fs
     → Keeps d e → e.value ≡ d.value → e.begin ≡ d.position → HoldsScalar e e.token (c ∷ w)
-    → HasTakenIn anything e (t ++ c ∷ w)
+    → HasTakenIn any_bytes e (t ++ c ∷ w)
 scalar-begins d e t c w fs h k value begin held = record {
   opened = in_scalar fs (length t);
-  known = known-in (with_byte c) anything d e t (c ∷ w) (in_scalar fs (length t)) h.low k
+  known = known-in (with_byte c) any_bytes d e t (c ∷ w) (in_scalar fs (length t)) h.low k
       (λ u comes. (w ++ u, refl)) h.known;
   held = λ unset. (
     c ∷ w,
@@ -255,7 +255,7 @@ scalar-begins d e t c w fs h k value begin held = record {
   );
 }
 
-pub word-held : (k : Name) (o : PartialWord) (c : ℕ) → WordBegins k c → o.word.now ≡ name_word k → o.seen ≡ 1
+pub word-held : (k : WordValue) (o : PartialWord) (c : ℕ) → WordBegins k c → o.word.now ≡ name_word k → o.seen ≡ 1
     → HoldsWord k o (c ∷ [])
 word-held k o c h is one = record {
   word = is;
@@ -264,10 +264,10 @@ word-held k o c h is one = record {
       ∙ ap (λ n. word_from o.word.now n t (b + 1)) (sym one);
 }
 
-pub word-begins : (d e : Document) (k : Name) (t : List ℕ) (c : ℕ) (fs : List OpenFrame) → BeginsHere c d t fs
+pub word-begins : (d e : Document) (k : WordValue) (t : List ℕ) (c : ℕ) (fs : List OpenFrame) → BeginsHere c d t fs
     → Keeps d e → e.value ≡ d.value → e.begin ≡ d.position → e.token ≡ token.Word → e.name ≡ k
     → HoldsWord k e.word (c ∷ []) → IsAllowed d.settings k → start_of c ≡ name_start k
-    → HasTakenIn anything e (t ++ c ∷ [])
+    → HasTakenIn any_bytes e (t ++ c ∷ [])
 word-begins d e k t c fs h keeps value begin tok is held ok starts =
     scalar-begins d e t c [] fs h keeps value begin
     (subst (λ o. HoldsScalar e o (c ∷ [])) (sym tok)
@@ -280,7 +280,7 @@ word-begins d e k t c fs h keeps value begin tok is held ok starts =
 -- a number, with bytes after its first one
 pub number-begins : (d e : Document) (t : List ℕ) (c : ℕ) (w : List ℕ) (fs : List OpenFrame) → BeginsHere c d t fs
     → Keeps d e → e.value ≡ d.value → e.begin ≡ d.position → e.token ≡ token.Number → e.number ≡ d.number
-    → start_of c ≡ start.Number → HoldsNumber d.number (c ∷ w) → HasTakenIn anything e (t ++ c ∷ w)
+    → start_of c ≡ start.Number → HoldsNumber d.number (c ∷ w) → HasTakenIn any_bytes e (t ++ c ∷ w)
 number-begins d e t c w fs h keeps value begin tok is starts held =
     scalar-begins d e t c w fs h keeps value begin
     (subst (λ o. HoldsScalar e o (c ∷ w)) (sym tok) (
@@ -293,18 +293,18 @@ pub infinity-first : (c : ℕ) → start_of c ≡ start.Number → begins_decima
 infinity-first c h named n = grind (arith, nat_tests, h, named, n)
 
 -- a name where names are not allowed
-pub name-denied : (d : Document) (k : Name) (t : List ℕ) (c : ℕ) (fs : List OpenFrame) → BeginsHere c d t fs
+pub name-denied : (d : Document) (k : WordValue) (t : List ℕ) (c : ℕ) (fs : List OpenFrame) → BeginsHere c d t fs
     → NameBegins k c → d.settings.allow_inf_nan ≡ false
-    → IsRefused d anything (t ++ c ∷ []) expected_value d.position
+    → IsRefused d any_bytes (t ++ c ∷ []) expected_value d.position
 name-denied d k t c fs h begins off =
-    subst (λ i. IsRefused d anything (t ++ c ∷ []) expected_value i) (sym h.position)
-    (scalar-refused (with_byte c) anything d t (c ∷ []) fs (length t) expected_value (length t) h.known (follows-byte c)
+    subst (λ i. IsRefused d any_bytes (t ++ c ∷ []) expected_value i) (sym h.position)
+    (scalar-refused (with_byte c) any_bytes d t (c ∷ []) fs (length t) expected_value (length t) h.known (follows-byte c)
     refl
     (λ p u reading comes.
     let here = byte-first c t u in
     number-failed p (t ++ c ∷ u) (length fs) (length t) c h.low here expected_value (length t)
     (begins.starts ∙ begins.number)
-    (ap (λ n. number_extent n (t ++ c ∷ u) (length t)) (reading-names d p reading ∙ off)
+    (ap (λ n. number_span n (t ++ c ∷ u) (length t)) (reading-names d p reading ∙ off)
     ∙ begins.denied (t ++ c ∷ u) (length t) here)))
 
 -- a string
@@ -313,7 +313,7 @@ string-held e c is fresh = record { rest = []; is = ap (λ x. x ∷ []) is; take
 
 pub string-begins : (d e : Document) (t : List ℕ) (c : ℕ) (fs : List OpenFrame) → BeginsHere c d t fs → Keeps d e
     → e.value ≡ d.value → e.begin ≡ d.position → e.token ≡ token.Text → c ≡ 34 → HasTaken e.string []
-    → HasTakenIn anything e (t ++ c ∷ [])
+    → HasTakenIn any_bytes e (t ++ c ∷ [])
 string-begins d e t c fs h keeps value begin tok is fresh =
     scalar-begins d e t c [] fs h keeps value begin
     (subst (λ o. HoldsScalar e o (c ∷ [])) (sym tok) (string-held e c is fresh))
@@ -325,7 +325,7 @@ pub record Unfinished (d : Document) (t : List ℕ) (k : Token) : Type 0 where
   pub frames : List OpenFrame
   pub begin : ℕ
   pub bytes : List ℕ
-  pub known : Known anything d t (in_scalar frames begin)
+  pub known : ReadSoFar any_bytes d t (in_scalar frames begin)
   pub from : TakenFrom d t begin bytes
   pub held : HoldsScalar d k bytes
   pub left : IsLeft d.value (at_value awaits.Value frames)
@@ -344,7 +344,7 @@ plain-key k (inl e) n = absurd (cc)
 plain-key k (inr e) n = absurd (cc)
 
 unfinished-in : (d : Document) (t : List ℕ) (k : Token) (o : Opened) → d.token ≡ k → IsPlain k
-    → Known anything d t o → Holding d t o → Unfinished d t k
+    → ReadSoFar any_bytes d t o → HoldsOpened d t o → Unfinished d t k
 unfinished-in d t k (between_tokens s) is plain known h = absurd (plain-nothing k plain (sym is ∙ h.0))
 unfinished-in d t k (in_scalar fs b) is plain known h = record {
   frames = fs;
@@ -358,15 +358,15 @@ unfinished-in d t k (in_scalar fs b) is plain known h = record {
 }
 unfinished-in d t k (in_key fs ms b) is plain known h = absurd (plain-key k plain (sym is ∙ h.2))
 
-unfinished : (d : Document) (t : List ℕ) (k : Token) → IsPlain k → HasCome d t → d.fault ≡ None
+unfinished : (d : Document) (t : List ℕ) (k : Token) → IsPlain k → HasTakenAll d t → d.fault ≡ None
     → d.token ≡ k → Unfinished d t k
 unfinished d t k plain h unset is = unfinished-in d t k h.read.opened is plain h.read.known (h.read.held unset)
 
-pub word-open : (d : Document) (t : List ℕ) → HasCome d t → d.fault ≡ None → d.token ≡ token.Word
+pub word-open : (d : Document) (t : List ℕ) → HasTakenAll d t → d.fault ≡ None → d.token ≡ token.Word
     → Unfinished d t token.Word
 word-open d t h unset is = unfinished d t token.Word (inl refl) h unset is
 
-pub number-open : (d : Document) (t : List ℕ) → HasCome d t → d.fault ≡ None → d.token ≡ token.Number
+pub number-open : (d : Document) (t : List ℕ) → HasTakenAll d t → d.fault ≡ None → d.token ≡ token.Number
     → Unfinished d t token.Number
 number-open d t h unset is = unfinished d t token.Number (inr refl) h unset is
 
@@ -395,10 +395,10 @@ module _ (d : Document) (t : List ℕ) (k : Token) (x : Unfinished d t k) where
 
   -- The bytes w are taken into it.
   pub token-on : (e : Document) (w : List ℕ) → Keeps d e → e.value ≡ d.value → e.begin ≡ d.begin
-      → HoldsScalar e e.token (x.bytes ++ w) → HasTakenIn anything e (t ++ w)
+      → HoldsScalar e e.token (x.bytes ++ w) → HasTakenIn any_bytes e (t ++ w)
   token-on e w keeps value begin held = record {
     opened = in_scalar x.frames x.begin;
-    known = known-in anything anything d e t w (in_scalar x.frames x.begin) x.low keeps (λ u comes. tt) x.known;
+    known = known-in any_bytes any_bytes d e t w (in_scalar x.frames x.begin) x.low keeps (λ u comes. tt) x.known;
     held = λ unset. (
       x.bytes ++ w,
       record {
@@ -414,7 +414,7 @@ module _ (d : Document) (t : List ℕ) (k : Token) (x : Unfinished d t k) where
   }
 
 -- ---- a byte of a word
-module _ (k : Name) (o m : PartialWord) (w : List ℕ) (c : ℕ) (h : HoldsWord k o w) where
+module _ (k : WordValue) (o m : PartialWord) (w : List ℕ) (c : ℕ) (h : HoldsWord k o w) where
   -- one more of it
   word-on : m.word.now ≡ o.word.now
       → ((t : List ℕ) (j : ℕ) → slice_get t j ≡ Some c
@@ -441,8 +441,8 @@ module _ (k : Name) (o m : PartialWord) (w : List ℕ) (c : ℕ) (h : HoldsWord 
     abbrev j : ℕ
     j = b + length w
 
-    last-extent : name_extent k t b ≡ taken tt (j + 1)
-    last-extent = h.goes t b s ∙ leads t j here
+    last-span : name_span k t b ≡ taken tt (j + 1)
+    last-span = h.goes t b s ∙ leads t j here
 
     last-bytes : slice_range t b (j + 1) ≡ name_bytes k
     last-bytes =
@@ -461,7 +461,7 @@ module _ (d : Document) (t : List ℕ) (x : Unfinished d t token.Word) (m : Part
   pub word-goes-on : d.token ≡ token.Word → m.word.now ≡ d.word.word.now
       → ((t : List ℕ) (j : ℕ) → slice_get t j ≡ Some c
       → word_from d.word.word.now d.word.seen t j ≡ word_by d.word.word.now m.seen t j seen.Part)
-      → HasTakenIn anything (record d { word = m }) (t ++ c ∷ [])
+      → HasTakenIn any_bytes (record d { word = m }) (t ++ c ∷ [])
   word-goes-on is same leads =
       let e : Document = record d { word = m } in
       token-on d t token.Word x e (c ∷ []) (refl, refl, refl) refl refl
@@ -474,7 +474,7 @@ module _ (d : Document) (t : List ℕ) (x : Unfinished d t token.Word) (m : Part
   -- ends,
   pub word-ends : ((t : List ℕ) (j : ℕ) → slice_get t j ≡ Some c
       → word_from d.word.word.now d.word.seen t j ≡ word_by d.word.word.now m.seen t j seen.Last)
-      → IsReadAs d anything (t ++ c ∷ []) (length x.frames) x.begin (name_tree d.name)
+      → IsReadAs d any_bytes (t ++ c ∷ []) (length x.frames) x.begin (name_tree d.name)
   word-ends leads = λ p u reading comes.
       let place : x.begin + length x.bytes + 1 ≡ length (t ++ c ∷ []) =
       omega (arith, bytes-end d t token.Word x, length-append t (c ∷ [])) in
@@ -484,7 +484,7 @@ module _ (d : Document) (t : List ℕ) (x : Unfinished d t token.Word) (m : Part
       ∙ word-done p (on u) (length x.frames) x.begin x.held.2.first x.low
       (first-stands d t token.Word x (name_start d.name) x.held.2 (c ∷ u)) d.name (x.begin + length x.bytes + 1)
       x.held.2.starts (reading-allows d p d.name reading x.held.1)
-      (last-extent d.name d.word m x.bytes c x.held.0 leads (on u) x.begin stands here)
+      (last-span d.name d.word m x.bytes c x.held.0 leads (on u) x.begin stands here)
       (last-bytes d.name d.word m x.bytes c x.held.0 leads (on u) x.begin stands here)
       ∙ ap (done (name_tree d.name)) place
 
@@ -492,9 +492,9 @@ module _ (d : Document) (t : List ℕ) (x : Unfinished d t token.Word) (m : Part
   pub word-refused : d.position ≡ length t
       → ((t : List ℕ) (j : ℕ) → slice_get t j ≡ Some c
       → word_from d.word.word.now d.word.seen t j ≡ word_by d.word.word.now m.seen t j seen.Other)
-      → IsRefused d anything (t ++ c ∷ []) expected_ident d.position
+      → IsRefused d any_bytes (t ++ c ∷ []) expected_ident d.position
   word-refused at leads =
-      scalar-refused anything anything d t (c ∷ []) x.frames x.begin expected_ident d.position x.known (λ u comes. tt) refl
+      scalar-refused any_bytes any_bytes d t (c ∷ []) x.frames x.begin expected_ident d.position x.known (λ u comes. tt) refl
       (λ p u reading comes.
       let place : x.begin + length x.bytes ≡ d.position = bytes-end d t token.Word x ∙ sym at in
       word-failed p (on u) (length x.frames) x.begin x.held.2.first x.low
@@ -516,9 +516,9 @@ number-same n m w h text stage = record {
       h.goes names t b stands ∙ ap (λ s. number_from names s t (b + length w)) (sym stage);
 }
 
-pub number-stays : (d : Document) (m : PartialNumber) (t : List ℕ) → HasCome d t → d.fault ≡ None
+pub number-stays : (d : Document) (m : PartialNumber) (t : List ℕ) → HasTakenAll d t → d.fault ≡ None
     → d.token ≡ token.Number → string_bytes m.text ≡ string_bytes d.number.text → m.stage ≡ d.number.stage
-    → HasCome (record d { number = m }) t
+    → HasTakenAll (record d { number = m }) t
 number-stays d m t h unset is text stage =
     let x = number-open d t h unset is in
     let e : Document = record d { number = m } in
@@ -526,7 +526,7 @@ number-stays d m t h unset is text stage =
       read =
           record {
             opened = in_scalar x.frames x.begin;
-            known = number-known anything d m t (in_scalar x.frames x.begin) x.known;
+            known = number-known any_bytes d m t (in_scalar x.frames x.begin) x.known;
             held = λ none. (
               x.bytes,
               record { prefix = x.from.prefix; is = x.from.is; begin = x.from.begin; place = x.from.place },
@@ -540,9 +540,9 @@ number-stays d m t h unset is text stage =
     }
 
 -- It goes on with these bytes.
-pub number-takes : (d : Document) (m : PartialNumber) (t v : List ℕ) → HasCome d t → d.fault ≡ None
+pub number-takes : (d : Document) (m : PartialNumber) (t v : List ℕ) → HasTakenAll d t → d.fault ≡ None
     → d.token ≡ token.Number → ((w : List ℕ) → HoldsNumber d.number w → HoldsNumber m (w ++ v))
-    → HasTakenIn anything (record d { number = m }) (t ++ v)
+    → HasTakenIn any_bytes (record d { number = m }) (t ++ v)
 number-takes d m t v h unset is more =
     let x = number-open d t h unset is in
     let e : Document = record d { number = m } in
@@ -552,14 +552,14 @@ number-takes d m t v h unset is more =
 
 module _ (d : Document) (t : List ℕ) (x : Unfinished d t token.Number) (c : ℕ) where
   -- what is said of the byte after its bytes
-  extent-by : (w : Went) → Leads d.number.stage c w → (names : Bool) (u : List ℕ)
-      → number_extent names (t ++ c ∷ u) x.begin ≡ number_by names (t ++ c ∷ u) (length t) w
-  extent-by w leads names u =
+  span-by : (w : NumberStep) → StepsTo d.number.stage c w → (names : Bool) (u : List ℕ)
+      → number_span names (t ++ c ∷ u) x.begin ≡ number_by names (t ++ c ∷ u) (length t) w
+  span-by w leads names u =
       x.held.0.goes names (t ++ c ∷ u) x.begin (bytes-stand d t token.Number x (c ∷ u))
       ∙ ap (number_from names d.number.stage (t ++ c ∷ u)) (bytes-end d t token.Number x)
       ∙ leads names (t ++ c ∷ u) (length t) (byte-first c t u)
 
-  number-reads : Leads d.number.stage c went.Over
+  number-reads : StepsTo d.number.stage c went.Over
       → IsReadAs d (with_byte c) t (length x.frames) x.begin (own_number x.bytes)
   number-reads leads = λ p u reading comes.
       let v = comes.0 in
@@ -569,28 +569,28 @@ module _ (d : Document) (t : List ℕ) (x : Unfinished d t token.Number) (c : �
       ap (λ w. value_in (rules_as owned p) (t ++ w) (length x.frames) x.begin) comes.1
       ∙ number-done p all (length x.frames) x.begin x.held.1.first x.low
       (first-stands d t token.Number x start.Number x.held.1 (c ∷ v)) x.bytes (length t) x.held.1.starts
-      (extent-by went.Over leads p.allow_inf_nan v)
+      (span-by went.Over leads p.allow_inf_nan v)
       (sym (slice-stands all x.begin (length t) x.bytes stands))
 
   -- or it is refused,
-  pub number-refused : (w : Went) (k : Kind) (i : ℕ) → is_forgiven k ≡ false → Leads d.number.stage c w
+  pub number-refused : (w : NumberStep) (k : Kind) (i : ℕ) → is_forgiven k ≡ false → StepsTo d.number.stage c w
       → ((names : Bool) (u : List ℕ) → number_by names u (length t) w ≡ failed k i)
-      → IsRefused d anything (t ++ c ∷ []) k i
+      → IsRefused d any_bytes (t ++ c ∷ []) k i
   number-refused w k i bad leads fails =
-      scalar-refused anything anything d t (c ∷ []) x.frames x.begin k i x.known (λ u comes. tt) bad
+      scalar-refused any_bytes any_bytes d t (c ∷ []) x.frames x.begin k i x.known (λ u comes. tt) bad
       (λ p u reading comes.
       number-failed p (t ++ c ∷ u) (length x.frames) x.begin x.held.1.first x.low
       (first-stands d t token.Number x start.Number x.held.1 (c ∷ u)) k i x.held.1.starts
-      (extent-by w leads p.allow_inf_nan u ∙ fails p.allow_inf_nan (t ++ c ∷ u)))
+      (span-by w leads p.allow_inf_nan u ∙ fails p.allow_inf_nan (t ++ c ∷ u)))
 
   -- or ends before the byte,
-  pub number-ends : Leads d.number.stage c went.Over
+  pub number-ends : StepsTo d.number.stage c went.Over
       → IsReadAs d (with_byte c) t (length x.frames) x.begin (own_number (string_bytes d.number.text))
   number-ends leads =
       subst (λ w. IsReadAs d (with_byte c) t (length x.frames) x.begin (own_number w)) (sym x.held.0.text)
       (number-reads leads)
 
-  -- or its minus stands alone.
+  -- or its minus is alone.
   pub number-minus : x.bytes ≡ 45 ∷ [] → HoldsMinus d t x.frames x.begin
   number-minus minus = record {
     prefix = x.from.prefix;
@@ -631,7 +631,7 @@ module _ (d : Document) (t : List ℕ) (fs : List OpenFrame) (chunk : List ℕ) 
       ap (λ k. length (slice_range chunk at k)) (sym end)
       ∙ range-long chunk at (e - at) (omega (arith, h.ends.begins, h.ends.within))
 
-  read-within : (p : Settings) (u : List ℕ) → Comes (with_byte (get_or chunk e 0)) u
+  read-within : (p : Settings) (u : List ℕ) → MayFollow (with_byte (get_or chunk e 0)) u
       → value_in (rules_as owned p) ((t ++ bytes) ++ u) (length fs) (length t) ≡ done v (length (t ++ bytes))
   read-within p u comes =
       let all = (t ++ bytes) ++ u in

@@ -1,12 +1,12 @@
 -- A string, a key or a literal of a document that arrives, which lies whole in a chunk.
 use Rattle.jiter_incremental.proofs.Words.{Bool, Document, Follows, IsKeyAs, IsScalarWithin, IsTextWithin, List}
-use Rattle.jiter_incremental.proofs.Words.{Literal, Some, Stands, Text, allows_trailing_strings, anything, ap, arith}
+use Rattle.jiter_incremental.proofs.Words.{Literal, Some, Stands, Text, allows_trailing_strings, any_bytes, ap, arith}
 use Rattle.jiter_incremental.proofs.Words.{content_at, done, false, get_or, length, length-append, literal_at}
 use Rattle.jiter_incremental.proofs.Words.{literal_tree, refl, slice-stands, slice_get, slice_range, start_of, string}
 use Rattle.jiter_incremental.proofs.Words.{subst, sym, taken, text_form, text_of, with_byte, word_at-complete}
 use Rattle.jiter_incremental.proofs.Words.{word_at-sound, word_of, ℕ, ◌++◌, ◌+◌, ◌<◌, ◌∙◌, ◌∷◌, ◌≡◌, ◌≤◌}
 use Rattle.jiter_steps.specs.declared.parse.Start.TheVariants as start
-use Rattle.jiter_incremental.specs.declared.names.Name.TheVariants as name
+use Rattle.jiter_incremental.specs.declared.names.WordValue.TheVariants as name
 use Rattle.jiter_incremental.proofs.Documents.Strings.{key-done, scalar-done}
 use Rattle.jiter_incremental.proofs.Documents.Tokens.{held-stands, range-first, word-done}
 
@@ -20,7 +20,7 @@ module _ (chunk : List ℕ) (at : ℕ) (text : List ℕ) (e : ℕ) (h : IsTextWi
   bytes-are : bytes ≡ get_or chunk at 0 ∷ slice_range chunk (at + 1) e
   bytes-are = range-first chunk at e (omega (arith, h.within.0)) h.within.1
 
-  pub text-follows : Follows (with_byte (get_or chunk at 0)) bytes anything
+  pub text-follows : Follows (with_byte (get_or chunk at 0)) bytes any_bytes
   text-follows u comes = (slice_range chunk (at + 1) e ++ u, ap (λ w. w ++ u) bytes-are)
 
   pub text-some : (t : List ℕ) → length t < length (t ++ bytes)
@@ -33,17 +33,17 @@ module _ (chunk : List ℕ) (at : ℕ) (text : List ℕ) (e : ℕ) (h : IsTextWi
     stands : (u : List ℕ) → Stands (all u) (length t) (length t + length bytes) bytes
     stands u = held-stands t bytes (t ++ bytes) (length t) refl refl u
 
-    reads : (u : List ℕ) (keep : Bool)
-        → content_at (text_form keep) (all u) (length t + 1) ≡ taken it (length (t ++ bytes))
-    reads u keep =
+    reads : (u : List ℕ) (partial : Bool)
+        → content_at (text_form partial) (all u) (length t + 1) ≡ taken it (length (t ++ bytes))
+    reads u partial =
         let place : length t + length bytes ≡ length (t ++ bytes) = omega (arith, length-append t bytes) in
-        h.reads keep (all u) (length t) (stands u) ∙ ap (taken it) place
+        h.reads partial (all u) (length t) (stands u) ∙ ap (taken it) place
 
     quoted : (u : List ℕ) → slice_get (all u) (length t) ≡ Some 34
     quoted u = h.quoted (all u) (length t) (stands u)
 
     -- it is read as a key,
-    pub text-key : (d : Document) → IsKeyAs d anything (t ++ bytes) (length t) (text_of text)
+    pub text-key : (d : Document) → IsKeyAs d any_bytes (t ++ bytes) (length t) (text_of text)
     text-key d = λ p u reading comes.
         key-done p (all u) (length t) (quoted u) (length (t ++ bytes)) it (reads u false)
 

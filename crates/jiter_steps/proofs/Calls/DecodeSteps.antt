@@ -4,8 +4,7 @@ use Rattle.jiter_steps.proofs.Words.{◌≢◌, ◌-◌, Bool, subst, append-nil
 use Rattle.jiter_steps.proofs.Words.{slice_range, Some, IsTrue, nat_lt, AllPass, IsUtf8, IsUtf8-append, IsUtf8-encode}
 use Rattle.jiter_steps.proofs.Words.{nat_tests, scan_stop, is_ascii, is_plain, run_end-ahead, run_end-within, part}
 use Rattle.jiter_steps.proofs.Words.{over, event_at, Stop, body_at, number, hex_digits_at, ne_eqb, lt-ltb, false≢true}
-use Rattle.jiter_steps.proofs.Words.{if-true, encode_utf8, IsScalar, short_escape, is_high, is_low}
-use Rattle.jiter_scan.specs.Scan.{IsAsciiTo}
+use Rattle.jiter_steps.proofs.Words.{if-true, encode_utf8, IsScalar, short_escape, is_high, is_low, IsAsciiTo}
 use Rattle.jiter_steps.proofs.Grammar.Places.{event_at-explains, Explains}
 use Rattle.jiter_steps.proofs.Reading.Bodies.{body_at-event_by, part-ahead}
 use Rattle.jiter_steps.proofs.Calls.PlainRuns.{plain_run_prefix}
@@ -30,20 +29,20 @@ module _ (t : List ℕ) (i : ℕ) (backslash : slice_get t i ≡ Some 92) where
       let end : i + 1 + 1 ≡ i + 2 = omega arith in
       rw (backslash, letter, ne_eqb b 117 other, sign, end)
 
--- of these bytes, which end so, those up to a place stand on the tape, and the rest is read from there
+-- of these bytes, which end so, those up to a place are in the buffer, and the rest is read from there
 abbrev pub Decoded : List ℕ → List ℕ → Stop → List ℕ → ℕ → Type 0
-Decoded t whole s tape at = (whole ≡ tape ++ (body_at t at).bytes) × (s ≡ (body_at t at).stop)
+Decoded t whole s buffer at = (whole ≡ buffer ++ (body_at t at).bytes) × (s ≡ (body_at t at).stop)
 
-module _ (t whole : List ℕ) (s : Stop) (tape : List ℕ) (at : ℕ) (so_far : Decoded t whole s tape at) where
+module _ (t whole : List ℕ) (s : Stop) (buffer : List ℕ) (at : ℕ) (so_far : Decoded t whole s buffer at) where
   -- so many plain bytes are added
   pub decode-run : (next : List ℕ) (n : ℕ) → at ≤ length t → at + n ≤ scan_stop t at
-      → next ≡ tape ++ slice_range t at (at + n) → Decoded t whole s next (at + n)
+      → next ≡ buffer ++ slice_range t at (at + n) → Decoded t whole s next (at + n)
   decode-run next n within run added =
       let b = plain_run_prefix t at n within run in
       (rw (so_far.0, b, added, append_assoc), rw (so_far.1, b))
 
   -- an escape
-  pub decode-more : (later bs : List ℕ) (end : ℕ) → part bs true end ≡ event_at t at → later ≡ tape ++ bs
+  pub decode-more : (later bs : List ℕ) (end : ℕ) → part bs true end ≡ event_at t at → later ≡ buffer ++ bs
       → Decoded t whole s later end × (at < end) × (end ≤ length t)
   decode-more later bs end f added =
       let b = body_at-event_by t at (part bs true end) (sym f) in
@@ -51,47 +50,45 @@ module _ (t whole : List ℕ) (s : Stop) (tape : List ℕ) (at : ℕ) (so_far : 
       ((rw (so_far.0, b, added, append_assoc), rw (so_far.1, b)), ahead.0, ahead.1)
 
   -- or the string is over
-  pub decode-over : (x : Stop) → over x ≡ event_at t at → (tape ≡ whole) × (x ≡ s)
+  pub decode-over : (x : Stop) → over x ≡ event_at t at → (buffer ≡ whole) × (x ≡ s)
   decode-over x f =
       let b = body_at-event_by t at (over x) (sym f) in (rw (so_far.0, b, append-nil), rw (so_far.1, b))
 
 -- What is known to be UTF-8 stays so, where plain bytes below 80 hex are added.
-pub known-run : (known low now : Bool) (tape run next : List ℕ) → (IsTrue known → IsUtf8 tape)
-    → (IsTrue low → AllPass is_ascii run) → now ≡ (known && low) → next ≡ tape ++ run → IsTrue now → IsUtf8 next
-known-run true true now tape run next k l both added h =
-    subst IsUtf8 (sym added) (IsUtf8-append tape run (k refl) (plain-utf8 run (l refl)))
-known-run true false now tape run next k l both added h = absurd (false≢true (sym both ∙ h))
-known-run false low now tape run next k l both added h = absurd (false≢true (sym both ∙ h))
+pub known-run : (known low now : Bool) (buffer run next : List ℕ) → (IsTrue known → IsUtf8 buffer)
+    → (IsTrue low → AllPass is_ascii run) → now ≡ (known && low) → next ≡ buffer ++ run → IsTrue now → IsUtf8 next
+known-run true true now buffer run next k l both added h =
+    subst IsUtf8 (sym added) (IsUtf8-append buffer run (k refl) (plain-utf8 run (l refl)))
+known-run true false now buffer run next k l both added h = absurd (false≢true (sym both ∙ h))
+known-run false low now buffer run next k l both added h = absurd (false≢true (sym both ∙ h))
 
 -- and the character of an escape
-pub known-escape : (t tape later bs : List ℕ) (at end : ℕ) → IsUtf8 tape → part bs true end ≡ event_at t at
-    → later ≡ tape ++ bs → IsUtf8 later
-known-escape t tape later bs at end u f added =
+pub known-escape : (t buffer later bs : List ℕ) (at end : ℕ) → IsUtf8 buffer → part bs true end ≡ event_at t at
+    → later ≡ buffer ++ bs → IsUtf8 later
+known-escape t buffer later bs at end u f added =
     let e = subst (Explains t at) (sym f) (event_at-explains t at) in
     let utf8 : IsUtf8 bs = subst IsUtf8 (sym e.is) (IsUtf8-encode e.character e.scalar) in
-    subst IsUtf8 (sym added) (IsUtf8-append tape bs u utf8)
+    subst IsUtf8 (sym added) (IsUtf8-append buffer bs u utf8)
 
 -- a byte of ASCII is its UTF-8
 pub encode-sign : (c : ℕ) → c < 128 → c ∷ [] ≡ encode_utf8 c
 unfolding encode_utf8
 encode-sign c h = sym (if-true (nat_lt c 128) _ _ (lt-ltb c 128 h))
 
--- The plain bytes up to the first stop are copied to the tape, later the bytes that count there.
-module _ (t tape next : List ℕ) (at count end stop : ℕ) (within : at ≤ length t) (is : stop ≡ scan_stop t at)
-    (put : take end next ≡ take count tape ++ slice_range t at (scan_stop t at)) where
+-- The plain bytes up to the first stop are copied to the buffer, later the bytes that count there.
+module _ (t buffer next : List ℕ) (at count end stop : ℕ) (within : at ≤ length t) (is : stop ≡ scan_stop t at)
+    (put : take end next ≡ take count buffer ++ slice_range t at (scan_stop t at)) where
   pub copied-within : stop ≤ length t
   copied-within = omega (arith, is, run_end-within is_plain t at within)
 
-  pub copied-decoded : (whole : List ℕ) (s : Stop) → Decoded t whole s (take count tape) at
+  pub copied-decoded : (whole : List ℕ) (s : Stop) → Decoded t whole s (take count buffer) at
       → Decoded t whole s (take end next) stop
   copied-decoded whole s so_far =
-      let ahead = run_end-ahead is_plain t at in
-      let to : at + (stop - at) ≡ stop = omega (arith, is, ahead) in
-      subst (Decoded t whole s (take end next)) to
-      (decode-run t whole s (take count tape) at so_far (take end next) (stop - at) within (omega (arith, is))
-      (put ∙ ap (λ j. take count tape ++ slice_range t at j) (sym (to ∙ is))))
+      let to : at + (stop - at) ≡ stop = omega (arith, is, run_end-ahead is_plain t at) in
+      rw (← to) (decode-run t whole s (take count buffer) at so_far (take end next) (stop - at) within (omega (arith, is))
+      (put ∙ ap (λ j. take count buffer ++ slice_range t at j) (sym (to ∙ is))))
 
-  pub copied-known : (known low now : Bool) → (IsTrue known → IsUtf8 (take count tape))
+  pub copied-known : (known low now : Bool) → (IsTrue known → IsUtf8 (take count buffer))
       → (IsTrue low → IsAsciiTo t at (scan_stop t at)) → now ≡ (known && low) → IsTrue now → IsUtf8 (take end next)
   copied-known known low now k ascii both =
-      known-run known low now (take count tape) (slice_range t at (scan_stop t at)) (take end next) k ascii both put
+      known-run known low now (take count buffer) (slice_range t at (scan_stop t at)) (take end next) k ascii both put

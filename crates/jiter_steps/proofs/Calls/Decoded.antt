@@ -1,6 +1,5 @@
 -- A string with a backslash, by what was decoded of it.
-use Rattle.jiter_steps.proofs.Words.{◌≡◌, ℕ, ◌≤◌, List, length, take, arith}
-use Rattle.jiter_steps.proofs.Words.{length-take, take-take}
+use Rattle.jiter_steps.proofs.Words.{◌≡◌, ℕ, ◌≤◌, List, length, take, arith, length-take, take-take}
 
 -- fewer bytes of the prefix are those of the whole
 pub prefix-prefix : (items : List ℕ) (count n : ℕ) → n ≤ length (take count items)

@@ -1,12 +1,10 @@
 -- What the fast path returns for literals, and for strings that need no decoding.
-use Rattle.jiter_steps.proofs.Words.{◌≡◌, ℕ, ◌+◌, ◌<◌, true, false, List, [], length, ◌∙◌, arith, ◌∷◌, refl, Bool}
-use Rattle.jiter_steps.proofs.Words.{slice_get, slice_range, Some, AllPass, nat_tests, scan_stop, is_ascii, IsAscii}
-use Rattle.jiter_steps.proofs.Words.{IsUtf8, eq-eqb, taken, word_at, text_form, string_at, between}
-use Rattle.std.proofs.lemmas.Str.{IsUtf8-from_ascii}
-use Rattle.std.proofs.lemmas.Str.Ascii.{IsAscii-from_all}
+use Rattle.jiter_steps.proofs.Words.{◌≡◌, ℕ, ◌+◌, ◌<◌, false, List, [], length, ◌∙◌, arith, ◌∷◌, refl, Bool, slice_get}
+use Rattle.jiter_steps.proofs.Words.{slice_range, Some, AllPass, nat_tests, scan_stop, is_ascii, IsUtf8, eq-eqb, taken}
+use Rattle.jiter_steps.proofs.Words.{word_at, text_form, string_at, between, IsUtf8-from_ascii, IsAscii-from_all}
 use Rattle.jiter_steps.proofs.Calls.StringAnswers.{string-quote, string-checked}
 
--- Words whose bytes are known to stand.
+-- Words whose bytes are known to be.
 module _ (t : List ℕ) where
   pub plain-letter : (c : ℕ) (w : List ℕ) (i j : ℕ) → slice_get t i ≡ Some c → j ≡ i + 1
       → word_at t (c ∷ w) i ≡ word_at t w j
@@ -26,20 +24,13 @@ module _ (t : List ℕ) where
       ∙ plain-letter c (d ∷ []) (i + 2) (i + 3) third (omega arith)
       ∙ plain-letter d [] (i + 3) e fourth (omega arith) ∙ plain-no_letter e
 
--- Texts of bytes below 80 hex.
-ascii-low : (b : ℕ) → is_ascii b ≡ true → b < 128
-ascii-low b e = grind (arith, nat_tests, e)
-
-pub plain-ascii : (bs : List ℕ) → AllPass is_ascii bs → IsAscii bs
-plain-ascii bs h = IsAscii-from_all bs (λ k d lt. ascii-low _ (h k d lt))
-
 pub plain-utf8 : (bs : List ℕ) → AllPass is_ascii bs → IsUtf8 bs
-plain-utf8 bs h = IsUtf8-from_ascii bs (plain-ascii bs h)
+plain-utf8 bs h = IsUtf8-from_ascii bs (IsAscii-from_all bs (λ k d lt. grind (arith, nat_tests, h k d lt)))
 
 -- A closed string with no backslash: the text between its quotes.
 module _ (t : List ℕ) (at to : ℕ) (begins : at < length t) (stop : to ≡ scan_stop t (at + 1))
     (quote : slice_get t to ≡ Some 34) (utf8 : IsUtf8 (slice_range t (at + 1) to)) where
-  pub plain-quoted : (keep : Bool) → string_at (text_form keep) t at ≡ taken (between t (at + 1) to) (to + 1)
-  plain-quoted keep =
-      string-quote t at begins to stop keep quote
-      ∙ string-checked (at + 1) (to + 1) false (slice_range t (at + 1) to) keep utf8
+  pub plain-quoted : (partial : Bool) → string_at (text_form partial) t at ≡ taken (between t (at + 1) to) (to + 1)
+  plain-quoted partial =
+      string-quote t at begins to stop partial quote
+      ∙ string-checked (at + 1) (to + 1) false (slice_range t (at + 1) to) partial utf8

@@ -1,14 +1,13 @@
 -- The fast path of skipping, as what its open containers complete the reading to.
-use Rattle.jiter_steps.proofs.Words.{◌≡◌, ◌≢◌, ℕ, ◌+◌, ◌-◌, ◌<◌, ◌≤◌, Bool, true, false, List, ◌∷◌, length, refl, sym}
-use Rattle.jiter_steps.proofs.Words.{ap, subst, ◌∙◌, arith, slice_get, slice_index, slice_index_or, slice_set, IfSome}
-use Rattle.jiter_steps.proofs.Words.{Option, Some, None, Ok, number_extent, extent_then, is_plain, scan_stop, taken}
+use Rattle.jiter_steps.proofs.Words.{◌≡◌, ℕ, ◌+◌, ◌-◌, ◌<◌, ◌≤◌, Bool, true, false, List, ◌∷◌, length, refl, sym, ap}
+use Rattle.jiter_steps.proofs.Words.{subst, ◌∙◌, arith, slice_get, slice_index, slice_index_or, slice_set, IfSome}
+use Rattle.jiter_steps.proofs.Words.{Option, Some, None, Ok, number_span, span_then, is_plain, scan_stop, taken}
 use Rattle.jiter_steps.proofs.Words.{only_ends, seen_as, is_blank, past_blanks, Frame, resume, value_from, start_of}
-use Rattle.jiter_steps.proofs.Words.{literal_at, Reading, done, follow, inside_at, scalar_at, value_with, value_inside}
+use Rattle.jiter_steps.proofs.Words.{Reading, done, follow, inside_at, scalar_at, value_with, value_inside}
 use Rattle.jiter_steps.proofs.Words.{first_inside, next_inside, frame_of, open_frames, Continues, inside, opening, more}
 use Rattle.jiter_steps.proofs.Words.{closed, step, begins_part, closer_of, container_first, container_step}
-use Rattle.jiter_steps.proofs.Words.{container_comma, colon, value_first, object_colon, raw, string_at, Literal}
-use Rattle.jiter_steps.proofs.Words.{ContainerKind, run_end-stopping, run_end-stops}
-use Rattle.jiter_steps.specs.Skip.{IsPlainEnd, LeadsAfter}
+use Rattle.jiter_steps.proofs.Words.{container_comma, colon, value_first, object_colon, raw, string_at, ContainerKind}
+use Rattle.jiter_steps.proofs.Words.{run_end-stopping, run_end-stops, IsPlainEnd, LeadsAfter}
 use Rattle.jiter_steps.specs.declared.parse.ContainerKind.TheVariants as shape
 use Rattle.jiter_steps.specs.declared.parse.Start.TheVariants as start
 use Rattle.jiter_steps.proofs.Calls.RawStrings.{raw-closed, raw-over_run}
@@ -39,10 +38,6 @@ module _ (names : Bool) (t : List ℕ) where
       → resume (only_ends names) t (frame_of b ∷ fs) (done tt i) ≡ value_from (only_ends names) t (frame_of b ∷ fs) v
   plain-next b fs i v within is = next_inside-is names t b fs i within ∙ ap (led_on names t b fs) is
 
-  pub plain-ends : (b : ContainerKind) (fs : Frames) (i e : ℕ) → i ≤ length t → next_inside b t i ≡ done false e
-      → resume (only_ends names) t (frame_of b ∷ fs) (done tt i) ≡ resume (only_ends names) t fs (done tt e)
-  plain-ends b fs i e within is = next_inside-is names t b fs i within ∙ ap (led_on names t b fs) is
-
   -- Inside the innermost of some open containers: what a run of parts leads to, and the container's end.
   module _ (kinds : List ContainerKind) (d : ℕ) (few : d ≤ 200) (some : 0 < d) where
     abbrev b : ContainerKind
@@ -65,7 +60,8 @@ module _ (names : Bool) (t : List ℕ) where
         ≡ resume (only_ends names) t (open_frames kinds (d - 1)) (done tt e)
     end-leads i e within ends =
         ap (λ gs. resume (only_ends names) t gs (done tt i)) innermost
-        ∙ plain-ends b (open_frames kinds (d - 1)) i e within ends
+        ∙ next_inside-is names t b (open_frames kinds (d - 1)) i within
+        ∙ ap (led_on names t b (open_frames kinds (d - 1))) ends
 
   -- the first value inside a container
   pub plain-opens : (b : ContainerKind) (kinds : List ContainerKind) (d i v : ℕ) → d ≤ 200 → d < length kinds → i < length t
@@ -76,12 +72,8 @@ module _ (names : Bool) (t : List ℕ) where
       first_inside-is names t b kinds d i _ few lt opens is
       ∙ ap (λ fs. value_from (only_ends names) t fs v) (sym (open_frames-opens kinds d b place))
 
--- The steps, by the bytes that stand there.
+-- The steps, by the bytes that are there.
 module _ (t : List ℕ) (b : ContainerKind) where
-  first-part : (j c : ℕ) → slice_get t j ≡ Some c → begins_part b c ≡ true
-      → container_first b j (slice_get t j) ≡ more j
-  first-part j c here part = rw (here, part) refl
-
   comma-part : (j c : ℕ) → slice_get t j ≡ Some c → begins_part b c ≡ true
       → container_comma b j (slice_get t j) ≡ more j
   comma-part j c here part = rw (here, part) refl
@@ -121,8 +113,8 @@ pub colon-stands : (t : List ℕ) (i : ℕ) → i + 1 < length t → slice_index
 colon-stands t i lt sign above =
     let here : past_blanks t i ≡ i = past_blanks-above t i (omega arith) (omega (arith, sign)) in
     let next : past_blanks t (i + 1) ≡ i + 1 = past_blanks-above t (i + 1) lt above in
-    ap (λ k. extent_then (colon k (slice_get t k)) (step t value_first)) here
-    ∙ ap (λ o. extent_then (colon i o) (step t value_first)) (got t i (omega arith) ∙ ap Some sign)
+    ap (λ k. span_then (colon k (slice_get t k)) (step t value_first)) here
+    ∙ ap (λ o. span_then (colon i o) (step t value_first)) (got t i (omega arith) ∙ ap Some sign)
     ∙ ap (λ k. value_first k (slice_get t k)) next ∙ ap (value_first (i + 1)) (got t (i + 1) lt)
 
 -- a colon, a space, and a value right after it
@@ -134,11 +126,11 @@ colon-spaced t i lt sign space above =
     let blank : is_blank (slice_index t (i + 1)) ≡ true = ap is_blank space in
     let next : past_blanks t (i + 1) ≡ i + 2 =
     past_blanks-blank t (i + 1) (omega arith) blank ∙ ap (past_blanks t) two ∙ past_blanks-above t (i + 2) lt above in
-    ap (λ k. extent_then (colon k (slice_get t k)) (step t value_first)) here
-    ∙ ap (λ o. extent_then (colon i o) (step t value_first)) (got t i (omega arith) ∙ ap Some sign)
+    ap (λ k. span_then (colon k (slice_get t k)) (step t value_first)) here
+    ∙ ap (λ o. span_then (colon i o) (step t value_first)) (got t i (omega arith) ∙ ap Some sign)
     ∙ ap (λ k. value_first k (slice_get t k)) next ∙ ap (value_first (i + 2)) (got t (i + 2) lt)
 
--- Values that end so wherever they stand: scalars, by what their reading gives, and empty containers.
+-- Values that end so wherever they are: scalars, by what their reading gives, and empty containers.
 pub some-as : {A : Type 0} {P Q : A → Type 0} (r : Option A) → ((x : A) → P x → Q x) → IfSome r P → IfSome r Q
 some-as None f h = tt
 some-as (Some x) f h = f x h
@@ -153,29 +145,21 @@ stop-stands t i to lt e =
 pub near-closed : (t : List ℕ) (i to : ℕ) → i + 1 ≤ length t → to ≡ scan_stop t (i + 1) → slice_get t to ≡ Some 34
     → seen_as (λ s k. tt {0}) (string_at raw t i) ≡ taken tt (to + 1)
 near-closed t i to within stop quote =
-    let other : slice_get t to ≢ Some 92 = λ e. cc (quote, e) in
     ap (seen_as (λ s k. tt {0}))
-    (raw-closed t false (i + 1) to (raw-over_run t (i + 1) to within stop other) quote)
+    (raw-closed t false (i + 1) to (raw-over_run t (i + 1) to within stop (λ e. cc (quote, e))) quote)
 
 module _ (t : List ℕ) (i : ℕ) where
   pub number-ends : (e : ℕ) → start_of (slice_index t i) ≡ start.Number
-      → ((names : Bool) → number_extent names t i ≡ taken tt e) → IsPlainEnd t i e
+      → ((names : Bool) → number_span names t i ≡ taken tt e) → IsPlainEnd t i e
   number-ends e begins is = λ names levels. number-value names t levels i begins ∙ ap (scalar_at i) (is names)
-
-  pub literal-ends : (l : Literal) (e : ℕ) → start_of (slice_index t i) ≡ start.Literal l
-      → literal_at t l i ≡ taken tt e → IsPlainEnd t i e
-  literal-ends l e begins is = λ names levels.
-      ap (value_with (only_ends names) (λ j. inside_at (only_ends names) t levels j) t i) begins ∙ ap (scalar_at i) is
 
   pub empty-ends : (b : ContainerKind) → start_of (slice_index t i) ≡ opening b → i + 1 < length t
       → slice_index t (i + 1) ≡ closer_of b → IsPlainEnd t i (i + 2)
   empty-ends shape.Array begins lt closer = λ names levels.
-      let closes = plain-closes t shape.Array (i + 1) lt closer in
       let at : i + 1 + 1 ≡ i + 2 = omega arith in
       ap (value_with (only_ends names) (λ j. inside_at (only_ends names) t levels j) t i) begins
-      ∙ ap (follow (only_ends names) _ _) closes ∙ ap (λ k. done tt k) at
+      ∙ ap (follow (only_ends names) _ _) (plain-closes t shape.Array (i + 1) lt closer) ∙ ap (λ k. done tt k) at
   empty-ends shape.Object begins lt closer = λ names levels.
-      let closes = plain-closes t shape.Object (i + 1) lt closer in
       let at : i + 1 + 1 ≡ i + 2 = omega arith in
       ap (value_with (only_ends names) (λ j. inside_at (only_ends names) t levels j) t i) begins
-      ∙ ap (follow (only_ends names) _ _) closes ∙ ap (λ k. done tt k) at
+      ∙ ap (follow (only_ends names) _ _) (plain-closes t shape.Object (i + 1) lt closer) ∙ ap (λ k. done tt k) at

@@ -1,8 +1,6 @@
 -- The table of the letters of escapes.
 use Rattle.jiter_steps.proofs.Words.{◌≡◌, ◌≢◌, ℕ, ◌<◌, Bool, true, ap, arith, get_or, refl, ◌&&◌, Option, Some, None}
-use Rattle.jiter_steps.proofs.Words.{nat_lt, ◌==◌, eqb-true, nat_tests, short_escape}
-use Rattle.std.proofs.lemmas.Bool.{agree_below_at}
-use Rattle.jiter_steps.specs.declared.escape.TheConstants.{SIMPLE_ESCAPES}
+use Rattle.jiter_steps.proofs.Words.{nat_lt, ◌==◌, eqb-true, nat_tests, short_escape, agree_below_at, SIMPLE_ESCAPES}
 
 abbrev is_sign : Option ℕ → ℕ → Bool
 is_sign (Some c) n = (n == c) && nat_lt n 128

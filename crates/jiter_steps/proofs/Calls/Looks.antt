@@ -1,17 +1,14 @@
 -- What a look at a string says of its reading.
-use Rattle.jiter_steps.proofs.Words.{◌≡◌, ◌≢◌, ℕ, ◌+◌, ◌<◌, Bool, true, false, List, length, refl, sym, ap, ◌∙◌}
-use Rattle.jiter_steps.proofs.Words.{arith, subst, ◌==◌, slice_get, slice_range, Option, Some, None}
-use Rattle.jiter_steps.proofs.Words.{utf8_valid_len, slice_get_past, eof_string}
-use Rattle.jiter_steps.proofs.Words.{fault_kind, IsLook, scan_stop, taken, failed, FaultKind, Look, failed-taken}
-use Rattle.jiter_steps.proofs.Words.{if_gives, same_taken, get-none, between, checked, kept}
-use Rattle.jiter_steps.proofs.Words.{string_at, text_form, whole, Text}
-use Rattle.jiter_scan.specs.Scan.{IsFaultOf}
+use Rattle.jiter_steps.proofs.Words.{◌≡◌, ◌≢◌, ℕ, ◌+◌, ◌<◌, Bool, true, false, List, length, refl, sym, ap, ◌∙◌, arith}
+use Rattle.jiter_steps.proofs.Words.{subst, ◌==◌, slice_get, slice_range, Option, Some, None, utf8_valid_len}
+use Rattle.jiter_steps.proofs.Words.{slice_get_past, eof_string, fault_kind, IsLook, scan_stop, taken, failed}
+use Rattle.jiter_steps.proofs.Words.{FaultKind, Look, failed-taken, if_gives, same_taken, get-none, between, checked}
+use Rattle.jiter_steps.proofs.Words.{kept, string_at, text_form, whole, Text, IsFaultOf, WantsMemory}
 use Rattle.jiter_scan.specs.declared.errors.FaultKind.TheVariants as fault
 use Rattle.jiter_scan.specs.declared.short_scan.Look.TheVariants as look
 use Rattle.jiter_steps.proofs.Calls.FastAnswers.{plain-quoted, plain-utf8}
 use Rattle.jiter_steps.proofs.Calls.PlainRuns.{plain_run-within}
 use Rattle.jiter_steps.proofs.Reading.StringForms.{content-kept}
-use Rattle.jiter_steps.specs.StringDecoder.{WantsMemory}
 use Rattle.jiter_steps.proofs.Calls.StringAnswers.{string-control, string-none, string-quote}
 
 module _ (t : List ℕ) (at to : ℕ) (inside : at < length t) (stop : to ≡ scan_stop t (at + 1)) where
@@ -22,13 +19,13 @@ module _ (t : List ℕ) (at to : ℕ) (inside : at < length t) (stop : to ≡ sc
   Found l = IsLook t (at + 1) to l
 
   -- a closed string whose bytes are below 80 hex
-  pub look-plain : Found look.Plain → (keep : Bool) → string_at (text_form keep) t at ≡ taken (between t (at + 1) to) (to + 1)
-  look-plain found keep = plain-quoted t at to inside stop found.0 (plain-utf8 content found.1) keep
+  pub look-plain : Found look.Plain → (partial : Bool) → string_at (text_form partial) t at ≡ taken (between t (at + 1) to) (to + 1)
+  look-plain found partial = plain-quoted t at to inside stop found.0 (plain-utf8 content found.1) partial
 
   -- one whose bytes have to be tested
-  pub look-checked : Found look.Utf8 → (keep : Bool)
-      → string_at (text_form keep) t at ≡ checked keep (at + 1) false content (to + 1)
-  look-checked found keep = string-quote t at inside to stop keep found
+  pub look-checked : Found look.Utf8 → (partial : Bool)
+      → string_at (text_form partial) t at ≡ checked partial (at + 1) false content (to + 1)
+  look-checked found partial = string-quote t at inside to stop partial found
 
   -- what is a text of those bytes is all of them
   pub look-whole : (text : List ℕ) (e : ℕ)
@@ -42,7 +39,7 @@ module _ (t : List ℕ) (at to : ℕ) (inside : at < length t) (stop : to ≡ sc
   pub look-text : Found look.Utf8 → (text : List ℕ)
       → ((e : ℕ) → checked false (at + 1) false content e ≡ taken (record { owned = false; bytes = text }) e)
       → (text ≡ content)
-      × ((keep : Bool) → string_at (text_form keep) t at ≡ taken (between t (at + 1) to) (to + 1))
+      × ((partial : Bool) → string_at (text_form partial) t at ≡ taken (between t (at + 1) to) (to + 1))
   look-text found text is = (same, read) where
     same : text ≡ content
     same = look-whole text (to + 1) (is (to + 1))
@@ -52,7 +49,7 @@ module _ (t : List ℕ) (at to : ℕ) (inside : at < length t) (stop : to ≡ sc
         look-checked found false ∙ is (to + 1)
         ∙ ap (λ w. taken (record { owned = false; bytes = w }) (to + 1)) same
 
-    read : (keep : Bool) → string_at (text_form keep) t at ≡ taken (between t (at + 1) to) (to + 1)
+    read : (partial : Bool) → string_at (text_form partial) t at ≡ taken (between t (at + 1) to) (to + 1)
     read true = (content-kept t (at + 1) (between t (at + 1) to) (to + 1) closed).0
     read false = closed
 
@@ -67,10 +64,9 @@ module _ (t : List ℕ) (at to : ℕ) (inside : at < length t) (stop : to ≡ sc
 
   pub look-end : Found (look.Fault fault.EofWhileParsingString) → to ≡ length t
   look-end found =
-      let reach = plain_run-within t (at + 1) (omega arith) in
-      omega (arith, get-none t to (none-here (slice_get t to) found), reach.1)
+      omega (arith, get-none t to (none-here (slice_get t to) found), (plain_run-within t (at + 1) (omega arith)).1)
 
-  -- where it ends there, it is kept as far as it goes
+  -- where it ends there, it is kept up to its end
   pub look-ended : to ≡ length t → string_at kept t at ≡ checked true (at + 1) false content to
   look-ended end =
       string-none t at inside to stop kept (slice_get_past t to (omega arith))
@@ -87,13 +83,10 @@ module _ (t : List ℕ) (at to : ℕ) (inside : at < length t) (stop : to ≡ sc
       string-control t at inside to stop whole b here (omega (arith, found.0)) (omega (arith, found.0))
       ∙ ap (λ x. failed (fault_kind x) to) (sym found.1)
 
-  pub look-fault : (k : FaultKind) → Found (look.Fault k) → string_at whole t at ≡ failed (fault_kind k) to
-  look-fault k found = fault-here k (slice_get t to) refl found
-
   -- or of one that is kept, unless the input ends there
-  pub look-unkept : (keep : Bool) (k : FaultKind) → Found (look.Fault k) → (keep ≡ true → to ≢ length t)
-      → string_at (text_form keep) t at ≡ failed (fault_kind k) to
-  look-unkept false k found more = look-fault k found
+  pub look-unkept : (partial : Bool) (k : FaultKind) → Found (look.Fault k) → (partial ≡ true → to ≢ length t)
+      → string_at (text_form partial) t at ≡ failed (fault_kind k) to
+  look-unkept false k found more = fault-here k (slice_get t to) refl found
   look-unkept true k found more = by (slice_get t to) refl found where
     by : (o : Option ℕ) → slice_get t to ≡ o → IsFaultOf o k → string_at kept t at ≡ failed (fault_kind k) to
     by None here f = absurd (more refl (omega (arith, get-none t to here, (plain_run-within t (at + 1) (omega arith)).1)))

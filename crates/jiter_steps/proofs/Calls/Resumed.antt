@@ -4,13 +4,12 @@ use Rattle.jiter_steps.proofs.Words.{arith, slice_index, None, Kind, recursion_l
 use Rattle.jiter_steps.proofs.Words.{Step, more, closed, stuck, step, opening, container_first, object_colon, Reading}
 use Rattle.jiter_steps.proofs.Words.{done, fault, Rules, Container, if_forgiven, follow, after_part, container_at}
 use Rattle.jiter_steps.proofs.Words.{value_with, inside_at, value_at, ContainerKind, Frame, resolve_step, parts_from}
-use Rattle.jiter_steps.proofs.Words.{parts_step, value_in, resume, value_from}
+use Rattle.jiter_steps.proofs.Words.{parts_step, value_in, resume, value_from, items_frame, members_frame, array_in}
+use Rattle.jiter_steps.proofs.Words.{object_in, after_value, key_from}
 use Rattle.jiter_steps.specs.declared.parse.ContainerKind.TheVariants as shape
 use Rattle.jiter_steps.proofs.Reading.Values.{Advances, Goes, inside_at-within, inside_at-suc, inside_at-starts}
 use Rattle.jiter_steps.proofs.Reading.Values.{inside_at-none, array_of-goes, object_of-goes, parts_at_is, parts-fault}
 use Rattle.jiter_steps.proofs.Reading.Values.{member-key, member-colon, member-value}
-use Rattle.jiter_steps.specs.Frames.{items_frame, members_frame}
-use Rattle.jiter_steps.specs.Frames.{array_in, object_in, after_value, key_from}
 
 -- Where a container begins is not built into its value.
 pub record IgnoresBegin {K A : Type 0} (r : Rules K A) : Type 0 where
@@ -26,7 +25,7 @@ module _ {K A : Type 0} (r : Rules K A) (t : List ℕ) where
   Part shape.Array = A
   Part shape.Object = K × A
 
-  -- an array or an object that stands in so many open containers
+  -- an array or an object that is in so many open containers
   abbrev pub container_in : (b : ContainerKind) → ℕ → Container (Part b) A
   container_in shape.Array depth = array_in r t depth
   container_in shape.Object depth = object_in r t depth
@@ -57,7 +56,7 @@ module _ {K A : Type 0} (r : Rules K A) (t : List ℕ) where
       → if_forgiven r close k i stop ≡ fault k i stop
   if_forgiven-no close k i stop h = rw h
 
-  -- a step, its forgiven fault resolved
+  -- a step, its forgiven error resolved
   follow-resolve_step : (next : ℕ → Reading A) (close : ℕ → A) (s : Step)
       → follow r next close s ≡ follow r next close (resolve_step r.forgives s)
   follow-resolve_step next close (more j) = refl
@@ -66,13 +65,13 @@ module _ {K A : Type 0} (r : Rules K A) (t : List ℕ) where
       if_case (λ s. if_forgiven r close k j j ≡ follow r next close s) (r.forgives k) _ _
       (λ h. if_forgiven-yes close k j j h) (λ h. refl)
 
-  -- a fault of the value that an open container awaits
+  -- an error of the value that an open container awaits
   after-fault : (depth : ℕ) (f : Frame K A) (k : Kind) (i stop : ℕ)
       → after_value r t depth f (fault k i stop) ≡ if_forgiven r (build_of f) k i stop
   after-fault depth (items_frame items) k i stop = refl
   after-fault depth (members_frame members m) k i stop = refl
 
-  -- A fault that is not forgiven passes all containers; one that is closes the innermost.
+  -- An error that is not forgiven passes all containers; one that is closes the innermost.
   pub resume-fault : (fs : Frames) (k : Kind) (i stop : ℕ) → r.forgives k ≡ false
       → resume r t fs (fault k i stop) ≡ fault k i stop
   resume-fault [] k i stop h = refl
@@ -123,7 +122,7 @@ module _ {K A : Type 0} (r : Rules K A) (t : List ℕ) where
         ∙ ap (after_part r c t (parts_from r t c) members)
         (member-value r t (value_in r t (suc (length fs))) j e m k _ v w refl))
 
-    -- a fault of the key or of the colon
+    -- an error of the key or of the colon
     key-fault : (fs : Frames) (members : List (K × A)) (j x stop : ℕ) (k : Kind) → j < length t
         → r.refuses members t j ≡ None
         → (object_in r t (length fs)).part j ≡ fault k x stop

@@ -1,17 +1,17 @@
--- The skip law: a skip ends where reading the value ends, and meets its fault, but for that of UTF-8.
+-- The skip law: a skip ends where reading the value ends, and meets its error, except that of UTF-8.
 use Rattle.jiter_steps.proofs.Words.{◌≡◌, ◌≢◌, ℕ, Bool, List, refl, sym, ap, ◌∙◌, false≢true, Kind, invalid_code_point}
-use Rattle.jiter_steps.proofs.Words.{Number, Scanned, taken, failed, Extent, number_at, seen_as, only_ends, whole_trees}
+use Rattle.jiter_steps.proofs.Words.{Number, Scanned, taken, failed, Span, number_at, seen_as, only_ends, whole_trees}
 use Rattle.jiter_steps.proofs.Words.{read_at, skip_at, literal_at, nesting_limit, Reading, done, fault, whole, raw}
 use Rattle.jiter_steps.proofs.Words.{string_at, Text, Tree}
 use Rattle.jiter_steps.proofs.Reading.Fused.{ScansTo, MapsTo, Leads, value_at-told}
 use Rattle.jiter_steps.proofs.Grammar.StringLaws.{raw-whole, raw-whole-fault}
 
--- y ends where x ends, and has its fault unless that is one of UTF-8
+-- y ends where x ends, and has its error unless that is one of UTF-8
 abbrev pub EndsAlike : {A B : Type 0} → Reading A → Reading B → Type 0
 EndsAlike {A = A} {B = B} (done a e) y = (b : B) × (y ≡ done b e)
 EndsAlike (fault k i stop) y = k ≢ invalid_code_point → y ≡ fault k i stop
 
--- every other fault is told
+-- every other error is told
 abbrev Told : Kind → Type 0
 Told k = k ≢ invalid_code_point
 
@@ -28,7 +28,7 @@ number-alike : (x : Scanned Number) → ScansTo Told seen_end x (seen_as (λ n e
 number-alike (taken n e) told = refl
 number-alike (failed k j) told = refl
 
-literal-alike : (x : Extent) → ScansTo Told seen_end x x
+literal-alike : (x : Span) → ScansTo Told seen_end x x
 literal-alike (taken u e) told = refl
 literal-alike (failed k j) told = refl
 

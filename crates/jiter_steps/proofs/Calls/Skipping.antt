@@ -1,18 +1,16 @@
 -- The turns of a skip, as what its open containers complete the reading to.
 use Rattle.jiter_steps.proofs.Words.{◌≡◌, ◌≢◌, ℕ, zero, suc, ◌+◌, ◌-◌, ◌<◌, ◌≤◌, Bool, true, false, List, [], ◌∷◌, ◌++◌}
 use Rattle.jiter_steps.proofs.Words.{None, length, refl, sym, ap, ap₂, ◌∙◌, arith, slice_index, slice_index_or}
-use Rattle.jiter_steps.proofs.Words.{slice_set, Kind, recursion_limit, Scanned, taken, failed, Extent}
-use Rattle.jiter_steps.proofs.Words.{seen_as, only_ends, nothing_forgiven, start_of, Step, more, closed, stuck}
-use Rattle.jiter_steps.proofs.Words.{step, opening, container_first, container_step, object_colon, ContainerKind, raw}
-use Rattle.jiter_steps.proofs.Words.{string_at, Reading, done, fault, Container, with_key, after_colon, after_key}
-use Rattle.jiter_steps.proofs.Words.{follow, after_part, inside_at, parts_at, scalar_at, value_at, value_with, Frame}
-use Rattle.jiter_steps.proofs.Words.{resolve_step, parts_from, parts_step, value_in, resume, value_from, value_inside}
-use Rattle.jiter_steps.proofs.Words.{inside, first_inside, next_inside, frame_of, open_frames, with_value}
-use Rattle.jiter_steps.proofs.Words.{number_extent, number_at}
-use Rattle.std.proofs.lemmas.List.{get_or-set_same, get_or-set_other}
+use Rattle.jiter_steps.proofs.Words.{slice_set, Kind, recursion_limit, Scanned, taken, failed, Span, seen_as}
+use Rattle.jiter_steps.proofs.Words.{only_ends, nothing_forgiven, start_of, Step, more, closed, stuck, step, opening}
+use Rattle.jiter_steps.proofs.Words.{container_first, object_colon, ContainerKind, raw, string_at, Reading, done, fault}
+use Rattle.jiter_steps.proofs.Words.{Container, with_key, after_colon, after_key, follow, after_part, inside_at}
+use Rattle.jiter_steps.proofs.Words.{parts_at, scalar_at, value_at, value_with, Frame, resolve_step, parts_from}
+use Rattle.jiter_steps.proofs.Words.{parts_step, value_in, resume, value_from, value_inside, inside, first_inside}
+use Rattle.jiter_steps.proofs.Words.{next_inside, frame_of, open_frames, with_value, number_span, number_at}
+use Rattle.jiter_steps.proofs.Words.{get_or-set_same, get_or-set_other, awaits_value}
 use Rattle.jiter_steps.specs.declared.parse.ContainerKind.TheVariants as shape
 use Rattle.jiter_steps.specs.declared.parse.Start.TheVariants as start
-use Rattle.jiter_steps.specs.Skip.{awaits_value}
 use Rattle.jiter_steps.proofs.Reading.Bounds.{Ahead, container_first-ahead, container_step-ahead}
 use Rattle.jiter_steps.proofs.Reading.Instances.{only_ends-advances}
 use Rattle.jiter_steps.proofs.Calls.Resumed.{IgnoresBegin, value_in-levels, value_in-limit, resume-fault, Part}
@@ -20,18 +18,18 @@ use Rattle.jiter_steps.proofs.Calls.Resumed.{container_in, container-begins, con
 use Rattle.jiter_steps.proofs.Reading.Values.{Advances, parts_at_is, part-free}
 
 -- The end of a number alone, in the words of the reading that gives ends alone.
-extent-again : (t : List ℕ) (i : ℕ) (x : Extent) → seen_as (λ n e. tt {0}) (with_value t i x) ≡ x
-extent-again t i (taken u e) = refl
-extent-again t i (failed k j) = refl
+span-again : (t : List ℕ) (i : ℕ) (x : Span) → seen_as (λ n e. tt {0}) (with_value t i x) ≡ x
+span-again t i (taken u e) = refl
+span-again t i (failed k j) = refl
 
 pub number_at-end : (names : Bool) (t : List ℕ) (i : ℕ)
-    → seen_as (λ n e. tt {0}) (number_at names t i) ≡ number_extent names t i
+    → seen_as (λ n e. tt {0}) (number_at names t i) ≡ number_span names t i
 unfolding number_at
-number_at-end names t i = extent-again t i (number_extent names t i)
+number_at-end names t i = span-again t i (number_span names t i)
 
--- where a number begins, its end or its fault is all that is read
+-- where a number begins, its end or its error is all that is read
 pub number-value : (names : Bool) (t : List ℕ) (levels i : ℕ) → start_of (slice_index t i) ≡ start.Number
-    → value_at (only_ends names) t levels i ≡ scalar_at i (number_extent names t i)
+    → value_at (only_ends names) t levels i ≡ scalar_at i (number_span names t i)
 number-value names t levels i begins =
     ap (value_with (only_ends names) (λ j. inside_at (only_ends names) t levels j) t i) begins
     ∙ ap (scalar_at i) (number_at-end names t i)
@@ -130,7 +128,7 @@ module _ (names : Bool) (t : List ℕ) where
     abbrev after_member : Reading (Unit {0} × Unit {0}) → Reading (Unit {0})
     after_member x = after (innermost shape.Object fs) fs members x
 
-    colon-step : (u : Unit {0}) (x : Extent)
+    colon-step : (u : Unit {0}) (x : Span)
         → after_member (after_colon u inner x)
         ≡ led_on shape.Object fs (awaits_value (after_colon u (λ j. done tt j) x))
     colon-step u (taken v j) =
@@ -170,12 +168,9 @@ module _ (names : Bool) (t : List ℕ) where
   -- After a value inside a container: the next one, or the container's end.
   pub next_inside-is : (b : ContainerKind) (fs : Frames) (e : ℕ) → e ≤ length t
       → resumed (frame_of b ∷ fs) (done tt e) ≡ led_on b fs (next_inside b t e)
-  next_inside-is shape.Array fs e h =
-      parts-led shape.Array fs (tt ∷ []) e (step t (container_step shape.Array t) e)
-      (container_step-ahead t shape.Array e h)
+  next_inside-is shape.Array fs e h = parts-led shape.Array fs (tt ∷ []) e _ (container_step-ahead t shape.Array e h)
   next_inside-is shape.Object fs e h =
-      parts-led shape.Object fs ((tt, tt) ∷ []) e (step t (container_step shape.Object t) e)
-      (container_step-ahead t shape.Object e h)
+      parts-led shape.Object fs ((tt, tt) ∷ []) e _ (container_step-ahead t shape.Object e h)
 
   -- At a container's bracket: the first value inside, or the container's end.
   pub first_inside-is : (b : ContainerKind) (kinds : List ContainerKind) (d i : ℕ) (x : Reading Bool) → d ≤ 200 → i < length t
@@ -188,7 +183,7 @@ module _ (names : Bool) (t : List ℕ) where
       container-begins (only_ends names) t good any fs i s few b opens (step-kept s)
       ∙ parts-led b fs [] (i + 1) s (container_first-ahead t b (i + 1) (omega arith)) ∙ ap (led_on b fs) is
 
-  -- a scalar's end, or its fault
+  -- a scalar's end, or its error
   pub value_from-is : (kinds : List ContainerKind) (d i : ℕ) (x : Reading (Unit {0})) → d ≤ 200
       → ((levels : ℕ) → value_at (only_ends names) t levels i ≡ x)
       → value_from (only_ends names) t (open_frames kinds d) i ≡ resumed (open_frames kinds d) x

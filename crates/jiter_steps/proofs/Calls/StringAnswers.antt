@@ -5,15 +5,9 @@ use Rattle.jiter_steps.proofs.Words.{IfOk, ◌==◌, nat_lt, IsUtf8, ne_eqb, lt-
 use Rattle.jiter_steps.proofs.Words.{same_Some, utf8_valid_len-IsUtf8, control_character, scan_stop, Fault, failed}
 use Rattle.jiter_steps.proofs.Words.{taken, if-true, if-false, ScalarWithin, Event, part, over, event_by, event_at}
 use Rattle.jiter_steps.proofs.Words.{Stop, unclosed, cut, wrong, is_cut, Body, before, join, body_at, Form, text_form}
-use Rattle.jiter_steps.proofs.Words.{checked, text_in_form, content_at, string_at}
-use Rattle.std.specs.Prelude.{MatchResult, IsErrAnd}
-use Rattle.std.specs.declared.alloc.Global.{Global}
-use Rattle.std.specs.declared.borrow.CowStr.{CowStr}
-use Rattle.jiter_scan.specs.Scanned.{Scans, with_end}
-use Rattle.jiter_steps.specs.ReadError.{UnlessRefused}
-use Rattle.jiter_steps.specs.StringDecoder.{text_view}
+use Rattle.jiter_steps.proofs.Words.{checked, text_in_form, content_at, string_at, MatchResult, IsErrAnd, Global}
+use Rattle.jiter_steps.proofs.Words.{CowStr, Scans, with_end, UnlessRefused, text_view, ReadError}
 use Rattle.jiter_steps.specs.StringReading.{closed}
-use Rattle.jiter_steps.specs.declared.read_error.ReadError.{ReadError}
 use Rattle.jiter_steps.specs.declared.read_error.ReadError.TheVariants as error
 use Rattle.jiter_steps.proofs.Calls.PlainRuns.{plain_run_to, plain_run_stops}
 use Rattle.jiter_steps.proofs.Grammar.Places.{event_at-explains, Explains}
@@ -24,11 +18,11 @@ use Rattle.jiter_steps.proofs.Reading.StringForms.{kept-valid}
 
 -- Decoded bytes as a text, by whether they are UTF-8.
 module _ (i e : ℕ) (o : Bool) (bs : List ℕ) where
-  pub string-checked : (keep : Bool) → IsUtf8 bs → checked keep i o bs e ≡ taken (record { owned = o; bytes = bs }) e
+  pub string-checked : (partial : Bool) → IsUtf8 bs → checked partial i o bs e ≡ taken (record { owned = o; bytes = bs }) e
   string-checked true u = kept-valid i e o bs (utf8_valid_len-IsUtf8 bs u)
   string-checked false u = rw (eq-eqb _ _ (utf8_valid_len-IsUtf8 bs u))
 
--- a reading that fails by a fault alone, given on as one that may want memory
+-- a reading that fails by an error alone, given on as one that may want memory
 pub string-fault : {A : Type 0} (P : Result A Fault → Type 0) (r : Result A Fault) (told : Result A ReadError)
     → MatchResult r (λ x. told ≡ Ok x) (λ f. IsErrAnd told (λ e. e ≡ error.Fault f)) → P r → UnlessRefused told P
 string-fault P (Ok x) told is p = rw is p
@@ -36,8 +30,8 @@ string-fault P (Err f) (Ok x) is p = absurd is
 string-fault P (Err f) (Err e) is p = rw is p
 
 -- a closed text, kept or not
-pub string_closed : (keep : Bool) (t : List ℕ) (i : ℕ) (bs : List ℕ) (o : Bool) (e : ℕ)
-    → text_in_form (text_form keep) t i bs o (closed e) ≡ checked keep i o bs e
+pub string_closed : (partial : Bool) (t : List ℕ) (i : ℕ) (bs : List ℕ) (o : Bool) (e : ℕ)
+    → text_in_form (text_form partial) t i bs o (closed e) ≡ checked partial i o bs e
 string_closed true t i bs o e = refl
 string_closed false t i bs o e = refl
 
@@ -55,9 +49,7 @@ module _ (t : List ℕ) (i : ℕ) (backslash : slice_get t i ≡ Some 92) (form 
   marked-by (over (wrong k j)) x = refl
 
   marked : Marked (body_at t i).owned (body_at t i).stop
-  marked =
-      subst (λ (b : Body). Marked b.owned b.stop) (sym (body_at-is t i))
-      (marked-by (event_at t i) (event_at-explains t i))
+  marked = rw (body_at-is t i) (marked-by (event_at t i) (event_at-explains t i))
 
 module _ (t : List ℕ) (at : ℕ) (inside : at < length t) where
   -- a text ends after its begin and within the bytes
@@ -90,11 +82,11 @@ module _ (t : List ℕ) (at : ℕ) (inside : at < length t) where
     unfolding event_at
     string-none form e = string-over form unclosed (ap (event_by t to) e)
 
-    pub string-quote : (keep : Bool) → slice_get t to ≡ Some 34
-        → string_at (text_form keep) t at ≡ checked keep (at + 1) false plain (to + 1)
-    string-quote keep e =
-        string-over (text_form keep) (closed (to + 1)) (event_by-quote t to e)
-        ∙ string_closed keep t (at + 1) plain false (to + 1)
+    pub string-quote : (partial : Bool) → slice_get t to ≡ Some 34
+        → string_at (text_form partial) t at ≡ checked partial (at + 1) false plain (to + 1)
+    string-quote partial e =
+        string-over (text_form partial) (closed (to + 1)) (event_by-quote t to e)
+        ∙ string_closed partial t (at + 1) plain false (to + 1)
 
     pub string-control : (form : Form) (b : ℕ) → slice_get t to ≡ Some b → b ≢ 34 → b ≢ 92
         → string_at form t at ≡ failed control_character to

@@ -5,10 +5,8 @@ use Rattle.jiter_steps.proofs.Words.{append-nil, append_assoc, is_in_range, IsSc
 use Rattle.jiter_steps.proofs.Words.{utf8_valid_len, utf8_error_len, second_byte_min, second_byte_max, take-append_seam}
 use Rattle.jiter_steps.proofs.Words.{drop-append_seam, le-leb, take-append-drop, length-take, length-drop, take-take}
 use Rattle.jiter_steps.proofs.Words.{encode_same, IsUtf8-drop, IsCharBoundary-from_take, utf8_valid_len-IsUtf8}
-use Rattle.jiter_steps.proofs.Words.{utf8_valid_len-IsValidUpTo, encode, encodes}
-use Rattle.std.proofs.lemmas.List.{drop-append-le}
-use lib.Utf8.{scalars}
-use Rattle.jiter_steps.proofs.Grammar.Utf8Shape.{Follows, ContainerKind, of1, of2, of3, of4, shape}
+use Rattle.jiter_steps.proofs.Words.{utf8_valid_len-IsValidUpTo, encode, encodes, drop-append-le}
+use Rattle.jiter_steps.proofs.Grammar.Utf8Shape.{Follows, CharShape, of1, of2, of3, of4, shape}
 
 -- w is a prefix of a character's bytes, and not all of them
 pub record IsPrefix (w : List ℕ) : Type 0 where
@@ -42,7 +40,7 @@ three-unfinished a b d l h u v f =
     )
 
 -- so many of its bytes, and not all
-unfinished : (c n : ℕ) → ContainerKind c → n < length (encode c) → utf8_error_len (take n (encode c)) ≡ None
+unfinished : (c n : ℕ) → CharShape c → n < length (encode c) → utf8_error_len (take n (encode c)) ≡ None
 unfolding utf8_error_len
 unfinished c zero s h = refl
 unfinished c (suc n) (of1 l is) h = absurd (omega (arith, ap length is))
@@ -73,8 +71,7 @@ no-text v more c u some is h = by u.0 u.1.0 u.1.1 where
       let all : encode d ++ (encodes ds ++ more) ≡ encode c ++ [] =
       sym (append_assoc (encode d) (encodes ds) more) ∙ ap (λ l. l ++ more) e ∙ sym is
       ∙ sym (append-nil (encode c)) in
-      let same = encode_same d c (encodes ds ++ more) [] all in
-      omega (arith, ap length same.1, length-append (encodes ds) more)
+      omega (arith, ap length (encode_same d c (encodes ds ++ more) [] all).1, length-append (encodes ds) more)
 
 module _ (text w : List ℕ) (u : IsUtf8 text) (f : IsPrefix w) where
   valid-some : 0 < length w → IsValidUpTo (text ++ w) (length text)
@@ -92,10 +89,8 @@ module _ (text w : List ℕ) (u : IsUtf8 text) (f : IsPrefix w) where
         let rest : w ≡ v ++ drop m (text ++ w) =
         sym (drop-append_seam text w) ∙ ap (drop (length text)) (sym (take-append-drop m (text ++ w)))
         ∙ drop-append-le (length text) l (drop m (text ++ w)) (omega arith) in
-        let is : encode f.c ≡ v ++ (drop m (text ++ w) ++ f.more) =
-        f.is ∙ ap (λ x. x ++ f.more) rest ∙ append_assoc v (drop m (text ++ w)) f.more in
-        no-text v (drop m (text ++ w) ++ f.more) f.c (IsUtf8-drop l (length text) t bound)
-        (omega (arith, length-drop (length text) l)) is
+        no-text v _ f.c (IsUtf8-drop l (length text) t bound) (omega (arith, length-drop (length text) l))
+        (f.is ∙ ap (λ x. x ++ f.more) rest ∙ append_assoc v (drop m (text ++ w)) f.more)
         (omega (arith, f.some, length-append (drop m (text ++ w)) f.more));
   }
 

@@ -1,22 +1,20 @@
 -- The cut law. A document that is an array or an object is cut anywhere after its bracket: then a partial reading of
--- the prefix answers exactly what the cut leaves of the document, with the marks of its texts, and never a fault.
+-- the prefix answers exactly what the cut leaves of the document, with the marks of its texts, and never an error.
 -- The prefix is read along the node (ReadPrefix): what ends by the cut is read whole, and what the cut falls into leaves
 -- what `Leaves` says, a scalar by its own laws and a container by induction over its parts.
 use Rattle.jiter_steps.proofs.Words.{◌≡◌, ◌⊎◌, inl, inr, ℕ, ◌+◌, ◌<◌, ◌≤◌, Bool, true, false, Option, Some, None, List}
 use Rattle.jiter_steps.proofs.Words.{[], ◌∷◌, ◌++◌, length, take, refl, sym, ap, ap₂, ◌∙◌, subst, arith, if◌then◌else◌}
 use Rattle.jiter_steps.proofs.Words.{append-nil, append_assoc, slice_get, slice_range, cons_option, option_map}
 use Rattle.jiter_steps.proofs.Words.{cases_lt, take_all, Kind, is_forgiven, Number, number_at, is_number_text}
-use Rattle.jiter_steps.proofs.Words.{allows_trailing_strings, Scanned, taken, failed, Stands, Extent, PartialMode}
+use Rattle.jiter_steps.proofs.Words.{allows_trailing_strings, Scanned, taken, failed, Stands, Span, PartialMode}
 use Rattle.jiter_steps.proofs.Words.{if_case, if-true, if-false, seen_as, value_form, partial_trees, partial_answer}
-use Rattle.jiter_steps.proofs.Words.{cut_number, cut_string, word_of, literal_at, literal_tree, Key, Node, begin, end}
-use Rattle.jiter_steps.proofs.Words.{SpellsNumber, Spells, nesting_round, nesting_round_members, nesting_limit, text_at}
-use Rattle.jiter_steps.proofs.Words.{number_tree, value_of, IsContainer, IsDocument, Piece, SpellsString, Reading, done}
-use Rattle.jiter_steps.proofs.Words.{fault, Rules, Container, scalar_at, with_key, if_forgiven, follow, parts_at}
-use Rattle.jiter_steps.proofs.Words.{container_at, array_of, object_of, Step, stuck, step, whole, kept, string_at, Text}
-use Rattle.jiter_steps.proofs.Words.{Tree, Literal}
-use Rattle.jiter_scan.specs.PartialMode.{is_active}
-use Rattle.jiter_steps.specs.Answer.{answer_in}
-use Rattle.jiter_steps.specs.Cut.{cut, IsBegunContainer}
+use Rattle.jiter_steps.proofs.Words.{cut_number, word_of, literal_at, literal_tree, Key, Node, begin, end, SpellsNumber}
+use Rattle.jiter_steps.proofs.Words.{Spells, nesting_round, nesting_round_members, nesting_limit, text_at, number_tree}
+use Rattle.jiter_steps.proofs.Words.{value_of, IsContainer, IsDocument, Piece, SpellsString, Reading, done, fault}
+use Rattle.jiter_steps.proofs.Words.{Rules, Container, scalar_at, with_key, if_forgiven, follow, parts_at, container_at}
+use Rattle.jiter_steps.proofs.Words.{array_of, Step, stuck, step, whole, kept, string_at, Text, Tree, Literal}
+use Rattle.jiter_steps.proofs.Words.{is_active, answer_in, IsBegunContainer, word_at-complete}
+use Rattle.jiter_steps.specs.Cut.{cut}
 use Rattle.jiter_steps.specs.Node as grammar
 use Rattle.jiter_steps.specs.Tree as tree
 use Rattle.jiter_steps.proofs.Reading.WholeTexts.{prefix-begins}
@@ -34,14 +32,14 @@ use Rattle.jiter_steps.proofs.Reading.Instances.{trees-advances}
 use Rattle.jiter_steps.proofs.Grammar.Blanks.{blank-passed}
 use Rattle.jiter_steps.proofs.Cut.NumberCutLaws.{CutNumber, number_at-before, number_at-cuts}
 use Rattle.jiter_steps.proofs.Cut.ReadPrefixes.{IsCutMember, CutRules, value_at-prefix}
-use Rattle.jiter_steps.proofs.Grammar.ScalarLaws.{ScalarLaws, scalar-laws, EndsNumber}
+use Rattle.jiter_steps.proofs.Grammar.ScalarLaws.{EndsNumber}
 use Rattle.jiter_steps.proofs.Grammar.SpelledParts.{begins-value, begin-within, node-within, ends-end, nodes_list}
-use Rattle.jiter_steps.proofs.Grammar.SpelledParts.{members_list, InOrder, items-order, members-order}
+use Rattle.jiter_steps.proofs.Grammar.SpelledParts.{InOrder, items-order, members-order}
 use Rattle.jiter_steps.proofs.Cut.StringCutLaws.{string_at-cut, string_at-cut_whole, string_at-before}
 use Rattle.jiter_steps.proofs.Reading.Values.{Goes, parts-part, parts-fault}
 
 -- The induction hypothesis: what the reading of a value leaves that the prefix u cuts. Where the value has a cut, it is
--- read; where it has none, the fault is one that the container round it forgives. Either way the reading halts where no
+-- read; where it has none, the error is one that the container round it forgives. Either way the reading halts where no
 -- container takes a byte.
 abbrev pub Leaves : {A : Type 0} → List ℕ → Option A → Reading A → Type 0
 Leaves u (Some v) (done w p) = (w ≡ v) × Halts u p
@@ -62,11 +60,8 @@ module _ (names : Bool) (t : List ℕ) (k : ℕ) (within : k ≤ length t) (mode
   abbrev Reads : Node → Reading Tree → Type 0
   Reads n x = (end n ≤ k → x ≡ done (value_of t n) (end n)) × (k < end n → IsCut n x)
 
-  -- Scalars. One that is cut has no cut or is read up to k, and else the reading stands at its first byte.
-  laws : ScalarLaws names prefix
-  laws = scalar-laws names prefix
-
-  abbrev LiteralOf : Literal → ℕ → Extent → Reading Tree
+  -- Scalars. One that is cut has no cut or is read up to k, and else the reading is at its first byte.
+  abbrev LiteralOf : Literal → ℕ → Span → Reading Tree
   LiteralOf l b x = scalar_at b (seen_as (λ v e. literal_tree l) x)
 
   abbrev NumberOf : ℕ → Scanned Number → Reading Tree
@@ -78,13 +73,11 @@ module _ (names : Bool) (t : List ℕ) (k : ℕ) (within : k ≤ length t) (mode
   literal-reads : (l : Literal) (b e : ℕ) → Stands t b e (word_of l) → b < k
       → Reads (grammar.literal l b e) (LiteralOf l b (literal_at prefix l b))
   literal-reads l b e h lt = (
-    λ le. ap (LiteralOf l b) (laws.literal-complete l b e (prefix-stands t k within b e (word_of l) h le)),
+    λ le. ap (LiteralOf l b) (word_at-complete prefix (word_of l) b e (prefix-stands t k within b e (word_of l) h le)),
     λ gt.
         let none = literal-left names t k mode l b e gt in
         let short = prefix-word t k within (word_of l) b e h (omega arith) gt in
-        subst (λ o. Leaves prefix o (LiteralOf l b (literal_at prefix l b))) (sym none)
-        (subst (λ x. Leaves prefix None (LiteralOf l b x)) (sym short)
-        (refl, begin-halts names t k within (grammar.literal l b e) h lt)),
+        rw none (rw short (refl, begin-halts names t k within (grammar.literal l b e) h lt)),
   )
 
   number-leaves : (b : ℕ) (x : Scanned Number) → Halts prefix b → CutNumber names t k within b x
@@ -102,8 +95,7 @@ module _ (names : Bool) (t : List ℕ) (k : ℕ) (within : k ≤ length t) (mode
   number-reads b e h q lt = (
     λ le. ap (NumberOf b) (number_at-before names t k within b e h q le),
     λ gt.
-        subst (λ o. Leaves prefix o (NumberOf b (number_at names prefix b)))
-        (sym (number-left names t k mode b e lt gt))
+        rw (number-left names t k mode b e lt gt)
         (number-leaves b (number_at names prefix b) (begin-halts names t k within (grammar.number b e) h lt)
         (number_at-cuts names t k within b e h q lt gt)),
   )
@@ -116,12 +108,9 @@ module _ (names : Bool) (t : List ℕ) (k : ℕ) (within : k ≤ length t) (mode
   text-leaves : (ps : List Piece) (b e : ℕ) → SpellsString t b ps e → b < k → k < e → (keeps : Bool)
       → Leaves prefix (cut_string_if names t k mode ps b keeps)
       (StringOf b (string_at (if keeps then kept else whole) prefix b))
-  text-leaves ps b e h lt gt true =
-      subst (λ x. Leaves prefix (Some (cut_string t ps b k)) (StringOf b x))
-      (sym (string_at-cut t k within b e ps h lt gt))
-      (refl, (cut-halts t k within))
+  text-leaves ps b e h lt gt true = rw (string_at-cut t k within b e ps h lt gt) (refl, (cut-halts t k within))
   text-leaves ps b e h lt gt false =
-      subst (λ x. Leaves prefix None (StringOf b x)) (sym (string_at-cut_whole t k within b e ps h lt gt).0)
+      rw (string_at-cut_whole t k within b e ps h lt gt).0
       (refl, begin-halts names t k within (grammar.string ps b e) h lt)
 
   text-reads : (ps : List Piece) (b e : ℕ) → SpellsString t b ps e → b < k
@@ -129,9 +118,7 @@ module _ (names : Bool) (t : List ℕ) (k : ℕ) (within : k ≤ length t) (mode
   text-reads ps b e h lt = (
     λ le. ap (StringOf b) (text-whole ps b e h le (allows_trailing_strings mode)),
     λ gt.
-        subst (λ o. Leaves prefix o (StringOf b (string_at (value_form mode) prefix b)))
-        (sym (string-left names t k mode ps b e lt gt))
-        (text-leaves ps b e h lt gt (allows_trailing_strings mode)),
+        rw (string-left names t k mode ps b e lt gt) (text-leaves ps b e h lt gt (allows_trailing_strings mode)),
   )
 
   -- Containers whose reading sticks where it halts after a part, and whose part that k cuts leaves its cut.
@@ -199,9 +186,8 @@ module _ (names : Bool) (t : List ℕ) (k : ℕ) (within : k ≤ length t) (mode
         → Closes (qs ++ left ps) (After qs (step prefix row m))
     parts-close levels i e [] row m qs order h = input-closes qs [] (step prefix row m) h refl
     parts-close levels i e (p ∷ ps) row m qs order (inl h) =
-        let late : InOrder names t levels value k (p ∷ ps) e = (h.1, order.1, order.2, order.3) in
         input-closes qs (p ∷ ps) (step prefix row m) h.0
-        (parts-late names t k mode value seen levels k (p ∷ ps) e late (omega arith))
+        (parts-late names t k mode value seen levels k (p ∷ ps) e (h.1, order.1, order.2, order.3) (omega arith))
     parts-close levels i e (p ∷ ps) row m qs order (inr (j, begins, lt, inl (past, cuts))) =
         let none = parts-late names t k mode value seen levels (end (value p)) ps e order.3 (omega arith) in
         along (qs ++ left (p ∷ ps)) (After qs (step prefix row m)) (At qs j) (ap (After qs) begins)
@@ -214,8 +200,7 @@ module _ (names : Bool) (t : List ℕ) (k : ℕ) (within : k ≤ length t) (mode
         let rest = parts-close levels (end (value p)) e ps c.next f (qs ++ q ∷ []) order.3 more_parts in
         let same = ap (option_map (seen p)) (node-whole names t mode k (value p) order.1 ends) in
         let whole = append_assoc qs (q ∷ []) (left ps) ∙ ap (λ o. qs ++ cons_option o (left ps)) (sym same) in
-        along (qs ++ left (p ∷ ps)) (After qs (step prefix row m)) after (ap (After qs) begins ∙ read)
-        (subst (λ l. Closes l after) whole rest)
+        along (qs ++ left (p ∷ ps)) _ after (ap (After qs) begins ∙ read) (subst (λ l. Closes l after) whole rest)
 
     -- A container that is cut leaves its cut.
     container-leaves : (b i e levels : ℕ) (ps : List P) (o : Option Tree) → InOrder names t levels value i ps e
@@ -223,8 +208,7 @@ module _ (names : Bool) (t : List ℕ) (k : ℕ) (within : k ≤ length t) (mode
         → ((p : ℕ) → o ≡ Some (c.build p (left ps))) → Leaves prefix o (container_at rules c prefix b)
     container-leaves b i e levels ps o order h is =
         let closes = parts-close levels i e ps c.first (b + 1) [] order h in
-        subst (λ o. Leaves prefix o (container_at rules c prefix b)) (sym (is closes.0))
-        (subst (Leaves prefix (Some (c.build closes.0 (left ps)))) (sym closes.1) (refl, closes.2))
+        rw (is closes.0) (rw closes.1 (refl, closes.2))
 
   -- Members that k cuts.
   with_key-leaves : (key : Text) (o : Option Tree) (y : Reading Tree) → Leaves prefix o y
@@ -243,12 +227,9 @@ module _ (names : Bool) (t : List ℕ) (k : ℕ) (within : k ≤ length t) (mode
   member-leaves : (m : Key × Node) (x : Reading (Text × Tree)) → Spells names t m.1 → CutsMember m x
       → Leaves prefix (part_left names t k mode (λ m. m.1) (member_seen t) m) x
   member-leaves m x h (inl before) =
-      subst (λ o. Leaves prefix (option_map (member_seen t m) o) x) (sym (node-late names t k mode m.1 before.unread))
-      (subst (Leaves prefix None) (sym before.is)
-      (end-forgiven before.kind before.early, key-halts before.stop before.stands))
-  member-leaves m x h (inr (y, is, cuts)) =
-      let o = cut names t m.1 k mode in
-      subst (Leaves prefix (option_map (member_seen t m) o)) (sym is) (with_key-leaves (key_text t m.0) o y cuts)
+      rw (node-late names t k mode m.1 before.unread)
+      (rw before.is (end-forgiven before.kind before.early, key-halts before.stop before.stands))
+  member-leaves m x h (inr (y, is, cuts)) = rw is (with_key-leaves (key_text t m.0) (cut names t m.1 k mode) y cuts)
 
   -- items
   item-leaves : (o : Option Tree) (x : Reading Tree) → Leaves prefix o x → Leaves prefix (option_map (λ v. v) o) x
@@ -274,9 +255,8 @@ module _ (names : Bool) (t : List ℕ) (k : ℕ) (within : k ≤ length t) (mode
     object-cut = λ inner b e ms h lt goes parts.
         let levels = nesting_round_members ms in
         let order = members-order names t levels ms (b + 1) e h.1 (omega arith) in
-        container-leaves (object_of rules inner prefix b) (λ m. m.1) (member_seen t) CutsMember (λ qs j. refl) goes
-        (container-halts prefix shape.Object) member-leaves b (b + 1) e levels (members_list ms) _ order parts
-        (λ p. object-left names t k mode b e ms lt);
+        container-leaves _ (λ m. m.1) _ CutsMember (λ qs j. refl) goes (container-halts prefix shape.Object)
+        member-leaves b (b + 1) e levels _ _ order parts (λ p. object-left names t k mode b e ms lt);
   }
 
   -- A document that is begun before the cut: whole if it ends by k, or its cut.
@@ -287,8 +267,7 @@ module _ (names : Bool) (t : List ℕ) (k : ℕ) (within : k ≤ length t) (mode
       let blanks = prefix-blank t k within 0 (begin n) d.before (omega arith) in
       let at = blank-passed prefix 0 (begin n) first.byte blanks here first.no_blank in
       let begins = prefix-begins rules prefix (begin n) at (omega (arith, prefix-length t k within)) in
-      subst (Reads n) (sym begins)
-      (value_at-prefix rules names t k within (key_text t) (value_of t) IsCut
+      rw begins (value_at-prefix rules names t k within (key_text t) (value_of t) IsCut
       (trees-advances prefix is_forgiven (value_form mode) names) cut-rules n nesting_limit d.spelled d.limit
       (ends-end t (end n) d.after) lt)
 
@@ -329,8 +308,7 @@ cut-law names t n k mode d is lt within = by (cases_lt k (end n)) where
 pub partial_answer-of : (names : Bool) (t : List ℕ) (mode : PartialMode) (n : Node) → IsDocument names t n
     → partial_answer names mode t ≡ done (value_of t n) (end n)
 partial_answer-of names t mode n d =
-    let inside = begin-within names t n d.spelled in
-    let reads = document-reads names t (length t) (omega arith) mode n d inside in
+    let reads = document-reads names t (length t) (omega arith) mode n d (begin-within names t n d.spelled) in
     subst (λ u. partial_answer names mode u ≡ done (value_of t n) (end n)) (take_all (length t) t (omega arith))
     (reads.0 (node-within names t n d.spelled))
 

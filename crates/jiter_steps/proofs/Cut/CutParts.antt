@@ -2,7 +2,7 @@
 -- in one.
 use Rattle.jiter_steps.proofs.Words.{◌≡◌, ◌⊎◌, inl, inr, ℕ, ◌+◌, ◌<◌, ◌≤◌, true, List, [], ◌∷◌, ◌++◌, length, map, take}
 use Rattle.jiter_steps.proofs.Words.{None, refl, sym, ap, ◌∙◌, arith, append-nil, append_assoc, Option, cases_lt, Kind}
-use Rattle.jiter_steps.proofs.Words.{is_end_kind, eof_object, eof_value, failed, extent_then, if-false, IsBlank, Node}
+use Rattle.jiter_steps.proofs.Words.{is_end_kind, eof_object, eof_value, failed, span_then, if-false, IsBlank, Node}
 use Rattle.jiter_steps.proofs.Words.{begin, end, StandsAfter, Reading, done, Rules, Container, follow, parts_at}
 use Rattle.jiter_steps.proofs.Words.{container_at, Step, more, closed, stuck, step, end_kind_of, container_first}
 use Rattle.jiter_steps.proofs.Words.{container_comma, container_step, colon, value_first, object_colon, ContainerKind}
@@ -20,7 +20,7 @@ module _ (t : List ℕ) (k : ℕ) (within : k ≤ length t) where
   abbrev pub EndsInput : Step → Type 0
   EndsInput s = (kind : Kind) × (s ≡ stuck kind k) × (is_end_kind kind ≡ true)
 
-  -- Where the prefix ends in the blanks before a part, a comma or a closer, the input ends.
+  -- Where the prefix ends in the whitespace before a part, a comma or a closer, the input ends.
   pub record Cuts (first next : ℕ → Option ℕ → Step) : Type 0 where
     pub first-cut : (i j : ℕ) → IsBlank t i j → i ≤ k → k ≤ j → EndsInput (step u first i)
     pub next-cut : (i j : ℕ) → IsBlank t i j → i ≤ k → k ≤ j → EndsInput (step u next i)
@@ -42,17 +42,17 @@ module _ (t : List ℕ) (k : ℕ) (within : k ≤ length t) where
             (eof_value, ends, refl);
       }
 
-  -- after a key: its colon, and what stands before its value
+  -- after a key: its colon, and what is before its value
   pub colon-cut : (i c : ℕ) → StandsAfter t i 58 c → i ≤ k → k < c → object_colon u i ≡ failed eof_object k
   colon-cut i c h le lt =
-      ap (λ x. extent_then x (step u value_first))
+      ap (λ x. span_then x (step u value_first))
       (row-cut t k within colon i h.at h.blanks le (omega (arith, h.ends)))
 
   pub value_first-cut : (i c j : ℕ) → StandsAfter t i 58 c → c ≤ k → IsBlank t c j → k ≤ j
       → object_colon u i ≡ failed eof_value k
   value_first-cut i c j h le b ge =
       let g = prefix-after t k within i 58 c h le in
-      ap (λ x. extent_then x (step u value_first)) (row-at u colon i g.at 58 g.blanks g.here refl)
+      ap (λ x. span_then x (step u value_first)) (row-at u colon i g.at 58 g.blanks g.here refl)
       ∙ ap (step u value_first) (sym g.ends)
       ∙ row-cut t k within value_first c j b le ge
 
@@ -130,9 +130,8 @@ module _ (t : List ℕ) (k : ℕ) (within : k ≤ length t) where
               → At so_far x.begin ≡ done (c.build e (so_far ++ map seen (p ∷ ps))) e
           first-whole so_far m e p ps x le rest =
               let order = before m e p ps x le in
-              let read = (prefix.reads x.begin p x.end x.is order.0).0 order.1 in
               parts-part r u c goes x.begin x.end so_far (seen p) _ (omega (arith, prefix-length t k within))
-              (free so_far x.begin) read refl
+              (free so_far x.begin) ((prefix.reads x.begin p x.end x.is order.0).0 order.1) refl
               ∙ rest ∙ ap (λ l. done (c.build e l) e) (append_assoc so_far (seen p ∷ []) (map seen ps))
 
           more-whole : (so_far : List Q) (ps : List P) (i e : ℕ) → More ps i e → e ≤ k
@@ -153,7 +152,7 @@ module _ (t : List ℕ) (k : ℕ) (within : k ≤ length t) where
               ap (After []) (more-first (b + 1) e p ps h (before (b + 1) e p ps h le).0)
               ∙ first-whole [] (b + 1) e p ps h le (more-whole (seen p ∷ []) ps h.end e h.rest le)
 
-      -- Of one that k cuts as much is read as stands before k.
+      -- Of one that k cuts as much is read as is before k.
       first-cut : (row : ℕ → Option ℕ → Step) (i m e : ℕ) (p : P) (ps : List P) (x : First m p ps e)
           → (k ≤ x.begin → EndsInput (step u row i)) → (x.begin < k → step u row i ≡ more x.begin)
           → (x.end ≤ k → CutParts c.next x.end ps) → CutParts row i (p ∷ ps)

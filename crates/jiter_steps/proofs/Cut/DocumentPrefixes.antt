@@ -1,10 +1,9 @@
--- The prefix of a text: its bytes, blanks and steps before the place k.
+-- The prefix of a text: its bytes, whitespace and steps before the place k.
 use Rattle.jiter_steps.proofs.Words.{◌≡◌, ◌⊎◌, inl, inr, ℕ, ◌+◌, ◌<◌, ◌≤◌, Bool, cond, List, [], ◌∷◌, length, take}
 use Rattle.jiter_steps.proofs.Words.{refl, sym, ap, ◌∙◌, subst, arith, slice_get, slice_index, slice_range, Option}
 use Rattle.jiter_steps.proofs.Words.{Some, None, IfSome, cases_lt, eq-eqb, get_or-take, slice_get-get_or}
 use Rattle.jiter_steps.proofs.Words.{slice_get_past, eof_value, expected_ident, failed, Stands, byte_then, word_at}
-use Rattle.jiter_steps.proofs.Words.{past_blanks, IsBlankByte, IsBlank, StandsAfter, SpellsNumber, step}
-use Rattle.std.proofs.lemmas.List.{length-take-le}
+use Rattle.jiter_steps.proofs.Words.{past_blanks, IsBlankByte, IsBlank, StandsAfter, SpellsNumber, step, length-take-le}
 use Rattle.jiter_steps.proofs.Grammar.Blanks.{blank-to_end}
 use Rattle.jiter_steps.proofs.Fault.SameSpelling.{stands-too, range-same, number-too, blanks-too, after-too}
 
@@ -66,7 +65,7 @@ module _ (t : List ℕ) (k : ℕ) (within : k ≤ length t) where
   pub prefix-index : (i : ℕ) → i < k → slice_index u i ≡ slice_index t i
   prefix-index i h = get_or-take k t i 0 h
 
-  -- blanks that are cut
+  -- whitespace that is cut
   pub cut-blank : (i j : ℕ) → IsBlank t i j → i ≤ k → k ≤ j → IsBlank u i (length u)
   cut-blank i j b le ge = record {
     ordered = omega (arith, prefix-length);
@@ -76,7 +75,7 @@ module _ (t : List ℕ) (k : ℕ) (within : k ≤ length t) where
         subst IsBlankByte (sym (prefix-index m lt)) (b.each m l (omega arith));
   }
 
-  -- Steps: where the text ends in the blanks, the row is at the end of input.
+  -- Steps: where the text ends in the whitespace, the row is at the end of input.
   pub row-cut : {A : Type 0} (row : ℕ → Option ℕ → A) (i j : ℕ) → IsBlank t i j → i ≤ k → k ≤ j
       → step u row i ≡ row k None
   row-cut row i j b le ge =

@@ -3,9 +3,8 @@ use Rattle.jiter_steps.proofs.Words.{◌≡◌, ◌≢◌, ℕ, ◌<◌, ◌≤�
 use Rattle.jiter_steps.proofs.Words.{subst, sym, arith, IfSome, slice_get, Option, Some, None, ne_eqb, nat_tests}
 use Rattle.jiter_steps.proofs.Words.{slice_get_within, Kind, is_end_kind, is_forgiven, if-false, get-none, is_blank}
 use Rattle.jiter_steps.proofs.Words.{start_of, Node, begin, Spells, Step, stuck, step, closer_of, end_kind_of}
-use Rattle.jiter_steps.proofs.Words.{comma_kind_of, container_step, ContainerKind}
-use Rattle.jiter_scan.specs.Kind.{expected_list_comma_or_end}
-use Rattle.jiter_scan.specs.Kind.{expected_object_comma_or_end}
+use Rattle.jiter_steps.proofs.Words.{comma_kind_of, container_step, ContainerKind, expected_list_comma_or_end}
+use Rattle.jiter_steps.proofs.Words.{expected_object_comma_or_end}
 use Rattle.jiter_steps.specs.Node as grammar
 use Rattle.jiter_steps.specs.declared.parse.Start.TheVariants as start
 use Rattle.jiter_steps.proofs.Grammar.Blanks.{past_blanks-end}
@@ -15,11 +14,11 @@ use Rattle.jiter_steps.proofs.Cut.DocumentPrefixes.{prefix-get, prefix-past}
 use Rattle.jiter_steps.proofs.Grammar.RowSteps.{row-at}
 use Rattle.jiter_steps.proofs.Grammar.SpelledParts.{start_is, begins-value}
 
--- at the end of the text, or at a byte that begins a value: it is no blank, comma or closer
+-- at the end of the text, or at a byte that begins a value: it is not whitespace, comma or closer
 abbrev pub Halts : List ℕ → ℕ → Type 0
 Halts t p = IfSome (slice_get t p) (λ c. start_of c ≢ start.Nothing)
 
--- a fault at p that a partial mode forgives
+-- an error at p that a partial mode forgives
 abbrev pub StuckAt : ℕ → Step → Type 0
 StuckAt p s = (kind : Kind) × (s ≡ stuck kind p) × (is_forgiven kind ≡ true)
 

@@ -2,24 +2,19 @@
 use Rattle.jiter_steps.proofs.Words.{◌≡◌, ◌⊎◌, inl, inr, ℕ, zero, suc, ◌+◌, ◌<◌, ◌≤◌, Bool, Option, Some, None, List}
 use Rattle.jiter_steps.proofs.Words.{[], ◌∷◌, ◌++◌, ◌==◌, ◌||◌, true, refl, sym, ap, ap₂, ◌∙◌, subst, arith, nat_le}
 use Rattle.jiter_steps.proofs.Words.{map, min, slice_range, append-nil, cons_option, list_any, option_map}
-use Rattle.jiter_steps.proofs.Words.{encode_utf8_all, cases_lt, le-leb, is_number_text, allows_trailing_strings}
-use Rattle.jiter_steps.proofs.Words.{PartialMode, if_case, if-true, number_text-decides, slice_range-split}
-use Rattle.jiter_steps.proofs.Words.{literal_tree, Piece, characters, text_of, pieces_to, Text, Tree, items_of}
-use Rattle.jiter_steps.proofs.Words.{members_of, Node, Nodes, no_nodes, node, NodeMembers, no_members, member, begin}
-use Rattle.jiter_steps.proofs.Words.{end, Spells, nesting, has_backslash, text_at, value_of, cut_number, cut_string}
-use Rattle.std.proofs.lemmas.Bool.{leb-true}
-use Rattle.std.proofs.lemmas.List.{map-append}
-use Rattle.std.proofs.lemmas.List.Folds.{list_any-append}
-use Rattle.std.proofs.lemmas.Str.{encodes-append}
-use Rattle.jiter_steps.specs.Tree.{Items, Members}
+use Rattle.jiter_steps.proofs.Words.{encode_utf8_all, cases_lt, le-leb, allows_trailing_strings, PartialMode, if_case}
+use Rattle.jiter_steps.proofs.Words.{if-true, number_text-decides, slice_range-split, literal_tree, Piece, characters}
+use Rattle.jiter_steps.proofs.Words.{text_of, pieces_to, Text, Tree, items_of, members_of, Node, Nodes, no_nodes, node}
+use Rattle.jiter_steps.proofs.Words.{NodeMembers, no_members, member, begin, end, Spells, nesting, has_backslash}
+use Rattle.jiter_steps.proofs.Words.{text_at, value_of, cut_number, cut_string, leb-true, map-append, list_any-append}
+use Rattle.jiter_steps.proofs.Words.{encodes-append, Items, Members, Extends, ExtendsItems, ExtendsMembers}
+use Rattle.jiter_steps.proofs.Words.{CutsNoNumber, CutsNoNumberOf, CutsNoNumberOfMembers}
 use Rattle.jiter_steps.specs.Tree as tree
 use Rattle.jiter_steps.specs.Node as grammar
 use Rattle.jiter_steps.specs.Cut.{cut}
-use Rattle.jiter_steps.specs.Extends.{Extends, ExtendsItems, ExtendsMembers, CutsNoNumber, CutsNoNumberOf}
-use Rattle.jiter_steps.specs.Extends.{CutsNoNumberOfMembers}
 use Rattle.jiter_steps.proofs.Cut.CutNodes.{values-listed, member_values-listed, begun, item_seen, member_seen}
-use Rattle.jiter_steps.proofs.Cut.CutNodes.{part_left, parts_left, literal-left, cut_string_if, string-left}
-use Rattle.jiter_steps.proofs.Cut.CutNodes.{array-left, object-left, node-late, parts-late}
+use Rattle.jiter_steps.proofs.Cut.CutNodes.{part_left, parts_left, literal-left, cut_string_if, string-left, array-left}
+use Rattle.jiter_steps.proofs.Cut.CutNodes.{object-left, node-late, parts-late}
 use Rattle.jiter_steps.proofs.Grammar.SpelledParts.{nodes_list, members_list, InOrder, items-order, members-order}
 use Rattle.jiter_steps.proofs.Grammar.SpelledParts.{node-ahead, order-ahead}
 
@@ -73,7 +68,7 @@ text-prefix ps qs rest e =
     ap text_of e ∙ ap encode_utf8_all (map-append (λ (p : Piece). p.character) ps rest)
     ∙ encodes-append (characters ps) (characters rest)
 
--- a backslash before a place stands before a later one
+-- a backslash before a place is before a later one
 backslash-stays : (t : List ℕ) (i k l : ℕ) → i ≤ k → k ≤ l → has_backslash t i k ≡ true → has_backslash t i l ≡ true
 backslash-stays t i k l ahead later h =
     ap (list_any (λ c. c == 92)) (slice_range-split t i k ahead l later)
@@ -99,7 +94,7 @@ last-grows More None p ys h = tt
 last-grows More (Some v) None ys h = absurd h
 last-grows More (Some v) (Some w) ys h = h
 
--- one that stays stands before others
+-- one that stays is before others
 rest-grows : {A : Type 0} (More : A → A → Type 0) (o : Option A) (xs ys : List A) → Grows More o o
     → ListGrows More xs ys → ListGrows More (cons_option o xs) (cons_option o ys)
 rest-grows More None xs ys h more = more
@@ -148,15 +143,13 @@ module _ (names : Bool) (t : List ℕ) (mode : PartialMode) where
         let order = node-ahead names t (grammar.number b e) h in
         let all : min k e ≡ e = omega arith in
         begun b k _ (omega arith) ∙ ap (λ m. cut_number names (slice_range t b m)) all
-        ∙ if-true (is_number_text names (slice_range t b e)) (Some (value_of t (grammar.number b e))) None
-        ((number_text-decides names (slice_range t b e)).1 h.text)
+        ∙ if-true _ _ None ((number_text-decides names (slice_range t b e)).1 h.text)
     whole-below (suc levels) (grammar.string ps b e) h d le =
         let order = node-ahead names t (grammar.string ps b e) h in
         begun b k _ (omega arith) ∙ if-true (nat_le e k) (Some (tree.string (text_at t ps b e))) _ (le-leb e k le)
     whole-below (suc levels) (grammar.array b e ns) h d le =
         let order = items-order names t levels ns (b + 1) e h.1 (omega arith) in
-        let inner = whole-below levels in
-        let same = parts-whole (λ n. n) item_seen levels (b + 1) (nodes_list ns) e inner order le in
+        let same = parts-whole (λ n. n) item_seen levels (b + 1) (nodes_list ns) e (whole-below levels) order le in
         array-left names t k mode b e ns (omega (arith, node-ahead names t (grammar.array b e ns) h))
         ∙ ap (λ x. Some (tree.array x)) (ap items_of same ∙ values-listed t ns)
     whole-below (suc levels) (grammar.object b e ms) h d le =
@@ -179,8 +172,7 @@ module _ (names : Bool) (t : List ℕ) (mode : PartialMode) where
 
     along : (n : Node) (o p : Option Tree) → cut names t n k mode ≡ o → cut names t n l mode ≡ p → Grows Extends o p
         → NodeExtends n
-    along n o p at_k at_l h =
-        subst (λ x. Grows Extends x (cut names t n l mode)) (sym at_k) (subst (Grows Extends o) (sym at_l) h)
+    along n o p at_k at_l h = rw at_k (rw at_l h)
 
     none-grows : (n : Node) → cut names t n k mode ≡ None → NodeExtends n
     none-grows n e = along n None (cut names t n l mode) e refl tt
@@ -194,9 +186,6 @@ module _ (names : Bool) (t : List ℕ) (mode : PartialMode) where
       by : (begin n < k) ⊎ (k ≤ begin n) → NodeExtends n
       by (inl lt) = grows lt
       by (inr unread) = none-grows n (node-late names t k mode n unread)
-
-    still : (n : Node) → Spells names t n → end n ≤ k → cut names t n k mode ≡ cut names t n l mode
-    still n h all = node-whole k n h all ∙ sym (node-whole l n h (omega arith))
 
     -- no number is cut by k
     abbrev CutsNone : {P : Type 0} → (P → Node) → List P → Type 0
@@ -241,7 +230,8 @@ module _ (names : Bool) (t : List ℕ) (mode : PartialMode) where
             (sym (parts-late names t k mode value seen levels (end (value p)) ps e order (omega arith)))
             (last-grows More (one_left k p) (one_left l p) (left l ps) here)
         by (inr all) =
-            let same = ap (option_map (seen p)) (still (value p) h all) in
+            let whole = node-whole k (value p) h all ∙ sym (node-whole l (value p) h (omega arith)) in
+            let same = ap (option_map (seen p)) whole in
             subst (λ o. ListGrows More (left k (p ∷ ps)) (cons_option o (left l ps))) same
             (rest-grows More (one_left k p) (left k ps) (left l ps)
             (subst (Grows More (one_left k p)) (sym same) here) rest)
@@ -259,8 +249,7 @@ module _ (names : Bool) (t : List ℕ) (mode : PartialMode) where
           → InOrder names t levels value i ps e → CutsNone value ps → NodeExtends n
       container-grows n build i e ps grow is order c =
           begun-grows n (λ lt.
-          along n (Some (build (left k ps))) (Some (build (left l ps))) (is k lt) (is l (omega arith))
-          (grow (left k ps) (left l ps) (parts-grow i e ps order c)))
+          along n _ _ (is k lt) (is l (omega arith)) (grow (left k ps) (left l ps) (parts-grow i e ps order c)))
 
     -- what is kept of a string that k cuts
     kept-grows : (ps : List Piece) (b e : ℕ) → b < k → k < e
@@ -269,12 +258,11 @@ module _ (names : Bool) (t : List ℕ) (mode : PartialMode) where
     kept-grows ps b e lt cuts =
         if_case (λ x. Grows Extends x (cut names t (grammar.string ps b e) l mode)) (allows_trailing_strings mode)
         (Some (cut_string t ps b k)) None
-        (λ kept. subst Kept (sym (begun b l _ (omega arith)))
-        (if_case Kept (nat_le e l) (Some (tree.string (text_at t ps b e)))
+        (λ kept. rw (begun b l _ (omega arith)) (if_case Kept (nat_le e l) (Some (tree.string (text_at t ps b e)))
         (cut_string_if names t l mode ps b (allows_trailing_strings mode))
         (λ y. let f = pieces-all k ps in
         (text_of f.0, text-prefix (pieces_to k ps) ps f.0 f.1, backslash-stays t b k e (omega arith) (omega arith)))
-        (λ y. subst Kept (sym (if-true (allows_trailing_strings mode) (Some (cut_string t ps b l)) None kept))
+        (λ y. rw (if-true (allows_trailing_strings mode) (Some (cut_string t ps b l)) None kept)
         (let f = pieces-prefix k l later ps in (
           text_of f.0,
           text-prefix (pieces_to k ps) (pieces_to l ps) f.0 f.1,

@@ -11,7 +11,7 @@ abbrev pub CutAt : {A : Type 0} → ℕ → Scanned A → Type 0
 CutAt k (taken a e) = e ≡ k
 CutAt k (failed kind j) = is_end_kind kind ≡ true
 
--- a fault before the end of input
+-- an error before the end of input
 abbrev IsLate : Kind → Type 0
 IsLate kind = is_end_kind kind ≡ false
 
@@ -19,7 +19,7 @@ module _ (t : List ℕ) (k : ℕ) (within : k ≤ length t) where
   abbrev u : List ℕ
   u = take k t
 
-  -- each byte of the prefix stands in the text
+  -- each byte of the prefix is in the text
   bytes-too : SameBefore u t (k + 1)
   bytes-too j c lt e =
       let inside = slice_get_within u j c e in
@@ -34,8 +34,7 @@ module _ (t : List ℕ) (k : ℕ) (within : k ≤ length t) where
   reading-cut i e n y (taken m d) gt is inside same = elim (cases_lt d k) [
     | inl lt ↦
         let long = prefix-length t k within in
-        let r = same (omega arith, omega arith) in
-        let end = (same_taken m n d e (sym r.2 ∙ is)).1 in
+        let end = (same_taken m n d e (sym (same (omega arith, omega arith)).2 ∙ is)).1 in
         absurd (omega arith)
     | inr ge ↦ omega (arith, inside.1, prefix-length t k within)
   ]

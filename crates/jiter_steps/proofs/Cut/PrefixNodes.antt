@@ -3,11 +3,11 @@
 use Rattle.jiter_steps.proofs.Words.{◌≡◌, inl, inr, ℕ, ◌+◌, ◌<◌, ◌≤◌, Bool, true, false, List, [], ◌∷◌, ◌++◌, length}
 use Rattle.jiter_steps.proofs.Words.{take, None, refl, sym, ap, ◌∙◌, subst, arith, slice_range, Option, chars, Kind}
 use Rattle.jiter_steps.proofs.Words.{is_end_kind, Number, number_value, number_at, Scanned, taken, failed, Stands}
-use Rattle.jiter_steps.proofs.Words.{Extent, if-false, seen_as, word_of, literal_at, Key, Node, begin, end}
+use Rattle.jiter_steps.proofs.Words.{Span, if-false, seen_as, word_of, literal_at, Key, Node, begin, end}
 use Rattle.jiter_steps.proofs.Words.{SpellsNumber, Spells, nesting, IsContainer, Piece, SpellsString, Reading, done}
 use Rattle.jiter_steps.proofs.Words.{fault, Rules, Container, scalar_at, with_key, if_forgiven, follow, parts_at}
-use Rattle.jiter_steps.proofs.Words.{array_of, object_of, value_at, Step, stuck, step, array_first, object_first, whole}
-use Rattle.jiter_steps.proofs.Words.{string_at, Text, Literal}
+use Rattle.jiter_steps.proofs.Words.{value_at, Step, stuck, step, array_first, object_first, whole, string_at, Text}
+use Rattle.jiter_steps.proofs.Words.{Literal, word_at-complete, number_at-complete}
 use Rattle.std.proofs.lemmas.List.{map-id}
 use Rattle.jiter_steps.specs.Node as grammar
 use Rattle.jiter_steps.proofs.Grammar.SpelledParts.{nodes_list, members_list, nodes-listed, members-listed, key-taken}
@@ -20,7 +20,8 @@ use Rattle.jiter_steps.proofs.Grammar.NodeRules.{nodes, nodes_of, node_members_o
 use Rattle.jiter_steps.proofs.Cut.NumberCut.{CutAt, number_at-cut}
 use Rattle.jiter_steps.proofs.Cut.NumberCutLaws.{number_at-before}
 use Rattle.jiter_steps.proofs.Cut.ReadPrefixes.{see_member, IsCutMember, CutRules, value_at-prefix}
-use Rattle.jiter_steps.proofs.Grammar.ScalarLaws.{ScalarLaws, scalar-laws, EndsNumber}
+use Rattle.jiter_steps.proofs.Grammar.StringLaws.{string_at-complete, pieces-again}
+use Rattle.jiter_steps.proofs.Grammar.ScalarLaws.{EndsNumber}
 use Rattle.jiter_steps.proofs.Cut.StringCut.{string-still, whole-cut}
 use Rattle.jiter_steps.proofs.Reading.Values.{Goes, parts-part, parts-fault}
 
@@ -52,8 +53,7 @@ module _ (t : List ℕ) (k : ℕ) (within : k ≤ length t) where
 
     fault-early : (close : ℕ → A) (kind : Kind) (i stop : ℕ) → is_end_kind kind ≡ true
         → EndsEarly (if_forgiven r close kind i stop)
-    fault-early close kind i stop early =
-        subst EndsEarly (sym (if-false _ (done (close stop) stop) _ (strict kind))) early
+    fault-early close kind i stop early = rw (if-false _ (done (close stop) stop) _ (strict kind)) early
 
     input-early : (qs : List Q) (s : Step) → EndsInput t k within s → EndsEarly (After qs s)
     input-early qs s h = subst (λ s. EndsEarly (After qs s)) (sym h.1) (fault-early (λ e. c.build e qs) h.0 k k h.2)
@@ -75,21 +75,16 @@ module _ (t : List ℕ) (k : ℕ) (within : k ≤ length t) where
         → CutParts t k within c value seen IsCut row i ps → EndsEarly (After qs (step u row i))
     parts-early [] row i qs h = input-early qs (step u row i) h
     parts-early (p ∷ ps) row i qs (inl h) = input-early qs (step u row i) h.0
-    parts-early (p ∷ ps) row i qs (inr h) = subst (λ s. EndsEarly (After qs s)) (sym h.1) (elim h.3 [
+    parts-early (p ∷ ps) row i qs (inr h) = rw h.1 (elim h.3 [
       | inl x ↦ part-early qs h.0 (c.part h.0) h.2 refl (short p (c.part h.0) x.1)
       | inr x ↦
-          subst EndsEarly
-          (sym (parts-part r u c goes h.0 x.1 qs (seen p) (step u c.next x.1) (in-prefix h.0 h.2) (free qs h.0)
-          x.2 refl))
-          (parts-early ps c.next x.1 (qs ++ seen p ∷ []) x.3)
+          rw (parts-part r u c goes h.0 x.1 qs (seen p) (step u c.next x.1) (in-prefix h.0 h.2) (free qs h.0)
+          x.2 refl) (parts-early ps c.next x.1 (qs ++ seen p ∷ []) x.3)
     ])
 
 module _ (names : Bool) (t : List ℕ) (k : ℕ) (within : k ≤ length t) where
   abbrev prefix : List ℕ
   prefix = take k t
-
-  laws : ScalarLaws names prefix
-  laws = scalar-laws names prefix
 
   -- a number that is cut may end at the cut
   abbrev IsCut : Node → Reading Node → Type 0
@@ -118,7 +113,7 @@ module _ (names : Bool) (t : List ℕ) (k : ℕ) (within : k ≤ length t) where
   member-short m x (inr h) = subst (CutShort k) (sym h.1) (with_key-short m.0 h.0 (cut-short m.1 h.0 h.2))
 
   -- scalars
-  abbrev LiteralOf : Literal → ℕ → Extent → Reading Node
+  abbrev LiteralOf : Literal → ℕ → Span → Reading Node
   LiteralOf l b x = scalar_at b (seen_as (λ v e. grammar.literal l b e) x)
 
   abbrev NumberOf : ℕ → Scanned Number → Reading Node
@@ -130,9 +125,8 @@ module _ (names : Bool) (t : List ℕ) (k : ℕ) (within : k ≤ length t) where
   literal-reads : (l : Literal) (b e : ℕ) → Stands t b e (word_of l) → b < k
       → Reads (grammar.literal l b e) (LiteralOf l b (literal_at prefix l b))
   literal-reads l b e h lt = (
-    λ le. ap (LiteralOf l b) (laws.literal-complete l b e (prefix-stands t k within b e (word_of l) h le)),
-    λ gt. subst (λ x. EndsEarly (LiteralOf l b x))
-        (sym (prefix-word t k within (word_of l) b e h (omega arith) gt)) refl,
+    λ le. ap (LiteralOf l b) (word_at-complete prefix (word_of l) b e (prefix-stands t k within b e (word_of l) h le)),
+    λ gt. rw (prefix-word t k within (word_of l) b e h (omega arith) gt) refl,
   )
 
   number-short : (b : ℕ) (x : Scanned Number) → CutAt k x → CutShort k (NumberOf b x)
@@ -145,15 +139,15 @@ module _ (names : Bool) (t : List ℕ) (k : ℕ) (within : k ≤ length t) where
     λ le. ap (NumberOf b) (number_at-before names t k within b e h q le),
     λ gt. number-short b (number_at names prefix b)
         (number_at-cut t k within names b e (number_value (slice_range t b e)) (omega arith) gt
-        ((scalar-laws names t).number-complete b e h.ordered h.within h.text q)),
+        (number_at-complete names t b e h.ordered h.within h.text q)),
   )
 
   text-reads : (ps : List Piece) (b e : ℕ) → SpellsString t b ps e → b < k
       → Reads (grammar.string ps b e) (StringOf b (string_at whole prefix b))
   text-reads ps b e h lt = (
     λ le. let g = string-still t k within b e ps h le in
-        ap (StringOf b) (laws.string-complete b e ps g)
-        ∙ ap (λ x. done (grammar.string x b e) e) (laws.pieces-again b e ps g),
+        ap (StringOf b) (string_at-complete prefix b e ps g)
+        ∙ ap (λ x. done (grammar.string x b e) e) (pieces-again prefix b e ps g),
     λ gt. subst (λ x. EndsEarly (StringOf b x)) (sym (whole-cut t k within b e ps h lt gt).0) refl,
   )
 
@@ -172,12 +166,10 @@ module _ (names : Bool) (t : List ℕ) (k : ℕ) (within : k ≤ length t) where
         ap (λ l. grammar.object b e (node_members_of l)) (map-id (members_list ms))
         ∙ ap (grammar.object b e) (members-listed ms);
     array-cut = λ inner b e ns h lt goes parts.
-        parts-early t k within (nodes names) (λ kind. refl) (array_of (nodes names) inner prefix b)
-        (λ qs j. refl) goes (λ n. n)
-        (λ n. n) IsCut cut-short (cuts t k within shape.Array) (nodes_list ns) array_first (b + 1) [] parts;
+        parts-early t k within (nodes names) (λ kind. refl) _ (λ qs j. refl) goes (λ n. n) (λ n. n) IsCut cut-short
+        (cuts t k within shape.Array) (nodes_list ns) array_first (b + 1) [] parts;
     object-cut = λ inner b e ms h lt goes parts.
-        parts-early t k within (nodes names) (λ kind. refl) (object_of (nodes names) inner prefix b)
-        (λ qs j. refl) goes (λ m. m.1)
+        parts-early t k within (nodes names) (λ kind. refl) _ (λ qs j. refl) goes (λ m. m.1)
         (see_member (nodes names) names t k within (λ key. key) (λ n. n) IsCut)
         (IsCutMember (nodes names) names t k within (λ key. key) (λ n. n) IsCut) member-short
         (cuts t k within shape.Object) (members_list ms) object_first (b + 1) [] parts;

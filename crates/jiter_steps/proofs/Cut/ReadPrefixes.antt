@@ -11,8 +11,7 @@ use Rattle.jiter_steps.proofs.Words.{Literal}
 use Rattle.jiter_steps.specs.Node as grammar
 use Rattle.jiter_steps.specs.declared.parse.ContainerKind.TheVariants as shape
 use Rattle.jiter_steps.proofs.Grammar.SpelledParts.{start_is, node-starts, begins-value, nodes_list, members_list}
-use Rattle.jiter_steps.proofs.Grammar.SpelledParts.{IsItem, IsMember, items-parts, members-parts, key-ahead}
-use Rattle.jiter_steps.proofs.Grammar.SpelledParts.{node-ahead}
+use Rattle.jiter_steps.proofs.Grammar.SpelledParts.{IsItem, IsMember, items-parts, members-parts, key-ahead, node-ahead}
 use Rattle.jiter_steps.proofs.Cut.CutParts.{ReadTo, CutParts, ReadsPrefix, cuts, colon-cut, value_first-cut}
 use Rattle.jiter_steps.proofs.Cut.CutParts.{container-whole, parts-cut}
 use Rattle.jiter_steps.proofs.Cut.DocumentPrefixes.{prefix-get, prefix-index, prefix-blank, prefix-after}
@@ -35,7 +34,7 @@ module _ {K A : Type 0} (r : Rules K A) (names : Bool) (t : List ℕ) (k : ℕ) 
   abbrev pub see_member : Key × Node → K × A
   see_member m = (see_key m.0, see m.1)
 
-  -- a member that is cut before its value: the input ends, and the reading stands there or at the key's quote
+  -- a member that is cut before its value: the input ends, and the reading is there or at the key's quote
   pub record IsCutBefore (m : Key × Node) (x : Reading (K × A)) : Type 0 where
     pub kind : Kind
     pub stop : ℕ
@@ -159,11 +158,10 @@ module _ {K A : Type 0} (r : Rules K A) (names : Bool) (t : List ℕ) (k : ℕ) 
         stops : (kind : Kind) → is_end_kind kind ≡ true → object_colon u m.0.end ≡ failed kind k
             → IsCutMember m (MemberAt m.0.begin)
         stops kind early is =
-            let key = rules.key m.0 h.string le in
             inl (record {
               kind = kind;
               stop = k;
-              is = member-colon r u inner m.0.begin m.0.end k (see_key m.0) kind key is;
+              is = member-colon r u inner m.0.begin m.0.end k (see_key m.0) kind (rules.key m.0 h.string le) is;
               early = early;
               unread = ge;
               stands = inl refl;
@@ -177,8 +175,7 @@ module _ {K A : Type 0} (r : Rules K A) (names : Bool) (t : List ℕ) (k : ℕ) 
       member-reads : InnerReads → (j : ℕ) (m : Key × Node) (e : ℕ) → IsMember names t levels j m e → j < k
           → ReadTo t k within see_member IsCutMember m e (MemberAt j)
       member-reads all j m e is lt =
-          subst (λ i. ReadTo t k within see_member IsCutMember m e (MemberAt i)) is.begins
-          (whole, λ gt. by gt (cases_lt k m.0.end) (cases_lt (begin m.1) k)) where
+          rw (← is.begins) (whole, λ gt. by gt (cases_lt k m.0.end) (cases_lt (begin m.1) k)) where
             value : begin m.1 < k → ReadTo t k within see IsCut m.1 e (inner (begin m.1))
             value begun = item-reads all (begin m.1) m.1 e is.value begun
 
@@ -191,12 +188,11 @@ module _ {K A : Type 0} (r : Rules K A) (names : Bool) (t : List ℕ) (k : ℕ) 
                 → IsCutMember m (MemberAt m.0.begin)
             by gt (inl past) place =
                 let begun : m.0.begin < k = omega (arith, is.begins) in
-                let key = rules.key-cut m.0 is.key.string begun past in
                 let after = after-ahead t m.0.end 58 is.key.colon is.key.after in
                 inl (record {
                   kind = eof_string;
                   stop = m.0.begin;
-                  is = member-key r u inner m.0.begin k eof_string key;
+                  is = member-key r u inner m.0.begin k eof_string (rules.key-cut m.0 is.key.string begun past);
                   early = refl;
                   unread = omega (arith, is.key.blanks.ordered);
                   stands = inr (prefix-get t k within m.0.begin 34 begun is.key.string.opens);
@@ -232,8 +228,7 @@ module _ {K A : Type 0} (r : Rules K A) (names : Bool) (t : List ℕ) (k : ℕ) 
             container-whole t k within c value seen Cut reads r free goes ps (begin n) (end n) parts le
             ∙ ap (λ a. done a (end n)) build,
         λ gt.
-            let before : begin n + 1 ≤ k = omega arith in
-            cut (parts-cut t k within c value seen Cut reads ps (begin n + 1) (end n) parts before gt),
+            cut (parts-cut t k within c value seen Cut reads ps (begin n + 1) (end n) parts (omega arith) gt),
       )
 
       -- a value, by what it begins with
@@ -244,16 +239,14 @@ module _ {K A : Type 0} (r : Rules K A) (names : Bool) (t : List ℕ) (k : ℕ) 
       value-reads all (grammar.string ps b e) h d q lt = rules.text ps b e h lt
       value-reads all (grammar.array b e ns) h d q lt =
           let goes = array_of-goes r u good inner inner-within b in
-          container-reads (array b) (λ n. n) see IsCut (items-prefix all b) (λ qs j. refl) goes (grammar.array b e ns)
-          (nodes_list ns)
-          (items-parts names t levels ns (b + 1) e h.1 d) lt
-          (rules.array b e ns) (rules.array-cut inner b e ns h lt goes)
+          container-reads (array b) (λ n. n) see IsCut (items-prefix all b) (λ qs j. refl) goes _ (nodes_list ns)
+          (items-parts names t levels ns (b + 1) e h.1 d) lt (rules.array b e ns)
+          (rules.array-cut inner b e ns h lt goes)
       value-reads all (grammar.object b e ms) h d q lt =
           let goes = object_of-goes r u good inner inner-within b in
-          container-reads (object b) (λ m. m.1) see_member IsCutMember (members-prefix all b)
-          (λ qs j. rules.free qs j) goes
-          (grammar.object b e ms) (members_list ms) (members-parts names t levels ms (b + 1) e h.1 d) lt
-          (rules.object b e ms) (rules.object-cut inner b e ms h lt goes)
+          container-reads (object b) (λ m. m.1) see_member IsCutMember (members-prefix all b) (λ qs j. rules.free qs j)
+          goes _ (members_list ms) (members-parts names t levels ms (b + 1) e h.1 d) lt (rules.object b e ms)
+          (rules.object-cut inner b e ms h lt goes)
 
       begun-reads : InnerReads → (n : Node) → Spells names t n → nesting n ≤ levels → EndsNumber t (end n) → begin n < k
           → Reads n (value_at r u levels (begin n))
@@ -264,8 +257,7 @@ module _ {K A : Type 0} (r : Rules K A) (names : Bool) (t : List ℕ) (k : ℕ) 
     inner-reads : (levels : ℕ) → InnerReads levels
     inner-reads zero n h d q lt = absurd (omega arith)
     inner-reads (suc levels) n h d q lt =
-        subst (Reads n) (sym (inside_at-suc r u levels (begin n)))
-        (begun-reads levels (inner-reads levels) n h (omega arith) q lt)
+        rw (inside_at-suc r u levels (begin n)) (begun-reads levels (inner-reads levels) n h (omega arith) q lt)
 
     -- A value that begins before the cut.
     pub value_at-prefix : (n : Node) (levels : ℕ) → Spells names t n → nesting n ≤ levels → EndsNumber t (end n)

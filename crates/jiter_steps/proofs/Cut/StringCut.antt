@@ -125,8 +125,7 @@ module _ (t : List ℕ) (k : ℕ) (within : k ≤ length t) where
         | inl lt ↦ unit-ends i h.0 is.high x l (omega arith)
         | inr ge ↦
             let first = prefix-stands t k within i h.0 is.prefix h.1 (omega (arith, at)) in
-            let z = unit-at u i h.0 is.high is.prefix is.first first in
-            rw (event_by-number u i h.0 is.high z, is.is_high)
+            rw (event_by-number u i h.0 is.high (unit-at u i h.0 is.high is.prefix is.first first), is.is_high)
             (after_high-ends o j is.high is.low y ge (omega (arith, y.ends)))
       ]
 
@@ -173,7 +172,7 @@ module _ (t : List ℕ) (k : ℕ) (within : k ≤ length t) where
       rw (c.bytes, tail-unfinished text c.rest utf8 c.prefix, tail-taken text c.rest utf8 c.prefix, long) in
       elim c.stop [ inl x ↦ rw x (long, kept_so) | inr x ↦ rw x (long, kept_so) ]
 
-  -- and where it isn't kept, the end of input is the fault
+  -- and where it isn't kept, the end of input is the error
   pub whole-cut : (i e : ℕ) (ps : List Piece) → SpellsString t i ps e → i < k → k < e
       → (string_at whole u i ≡ failed eof_string k) × (string_at raw u i ≡ failed eof_string k)
   unfolding content_at

@@ -22,7 +22,7 @@ module _ (t : List ℕ) (k : ℕ) (within : k ≤ length t) where
       ∙ has_backslash-take i k (omega arith) (omega arith) in
       r.1 ∙ ap (λ (o : Bool). taken (record { owned = o; bytes = text_of (pieces_to k ps) }) k) mark
 
-  -- where it is not kept, the end of input is the fault
+  -- where it is not kept, the end of input is the error
   pub string_at-cut_whole : (i e : ℕ) (ps : List Piece) → SpellsString t i ps e → i < k → k < e
       → (string_at whole (take k t) i ≡ failed eof_string k) × (string_at raw (take k t) i ≡ failed eof_string k)
   string_at-cut_whole i e ps s l m = whole-cut t k within i e ps s l m
@@ -33,9 +33,8 @@ module _ (t : List ℕ) (k : ℕ) (within : k ≤ length t) where
       × (string_at kept (take k t) i ≡ taken (text_at t ps i e) e)
   string_at-before i e ps s l =
       let there = string-still t k within i e ps s l in
-      let ahead = string-ordered (take k t) i e ps there in
       let mark : has_backslash (take k t) i e ≡ has_backslash t i e =
-      has_backslash-take i e (omega (arith, ahead.0)) l in
+      has_backslash-take i e (omega (arith, (string-ordered (take k t) i e ps there).0)) l in
       let read : string_at whole (take k t) i ≡ taken (text_at t ps i e) e =
       string_at-complete (take k t) i e ps there
       ∙ ap (λ (o : Bool). taken (record { owned = o; bytes = text_of ps }) e) mark in

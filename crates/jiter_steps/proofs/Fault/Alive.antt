@@ -1,4 +1,4 @@
--- Where a fault that can go on is answered, the bytes before its index can be completed to a document.
+-- Where an error that can go on is answered, the bytes before its index can be completed to a document.
 use Rattle.jiter_steps.proofs.Words.{◌≡◌, inl, ℕ, Bool, true, List, [], ◌++◌, length, take, refl, sym, subst, arith}
 use Rattle.jiter_steps.proofs.Words.{◌∙◌, slice_get, Option, Some, None, slice_get_within, Kind, answer, past_blanks}
 use Rattle.jiter_steps.proofs.Words.{IsBlank, can_go_on, Node, end, nesting_limit, value_of, IsDocument, Reading, done}
@@ -21,7 +21,7 @@ module _ (names : Bool) (t : List ℕ) where
   abbrev Completed : ℕ → Type 0
   Completed x = CanClose t x (λ u. (n : Node) × IsDocument names u n)
 
-  -- a value that ends where the text ends, after blanks
+  -- a value that ends where the text ends, after whitespace
   value-document : (i x : ℕ) → IsBlank t 0 i → CanEndHere (IsValue names nesting_limit) t i x → Completed x
   value-document i x before (le, ends) =
       close-map t x _ _
@@ -46,8 +46,6 @@ module _ (names : Bool) (t : List ℕ) where
       let blanks = passed-blank t e is.0.within in
       let within = blanks.within in
       let order = blanks.ordered in
-      let ends = is.0.ends in
-      let begins = is.0.begins in
       let ahead = node-ahead names t n is.0.spelled in
       let u = take x t ++ [] in
       let same = prefix-kept t x within [] in
@@ -55,9 +53,9 @@ module _ (names : Bool) (t : List ℕ) where
       let after : IsBlank u e (length u) =
       subst (IsBlank u e) (omega arith) (blanks-too t u x same e x (omega arith) blanks) in
       let document : IsDocument names u n = record {
-        before = subst (IsBlank u 0) (sym begins) (blanks-too t u x same 0 i (omega arith) before);
+        before = subst (IsBlank u 0) (sym is.0.begins) (blanks-too t u x same 0 i (omega arith) before);
         spelled = spells-too names t u x same n (omega arith) is.0.spelled;
-        after = subst (λ k. IsBlank u k (length u)) (sym ends) after;
+        after = subst (λ k. IsBlank u k (length u)) (sym is.0.ends) after;
         limit = is.1;
       } in
       record { filler = []; closers = []; is_filler = inl refl; are_closers = tt; within = within; is = (n, document) }
@@ -89,7 +87,7 @@ module _ (names : Bool) (t : List ℕ) where
   whole-open =
       if_begun-open (past_blanks t 0) (passed-blank t 0 (omega arith)) (slice_get t (past_blanks t 0)) refl
 
--- Where a fault that can go on is answered, some document is the bytes before its index, then nothing, `0` or `"":0`,
+-- Where an error that can go on is answered, some document is the bytes before its index, then nothing, `0` or `"":0`,
 -- then closers.
 pub alive : (names : Bool) (t : List ℕ) (k : Kind) (i stop : ℕ) → answer names t ≡ fault k i stop → can_go_on k ≡ true
     → CanBeCompleted names (take i t)

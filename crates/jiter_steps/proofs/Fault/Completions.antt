@@ -2,8 +2,7 @@
 use Rattle.jiter_steps.proofs.Words.{◌≡◌, ℕ, ◌+◌, ◌≤◌, true, List, [], ◌∷◌, ◌++◌, length, take, refl, sym, ap, ◌∙◌}
 use Rattle.jiter_steps.proofs.Words.{arith, length-append, slice_get, Some, slice_get_within, slice_get-get_or}
 use Rattle.jiter_steps.proofs.Words.{get_or_from_slice_get, IsBlank, IsFiller, AreClosers, can_go_on, StandsAfter}
-use Rattle.jiter_steps.proofs.Words.{Reading, done, fault}
-use Rattle.std.proofs.lemmas.List.{get_or_append_left, get_or-append-add}
+use Rattle.jiter_steps.proofs.Words.{Reading, done, fault, get_or_append_left, get_or-append-add}
 use Rattle.jiter_steps.proofs.Cut.DocumentPrefixes.{prefix-length, prefix-get}
 use Rattle.jiter_steps.proofs.Fault.SameSpelling.{SameBefore, blanks-too}
 
@@ -27,7 +26,7 @@ close-map t x Is Then all h = record {
   is = all (h.filler ++ h.closers) h.within h.is;
 }
 
--- at a fault that can go on
+-- at an error that can go on
 abbrev pub OpenTo : {A : Type 0} → (ℕ → Type 0) → Reading A → Type 0
 OpenTo At (done a e) = Unit {0}
 OpenTo At (fault k x stop) = can_go_on k ≡ true → At x
@@ -50,11 +49,11 @@ after-prefix a b n c e =
     slice_get-get_or (a ++ b) (length a + n) 0 (omega (arith, length-append a b))
     ∙ ap Some (get_or-append-add a b n 0 ∙ get_or_from_slice_get b n c 0 e)
 
--- no blanks
+-- no whitespace
 pub no-blanks : (u : List ℕ) (i j : ℕ) → i ≡ j → j ≤ length u → IsBlank u i j
 no-blanks u i j e le = record { ordered = omega arith; within = le; each = λ k l h. absurd (omega arith) }
 
--- a byte at the end, after blanks
+-- a byte at the end, after whitespace
 pub ends-after : (u : List ℕ) (i c : ℕ) → IsBlank u i (length u)
     → StandsAfter (u ++ c ∷ []) i c (length (u ++ c ∷ []))
 ends-after u i c b = record {
@@ -74,8 +73,7 @@ module _ (t : List ℕ) (x : ℕ) (within : x ≤ length t) where
   -- a byte of what is put after the prefix
   pub taken-after : (w : List ℕ) (n c : ℕ) → slice_get w n ≡ Some c → slice_get (take x t ++ w) (x + n) ≡ Some c
   taken-after w n c e =
-      let long = prefix-length t x within in
-      ap (λ m. slice_get (take x t ++ w) (m + n)) (sym long) ∙ after-prefix (take x t) w n c e
+      ap (λ m. slice_get (take x t ++ w) (m + n)) (sym (prefix-length t x within)) ∙ after-prefix (take x t) w n c e
 
   pub taken-first : (w : List ℕ) (c : ℕ) → slice_get w 0 ≡ Some c → slice_get (take x t ++ w) x ≡ Some c
   taken-first w c e = ap (slice_get (take x t ++ w)) (omega arith) ∙ taken-after w 0 c e

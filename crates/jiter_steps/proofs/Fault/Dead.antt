@@ -1,10 +1,9 @@
--- Where a fault of a byte is answered, no document begins with the bytes up to its index.
+-- Where an error of a byte is answered, no document begins with the bytes up to its index.
 use Rattle.jiter_steps.proofs.Words.{◌≡◌, ◌≢◌, ℕ, ◌+◌, Bool, false, List, ◌++◌, take, refl, sym, ap, ◌∙◌, subst, arith}
 use Rattle.jiter_steps.proofs.Words.{Some, get_or-take, length-take, slice_get_within, slice_get-get_or}
 use Rattle.jiter_steps.proofs.Words.{get_or_from_slice_get, none-some, Kind, is_end_kind, invalid_code_point, number_at}
 use Rattle.jiter_steps.proofs.Words.{Scanned, taken, failed, seen_as, whole_trees, nothing_forgiven, answer, literal_at}
-use Rattle.jiter_steps.proofs.Words.{word_of, fault, whole, string_at}
-use Rattle.jiter_steps.specs.FirstFault.{BeginsNoDocument}
+use Rattle.jiter_steps.proofs.Words.{word_of, fault, whole, string_at, BeginsNoDocument}
 use Rattle.jiter_steps.proofs.Fault.Completions.{longer-same}
 use Rattle.jiter_steps.proofs.Fault.SameSpelling.{SameBefore}
 use Rattle.jiter_steps.proofs.Fault.SameRuns.{IsOfByte}
@@ -38,7 +37,7 @@ module _ (t u : List ℕ) (m : ℕ) (same : SameBefore t u m) where
     frees = λ members i e j k lt key colon le l h. refl;
   }
 
--- A fault of a byte before m is a fault of the other text.
+-- An error of a byte before m is an error of the other text.
 answer-stays : (names : Bool) (t u : List ℕ) (m : ℕ) → SameBefore t u m → ShownFault m (answer names t)
     → IsFault (answer names u)
 answer-stays names t u m same =
@@ -52,8 +51,8 @@ prefix-same t k rest j c le e =
     let here = slice_get-get_or (take k t) j 0 (omega (arith, length-take k t)) in
     longer-same (take k t) rest k j c le (here ∙ ap Some (get_or-take k t j 0 le ∙ get_or_from_slice_get t j c 0 e))
 
--- Where a fault is answered that is neither one of the input's end nor one of UTF-8, no document begins with the bytes
--- of the text up to and including the one at the fault's index.
+-- Where an error is answered that is neither one of the input's end nor one of UTF-8, no document begins with the bytes
+-- of the text up to and including the one at the error's index.
 pub dead : (names : Bool) (t : List ℕ) (k : Kind) (i stop : ℕ) → answer names t ≡ fault k i stop
     → is_end_kind k ≡ false → k ≢ invalid_code_point → BeginsNoDocument names (take (i + 1) t)
 dead names t k i stop is byte utf8 rest n d =

@@ -1,4 +1,4 @@
--- A container that is not read to its end can be closed after the parts before the fault.
+-- A container that is not read to its end can be closed after the parts before the error.
 use Rattle.jiter_steps.proofs.Words.{◌≡◌, inl, inr, ℕ, zero, suc, ◌+◌, ◌<◌, ◌≤◌, true, false, List, [], ◌∷◌, ◌++◌}
 use Rattle.jiter_steps.proofs.Words.{length, take, refl, sym, ap, ◌∙◌, subst, arith, append-nil, append_assoc, None}
 use Rattle.jiter_steps.proofs.Words.{Kind, if-false, IsBlank, IsFiller, AreClosers, can_go_on, Reading, done, fault}
@@ -23,7 +23,7 @@ closers-more : (cs : List ℕ) (closer : ℕ) → AreClosers (closer ∷ []) →
 closers-more [] closer h all = h
 closers-more (c ∷ cs) closer h all = (all.0, closers-more cs closer h all.1)
 
--- with a filler and closers after x, something stands from i to the text's end
+-- with a filler and closers after x, something is from i to the text's end
 abbrev pub CanEndHere : {P : Type 0} → (List ℕ → ℕ → P → ℕ → Type 0) → List ℕ → ℕ → ℕ → Type 0
 CanEndHere {P} Is t i x = (i ≤ x) × CanClose t x (λ u. (p : P) × Is u i p (length u))
 
@@ -74,11 +74,10 @@ module _ {K P A : Type 0} (r : Rules K A) (strict : (k : Kind) → r.forgives k 
   next-part b i j m ps p so le is h =
       let before_comma = h.1.blanks.ordered in
       let comma_ends = h.1.ends in
-      let after_comma = h.2.ordered in
       record {
         ordered = omega (arith, so.ordered);
         parts = λ u q rest n e same also more_parts.
-            let comma = after-too t u j same m 44 h.0 after_comma h.1 in
+            let comma = after-too t u j same m 44 h.0 h.2.ordered h.1 in
             let blanks = blanks-too t u j same h.0 j (omega arith) h.2 in
             let here = fillable.too t u i m p (same-sooner t u m j (omega arith) same) is in
             subst (λ l. PartsOf closer IsPart u l b e) (sym (append_assoc ps (p ∷ []) (q ∷ rest)))
@@ -130,7 +129,7 @@ module _ {K P A : Type 0} (r : Rules K A) (strict : (k : Kind) → r.forgives k 
         },
       )
 
-  -- at a fault that can go on the container can be closed
+  -- at an error that can go on the container can be closed
   abbrev Open : ℕ → Reading A → Type 0
   Open b x = OpenTo (CanEnd closer IsPart t b) x
 
@@ -159,10 +158,9 @@ module _ {K P A : Type 0} (r : Rules K A) (strict : (k : Kind) → r.forgives k 
       let long = taken-length t x within (w ++ []) in
       let size = ap length (append-nil w) in
       let u = take x t ++ (w ++ []) in
-      let blanks = no-blanks u (x + length w) (length u) (omega arith) (omega arith) in
       let next = next-part b i x m ps p so le is h in
       close-part b x x (x + length w) (ps ++ p ∷ []) part.0 w [] next (omega arith) within
-      fillable.is_filler tt part.1 blanks
+      fillable.is_filler tt part.1 (no-blanks u (x + length w) (length u) (omega arith) (omega arith))
 
   follow-open : (b i m : ℕ) (ps : List P) (p : P) (next : List P → ℕ → Reading A) → GoesOn b next → SoFar b i ps
       → i ≤ m → m ≤ length t → IsPart t i p m → (s : Step) → step t c.next m ≡ s

@@ -1,13 +1,13 @@
--- A value whose reading meets a fault that can go on can be ended after the bytes before it.
-use Rattle.jiter_steps.proofs.Words.{◌≡◌, inl, inr, ℕ, zero, suc, ◌+◌, ◌<◌, ◌≤◌, Bool, false, List, [], ◌++◌, length}
-use Rattle.jiter_steps.proofs.Words.{take, refl, sym, ◌∙◌, subst, arith, codes, slice_get, slice_index, Option, Some}
-use Rattle.jiter_steps.proofs.Words.{None, ◌==◌, chars, utf8_valid_len, false≢true, slice_get_within, Kind, number_at}
-use Rattle.jiter_steps.proofs.Words.{Scanned, taken, failed, Extent, ScalarWithin, seen_as, past_blanks, can_go_on}
-use Rattle.jiter_steps.proofs.Words.{start_of, literal_at, word_of, Key, Node, begin, end, StandsAfter, SpellsNumber}
-use Rattle.jiter_steps.proofs.Words.{SpellsKey, Spells, nesting, SpellsString, Reading, done, fault, scalar_at}
-use Rattle.jiter_steps.proofs.Words.{with_key, after_colon, after_key, value_with, Container, container_at, inside_at}
-use Rattle.jiter_steps.proofs.Words.{value_at, step, colon, value_first, object_colon, Stop, unclosed, cut, wrong}
-use Rattle.jiter_steps.proofs.Words.{whole, body_at, text_in_form, content_at, string_at, Text, Start}
+-- A value whose reading meets an error that can go on can be ended after the bytes before it.
+use Rattle.jiter_steps.proofs.Words.{◌≡◌, inl, inr, ℕ, zero, suc, ◌+◌, ◌<◌, ◌≤◌, Bool, List, [], ◌++◌, length, take}
+use Rattle.jiter_steps.proofs.Words.{refl, sym, ◌∙◌, subst, arith, codes, slice_get, slice_index, Option, Some, None}
+use Rattle.jiter_steps.proofs.Words.{◌==◌, chars, utf8_valid_len, false≢true, slice_get_within, number_at, Scanned}
+use Rattle.jiter_steps.proofs.Words.{taken, failed, Span, ScalarWithin, seen_as, past_blanks, start_of, word_of, Key}
+use Rattle.jiter_steps.proofs.Words.{Node, begin, end, StandsAfter, SpellsNumber, SpellsKey, Spells, nesting}
+use Rattle.jiter_steps.proofs.Words.{SpellsString, Reading, done, fault, scalar_at, with_key, after_colon, after_key}
+use Rattle.jiter_steps.proofs.Words.{value_with, Container, container_at, inside_at, value_at, step, colon, value_first}
+use Rattle.jiter_steps.proofs.Words.{object_colon, Stop, unclosed, cut, wrong, whole, body_at, text_in_form, content_at}
+use Rattle.jiter_steps.proofs.Words.{string_at, Text, Start}
 use Rattle.jiter_steps.specs.Node as grammar
 use Rattle.jiter_steps.specs.StringReading.{closed}
 use Rattle.jiter_steps.specs.declared.parse.Start.TheVariants as start
@@ -20,32 +20,27 @@ use Rattle.jiter_steps.proofs.Fault.OpenNumbers.{LiveIs, map-live, then-live, wo
 use Rattle.jiter_steps.proofs.Fault.OpenNumbers.{CanEndNumber, number-open}
 use Rattle.jiter_steps.proofs.Fault.OpenParts.{Anywhere, CanEndHere, Fillable, container_at-open}
 use Rattle.jiter_steps.proofs.Reading.Parts.{Grammar, parts-are}
-use Rattle.jiter_steps.proofs.Grammar.Places.{IsPlaceKind}
 use Rattle.jiter_steps.specs.declared.parse.ContainerKind.TheVariants as shape
-use Rattle.jiter_steps.proofs.Grammar.RowSteps.{Delimits, ByteAt, PartAt, begins-quote, PartAfter, After, ExtentIs}
+use Rattle.jiter_steps.proofs.Grammar.RowSteps.{Delimits, ByteAt, PartAt, begins-quote, PartAfter, After, SpanIs}
 use Rattle.jiter_steps.proofs.Grammar.RowSteps.{delimits, object_colon-is}
 use Rattle.jiter_steps.proofs.Fault.SameSpelling.{SameBefore, place-too, key-too, spells-too}
-use Rattle.jiter_steps.proofs.Grammar.Sound.{array-byte, object-byte, byte-here, IsNodeAt, IsItemAt, IsMemberAt}
-use Rattle.jiter_steps.proofs.Grammar.Sound.{array, object, array-goes, object-goes, ItemsAre, MoreItemsAre}
-use Rattle.jiter_steps.proofs.Grammar.Sound.{MembersAre, MoreMembersAre, items-grammar, members-grammar, item-read}
-use Rattle.jiter_steps.proofs.Grammar.Sound.{member-read, inside_at-sound}
-use Rattle.jiter_steps.proofs.Grammar.ScalarLaws.{scalar-laws}
+use Rattle.jiter_steps.proofs.Grammar.Sound.{array-byte, object-byte, byte-here, IsNodeAt, IsItemAt, IsMemberAt, array}
+use Rattle.jiter_steps.proofs.Grammar.Sound.{object, array-goes, object-goes, ItemsAre, MoreItemsAre, MembersAre}
+use Rattle.jiter_steps.proofs.Grammar.Sound.{MoreMembersAre, items-grammar, members-grammar, item-read, member-read}
+use Rattle.jiter_steps.proofs.Grammar.Sound.{inside_at-sound}
+use Rattle.jiter_steps.proofs.Grammar.StringLaws.{string_at-within, string_at-sound}
 use Rattle.jiter_steps.proofs.Grammar.SpelledParts.{key-ahead, node-ahead}
 use Rattle.jiter_steps.proofs.Fault.StuckSteps.{Sticks, sticks}
 use Rattle.jiter_steps.proofs.Reading.Values.{Goes}
 
--- at a fault that can go on, something like this can be ended
+-- at an error that can go on, something like this can be ended
 abbrev pub OpenAs : {P A : Type 0} → (List ℕ → ℕ → P → ℕ → Type 0) → List ℕ → ℕ → Reading A → Type 0
 OpenAs Is t i x = OpenTo (CanEndHere Is t i) x
-
--- Faults of strings, and of the colon after a key, are of other kinds.
-place-dead : (k : Kind) → IsPlaceKind k → can_go_on k ≡ false
-place-dead k h = grind (arith, h)
 
 module _ (t : List ℕ) (At : ℕ → Type 0) where
   text_in_form-live : (i : ℕ) (bs : List ℕ) (o : Bool) (s : Stop) → StopWithin t i s
       → LiveIs At (text_in_form whole t i bs o s)
-  text_in_form-live i bs o (wrong k j) w = λ live. absurd (false≢true (sym (place-dead k w.2) ∙ live))
+  text_in_form-live i bs o (wrong k j) w = λ live. absurd (false≢true (sym (grind (arith, w.2)) ∙ live))
   text_in_form-live i bs o (closed e) w =
       either (LiveIs At) (utf8_valid_len bs == length bs) _ _ tt no_live
   text_in_form-live i bs o unclosed w = no_live
@@ -80,7 +75,7 @@ module _ (names : Bool) where
   abbrev IsMember : ℕ → List ℕ → ℕ → Key × Node → ℕ → Type 0
   IsMember levels u i m e = IsMemberAt names u levels i m.0 m.1 e
 
-  -- in each text with the same bytes before its end a node stands
+  -- in each text with the same bytes before its end a node is
   node-too : (u v : List ℕ) (i e : ℕ) (n : Node) → SameBefore u v e → IsNodeAt names u i n e → IsNodeAt names v i n e
   node-too u v i e n same is = record {
     spelled = spells-too names u v e same n (omega (arith, is.ends)) is.spelled;
@@ -105,8 +100,7 @@ module _ (names : Bool) where
 
   -- a zero in place of a value
   zero-node : (u : List ℕ) (x e : ℕ) → x + 1 ≡ e → slice_get u x ≡ Some 48 → IsNodeAt names u x (grammar.number x e) e
-  zero-node u x e last h =
-      number-node u x e (subst (SpellsNumber names u x) last (zero-number names u x h))
+  zero-node u x e last h = number-node u x e (rw (← last) (zero-number names u x h))
 
   -- a zero after an empty key
   zero-member : (levels : ℕ) (t : List ℕ) (x : ℕ) → x ≤ length t → 0 < levels
@@ -152,8 +146,7 @@ module _ (names : Bool) where
       is_filler = inr (inl refl);
       fills = λ i e q is x within.
           let here = taken-first t x within (codes "0") 48 refl in
-          let some : 0 < levels = omega (arith, is.1) in
-          (grammar.number x (x + 1), (zero-node (take x t ++ codes "0") x (x + 1) refl here, some));
+          (grammar.number x (x + 1), (zero-node (take x t ++ codes "0") x (x + 1) refl here, omega (arith, is.1)));
     }
 
     -- a member: its key, its colon and its value
@@ -168,16 +161,15 @@ module _ (names : Bool) where
             close-map t x _ _
                 (λ w within here.
                 let u = take x t ++ w in
-                let same = prefix-kept t x within w in
                 let at = sym here.1.0.begins in
                 let value = subst (λ b. IsNodeAt names u b here.0 (length u)) at here.1.0 in
-                let too = subst (SpellsKey u key) at (key-too t u x same key j le spelled) in
+                let too = subst (SpellsKey u key) at (key-too t u x (prefix-kept t x within w) key j le spelled) in
                 ((key, here.0), record { begins = begins; key = too; value = value; limit = here.1.1 }))
                 ends,
           )
 
     after_colon-open : (i : ℕ) (key : Key) → key.begin ≡ i → SpellsString t key.begin key.pieces key.end
-        → (x : Extent) → ExtentIs (After t key.end 58 (PartAfter t (ByteAt t))) x
+        → (x : Span) → SpanIs (After t key.end 58 (PartAfter t (ByteAt t))) x
         → LiveIs (CanEndHere (IsMember levels) t i) x → OpenAs (IsMember levels) t i (after_colon key inner x)
     after_colon-open i key begins string (taken u j) h dead =
         with_key-open i j key begins (record { string = string; colon = h.0; after = h.1; blanks = h.2.blanks })
@@ -190,7 +182,7 @@ module _ (names : Bool) where
         → LiveIs (CanEndHere (IsMember levels) t i) x
         → OpenAs (IsMember levels) t i (after_key inner t i (seen_as (key_of t i) x))
     after_key-open i quote (taken s e) is w dead =
-        let string = (scalar-laws names t).string-sound i e s quote is in
+        let string = string_at-sound t i e s quote is in
         after_colon-open i (key_of t i s e) refl string.0 (object_colon t e) (object_colon-is t e w.1)
         (object_colon-live t (CanEndHere (IsMember levels) t i) e)
     after_key-open i quote (failed k j) is w dead = dead
@@ -201,10 +193,9 @@ module _ (names : Bool) where
       too = λ u v i e m same is. member-too levels u v i e m same is;
       is = λ i e m at is. member-read names t levels (inside_at-sound names t levels) b i m e at is;
       begun = λ i x stop k at is.
-          let within = slice_get_within t i at.byte at.here in
           subst (OpenAs (IsMember levels) t i) is
           (after_key-open i (begins-quote t i at) (string_at whole t i) refl
-          ((scalar-laws names t).string-within i within)
+          (string_at-within whole t i (slice_get_within t i at.byte at.here))
           (string-live t (CanEndHere (IsMember levels) t i) i));
       filler = codes "\"\":0";
       is_filler = inr (inr refl);
@@ -258,7 +249,6 @@ module _ (names : Bool) where
     zero-here i within =
         let w = codes "0" in
         let u = take i t ++ w in
-        let n = grammar.number i (length u) in
         let long = taken-length t i within w in
         let value = zero-node u i (length u) (omega arith) (taken-first t i within w 48 refl) in (
           omega arith,
@@ -268,7 +258,7 @@ module _ (names : Bool) where
             is_filler = inr (inl refl);
             are_closers = tt;
             within = within;
-            is = (n, (value, omega arith));
+            is = ((grammar.number i (length u)), (value, omega arith));
           },
         )
 
@@ -298,30 +288,19 @@ module _ (names : Bool) where
     value_with-open i h start.Number e =
         scalar-open i (λ n e. grammar.number i e) (number_at names t i) (number-here i h)
     value_with-open i h (start.Literal l) e =
-        scalar-open i (λ x e. grammar.literal l i e) (literal_at t l i)
-        (word-live t (CanEndHere (IsValue levels) t i) (word_of l) i)
+        scalar-open i (λ x e. grammar.literal l i e) _ (word-live t (CanEndHere (IsValue levels) t i) (word_of l) i)
     value_with-open i h start.Nothing e = λ live. zero-here i (omega arith)
-
-  -- a value inside needs a level for the container round it
-  levels-inside : (t : List ℕ) (levels i : ℕ) (y : Reading Node) → OpenAs (IsValue levels) t i y
-      → OpenAs (IsItem (suc levels)) t i y
-  levels-inside t levels i y h =
-      open-map (CanEndHere (IsValue levels) t i) (CanEndHere (IsItem (suc levels)) t i)
-      (λ x ends. (
-        ends.0,
-        close-map t x _ _ (λ w within here. (here.0, (here.1.0, omega (arith, here.1.1)))) ends.1,
-      ))
-      y h
 
   inside_at-open : (t : List ℕ) (levels i : ℕ) → i < length t
       → OpenAs (IsItem levels) t i (inside_at (nodes names) t levels i)
   unfolding inside_at
   inside_at-open t zero i h = no_live
   inside_at-open t (suc levels) i h =
-      levels-inside t levels i _
+      open-map (CanEndHere (IsValue levels) t i) _
+      (λ x ends. (ends.0, close-map t x _ _ (λ w within here. (here.0, (here.1.0, omega (arith, here.1.1)))) ends.1)) _
       (value_with-open t levels (inside_at-open t levels) i h (start_of (slice_index t i)) refl)
 
-  -- Where a value's reading meets a fault that can go on, the value can be ended.
+  -- Where a value's reading meets an error that can go on, the value can be ended.
   pub value_at-open : (t : List ℕ) (levels i : ℕ) → i < length t
       → OpenAs (IsValue levels) t i (value_at (nodes names) t levels i)
   value_at-open t levels i h = value_with-open t levels (inside_at-open t levels) i h (start_of (slice_index t i)) refl

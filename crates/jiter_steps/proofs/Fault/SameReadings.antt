@@ -1,7 +1,7 @@
 -- Values in two texts with the same bytes before a place: what one reading shows of these bytes, the other meets too.
 use Rattle.jiter_steps.proofs.Words.{◌≡◌, ℕ, zero, suc, ◌+◌, ◌<◌, false, List, [], ◌∷◌, ◌++◌, length, refl, sym, ap}
 use Rattle.jiter_steps.proofs.Words.{◌∙◌, subst, arith, slice_get, slice_index, Option, Some, None, true≢false}
-use Rattle.jiter_steps.proofs.Words.{slice_get_within, Kind, Scanned, taken, failed, Extent, if-false, ScalarWithin}
+use Rattle.jiter_steps.proofs.Words.{slice_get_within, Kind, Scanned, taken, failed, Span, if-false, ScalarWithin}
 use Rattle.jiter_steps.proofs.Words.{past_blanks, start_of, nesting_limit, Step, more, closed, stuck, step}
 use Rattle.jiter_steps.proofs.Words.{object_colon, Reading, done, fault, Rules, Container, scalar_at, with_key}
 use Rattle.jiter_steps.proofs.Words.{after_colon, after_key, unless_refused, if_last, to_end, follow, after_part}
@@ -15,17 +15,17 @@ use Rattle.jiter_steps.proofs.Fault.SameNumbers.{Shown}
 use Rattle.jiter_steps.proofs.Fault.SameSteps.{ShownStep, SameStep, first-same, next-same, object_colon-same}
 use Rattle.jiter_steps.proofs.Fault.SameStrings.{SameScalar}
 use Rattle.jiter_steps.proofs.Grammar.Blanks.{past_blanks-after}
-use Rattle.jiter_steps.proofs.Reading.Bounds.{Ahead, ExtentAhead, Within, object_colon-ahead}
-use Rattle.jiter_steps.proofs.Reading.Values.{Advances, AllWithin, Goes, array_of-goes}
-use Rattle.jiter_steps.proofs.Reading.Values.{object_of-goes, inside_at-within, part_after, part-within}
-use Rattle.jiter_steps.proofs.Reading.Values.{next_part-fault, next_part-done}
+use Rattle.jiter_steps.proofs.Reading.Bounds.{Ahead, SpanAhead, Within, object_colon-ahead}
+use Rattle.jiter_steps.proofs.Reading.Values.{Advances, AllWithin, Goes, array_of-goes, object_of-goes}
+use Rattle.jiter_steps.proofs.Reading.Values.{inside_at-within, part_after, part-within, next_part-fault}
+use Rattle.jiter_steps.proofs.Reading.Values.{next_part-done}
 
--- an end before m, where the text goes on; or a fault of a byte there
+-- an end before m, where the text goes on; or an error of a byte there
 abbrev pub ShownReading : {A : Type 0} → List ℕ → ℕ → Reading A → Type 0
 ShownReading t m (done a e) = (e < m) × (e < length t)
 ShownReading t m (fault k j stop) = (j < m) × IsOfByte k
 
--- a fault of a byte before m
+-- an error of a byte before m
 abbrev pub ShownFault : {A : Type 0} → ℕ → Reading A → Type 0
 ShownFault m (done a e) = ⊥
 ShownFault m (fault k j stop) = (j < m) × IsOfByte k
@@ -34,7 +34,7 @@ abbrev pub IsFault : {A : Type 0} → Reading A → Type 0
 IsFault (done a e) = ⊥
 IsFault (fault k j stop) = Unit {0}
 
--- the same value and end, or both a fault
+-- the same value and end, or both an error
 abbrev pub Meets : {A : Type 0} → Reading A → Reading A → Type 0
 Meets (done a e) y = y ≡ done a e
 Meets (fault k j stop) y = IsFault y
@@ -57,7 +57,7 @@ module _ (t u : List ℕ) (m : ℕ) (same : SameBefore t u m) where
   abbrev pub Stays : {A : Type 0} → ℕ → Reading A → Reading A → Type 0
   Stays i x y = ShownReading t m x → (i < m) × Meets x y
 
-  -- so where x goes on from i, and a byte stands there
+  -- so where x goes on from i, and a byte is there
   abbrev StaysAhead : {A : Type 0} → ℕ → Reading A → Reading A → Type 0
   StaysAhead i x y = ShownReading t m x → (i < m) × (i < length t) × Meets x y
 
@@ -153,7 +153,7 @@ module _ (t u : List ℕ) (m : ℕ) (same : SameBefore t u m) where
     keyed-stays key i (fault k j stop) (fault l x y) h = h
 
     module _ (inner inner_too : ℕ → Reading A) (all : (i : ℕ) → i < length t → Stays i (inner i) (inner_too i)) where
-      colon-stays : (key : K) (e : ℕ) (x y : Extent) → ExtentAhead t e 0 x
+      colon-stays : (key : K) (e : ℕ) (x y : Span) → SpanAhead t e 0 x
           → (Shown t m x → (e < m) × (e < length t) × (y ≡ x))
           → StaysAhead e (after_colon key inner x) (after_colon key inner_too y)
       colon-stays key e (taken w j) y ahead here = λ shown.
@@ -171,9 +171,8 @@ module _ (t u : List ℕ) (m : ℕ) (same : SameBefore t u m) where
       key-stays i (failed k j) (failed l x) within here = here
       key-stays i (taken key e) y within here = λ shown.
           let x = object_colon t e in
-          let z = object_colon u e in
           let ahead = object_colon-ahead t e within.1 in
-          let rest = colon-stays key e x z ahead (object_colon-same t u m same e) shown in
+          let rest = colon-stays key e x (object_colon u e) ahead (object_colon-same t u m same e) shown in
           let at = here (rest.0, rest.1) in
           (at.0, subst (λ y. Meets (after_colon key inner x) (after_key inner_too u i y)) (sym at.1) rest.2)
 
@@ -197,7 +196,7 @@ module _ (t u : List ℕ) (m : ℕ) (same : SameBefore t u m) where
 
         -- a member that is read begins its value at a byte of the text
         value-here : (ms : List (K × A)) (j e b : ℕ) (k : K) (p : K × A) → j < length t → r.key t j ≡ taken k e
-            → (x : Extent) → object_colon t e ≡ x → ExtentAhead t e 0 x → after_colon k inner x ≡ done p b → b < m
+            → (x : Span) → object_colon t e ≡ x → SpanAhead t e 0 x → after_colon k inner x ≡ done p b → b < m
             → r.refuses ms t j ≡ None → r.refuses ms u j ≡ None
         value-here ms j e b k p lt key (failed kind v) colon ahead is before free = absurd (cc)
         value-here ms j e b k p lt key (taken w v) colon ahead is before free =
@@ -302,10 +301,9 @@ module _ (t u : List ℕ) (m : ℕ) (same : SameBefore t u m) where
       trailing-fault a e y all j (Some c) at here shown =
           let later = past_blanks-after t e in
           let lt = slice_get_within t j c here in
-          let is = all (omega (arith, shown.0), omega arith) in
           let place = past_blanks-same t u m same e j c at here shown.0 in
           let last = ap (λ k. if_last a e k (slice_get u k)) place ∙ ap (if_last a e j) (same j c shown.0 here) in
-          subst IsFault (sym (ap (to_end u) is ∙ last)) tt
+          subst IsFault (sym (ap (to_end u) (all (omega (arith, shown.0), omega arith)) ∙ last)) tt
 
       end-stays : (x y : Reading A) → (ShownReading t m x → Meets x y) → ShownFault m (to_end t x)
           → IsFault (to_end u y)
@@ -314,9 +312,8 @@ module _ (t u : List ℕ) (m : ℕ) (same : SameBefore t u m) where
       end-stays (fault k j stop) (done b e) all = λ shown. absurd (all shown)
       end-stays (fault k j stop) (fault l x y) all = all
 
-      -- A fault of a byte before m is a fault in the other text.
+      -- An error of a byte before m is an error in the other text.
       pub whole_answer-stays : ShownFault m (whole_answer r t) → IsFault (whole_answer r u)
       unfolding whole_answer prefix_answer
       whole_answer-stays =
-          end-stays (prefix_answer r t) (prefix_answer r u)
-          (λ shown. (prefix-stays (past_blanks t 0) (slice_get t (past_blanks t 0)) refl refl shown).1)
+          end-stays _ _ (λ shown. (prefix-stays (past_blanks t 0) (slice_get t (past_blanks t 0)) refl refl shown).1)

@@ -1,4 +1,4 @@
--- Runs and blanks in two texts with the same bytes before a place.
+-- Runs and whitespace in two texts with the same bytes before a place.
 use Rattle.jiter_steps.proofs.Words.{◌≡◌, ◌≢◌, ◌⊎◌, inl, inr, ℕ, ◌+◌, ◌-◌, ◌<◌, ◌≤◌, Bool, false, List, length, sym, ap}
 use Rattle.jiter_steps.proofs.Words.{◌∙◌, subst, arith, slice_get, slice_index, Some, cases_lt, true≢false}
 use Rattle.jiter_steps.proofs.Words.{slice_get_within, slice_get-get_or, Kind, is_end_kind, invalid_code_point}
@@ -7,7 +7,7 @@ use Rattle.jiter_scan.specs.Scan.{run_end}
 use Rattle.jiter_steps.proofs.Grammar.Blanks.{past_blanks-after, blank-passed, passed-blank, no_blank-after}
 use Rattle.jiter_steps.proofs.Fault.SameSpelling.{SameBefore, here-too, index-same, blanks-too}
 
--- a fault of a byte at its index, or before it: the input goes on, and its UTF-8 is not in question
+-- an error of a byte at its index, or before it: the input goes on, and its UTF-8 is not in question
 abbrev pub IsOfByte : Kind → Type 0
 IsOfByte k = (is_end_kind k ≡ false) × (k ≢ invalid_code_point)
 
@@ -24,9 +24,8 @@ module _ (t u : List ℕ) (m : ℕ) (same : SameBefore t u m) where
     by (inl short) =
         let j = run_end test u i in
         let inside = run_end-within test t i lt in
-        let passes = run_end-passes test t i j (run_end-ahead test u i) (omega arith) in
         let stops = run_end-stops test u i (slice_index t j) (here-too t u m same j (omega arith) (omega arith)) in
-        absurd (true≢false (sym passes ∙ stops))
+        absurd (true≢false (sym (run_end-passes test t i j (run_end-ahead test u i) (omega arith)) ∙ stops))
 
   -- a run that ends before m, and not with the text
   pub run-same : (test : ℕ → Bool) (i e : ℕ) → run_end test t i ≡ e → e < m → e < length t → run_end test u i ≡ e
@@ -42,7 +41,7 @@ module _ (t u : List ℕ) (m : ℕ) (same : SameBefore t u m) where
         let ahead = run_end-ahead test t i in
         let long = run-long test i (e - i) (omega arith) (omega arith) (omega arith) in omega arith
 
-  -- blanks, and the byte after them
+  -- whitespace, and the byte after them
   pub past_blanks-same : (i j c : ℕ) → past_blanks t i ≡ j → slice_get t j ≡ Some c → j < m → past_blanks u i ≡ j
   past_blanks-same i j c is here le =
       let lt = slice_get_within t j c here in

@@ -11,7 +11,7 @@ use Rattle.jiter_steps.proofs.Grammar.SpelledParts.{nodes_list, members_list, it
 use Rattle.jiter_steps.proofs.Grammar.SpelledParts.{key-ahead, node-ahead}
 use Rattle.jiter_steps.proofs.Grammar.Places.{pieces-ahead}
 
--- each byte of t before the place k stands in u too
+-- each byte of t before the place k is in u too
 abbrev pub SameBefore : List ℕ → List ℕ → ℕ → Type 0
 SameBefore t u k = (j c : ℕ) → j < k → slice_get t j ≡ Some c → slice_get u j ≡ Some c
 
@@ -30,7 +30,7 @@ module _ (t u : List ℕ) (k : ℕ) (same : SameBefore t u k) where
   place-too (suc i) le h =
       let last = slice_get_within u i (slice_index t i) (here-too i (omega arith) (omega arith)) in omega arith
 
-  -- bytes that stand
+  -- bytes that are there
   pub stands-too : (i j : ℕ) (w : List ℕ) → j ≤ k → Stands t i j w → Stands u i j w
   stands-too i j [] le h = h
   stands-too i j (c ∷ w) le h =
@@ -41,7 +41,7 @@ module _ (t u : List ℕ) (k : ℕ) (same : SameBefore t u k) where
   range-same i j le lk h =
       sym (slice-stands u i j (slice_range t i j) (stands-too i j (slice_range t i j) lk (stands-slice t i j le h)))
 
-  -- blanks, and a byte after them
+  -- whitespace, and a byte after them
   pub blanks-too : (i j : ℕ) → j ≤ k → IsBlank t i j → IsBlank u i j
   blanks-too i j le b = record {
     ordered = b.ordered;

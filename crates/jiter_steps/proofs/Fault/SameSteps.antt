@@ -1,6 +1,6 @@
 -- The steps of containers in two texts with the same bytes before a place.
 use Rattle.jiter_steps.proofs.Words.{◌≡◌, ℕ, ◌+◌, ◌<◌, ◌==◌, List, length, refl, sym, ap, ◌∙◌, arith, slice_get, Option}
-use Rattle.jiter_steps.proofs.Words.{Some, None, true≢false, slice_get_within, Extent, past_blanks, Step, more, closed}
+use Rattle.jiter_steps.proofs.Words.{Some, None, true≢false, slice_get_within, Span, past_blanks, Step, more, closed}
 use Rattle.jiter_steps.proofs.Words.{stuck, step, closer_of, begins_part, end_kind_of, container_first, container_comma}
 use Rattle.jiter_steps.proofs.Words.{container_step, colon, value_first, object_colon, ContainerKind}
 use Rattle.jiter_steps.proofs.Fault.SameSpelling.{SameBefore}
@@ -10,7 +10,7 @@ use Rattle.jiter_steps.proofs.Reading.BothShapes.{end_kind-early}
 use Rattle.jiter_steps.proofs.Grammar.Blanks.{past_blanks-after}
 use Rattle.jiter_steps.proofs.Reading.Bounds.{either, both}
 
--- a place before m, or a fault of a byte there
+-- a place before m, or an error of a byte there
 abbrev pub ShownStep : ℕ → Step → Type 0
 ShownStep m (more j) = j < m
 ShownStep m (closed e) = e < m
@@ -21,7 +21,7 @@ module _ (t u : List ℕ) (m : ℕ) (same : SameBefore t u m) where
   abbrev pub SameStep : {A : Type 0} → (A → Type 0) → ℕ → A → A → Type 0
   SameStep ShownOf i x y = ShownOf x → (i < m) × (i < length t) × (y ≡ x)
 
-  -- so at the byte after the blanks
+  -- so at the byte after the whitespace
   abbrev SameHere : {A : Type 0} → (A → Type 0) → ℕ → A → A → Type 0
   SameHere ShownOf j x y = ShownOf x → (j < m) × (y ≡ x)
 
@@ -84,12 +84,9 @@ module _ (t u : List ℕ) (m : ℕ) (same : SameBefore t u m) where
   colon-same : (i : ℕ) → SameStep (Shown t m) i (step t colon i) (step u colon i)
   colon-same =
       row-same (Shown t m) colon (λ j s. true≢false s.1.0)
-      (λ j c. either (λ (x : Extent). Shown t m x → j < m) (c == 58) _ _ (λ s. omega (arith, s.0)) (λ s. s.0))
-
-  value_first-same : (i : ℕ) → SameStep (Shown t m) i (step t value_first i) (step u value_first i)
-  value_first-same = row-same (Shown t m) value_first (λ j s. true≢false s.1.0) (λ j c s. s.0)
+      (λ j c. either (λ (x : Span). Shown t m x → j < m) (c == 58) _ _ (λ s. omega (arith, s.0)) (λ s. s.0))
 
   pub object_colon-same : (i : ℕ) → SameStep (Shown t m) i (object_colon t i) (object_colon u i)
   object_colon-same i =
       then-same IsOfByte late-byte t u m same i (step t colon i) (step u colon i) (step t value_first)
-      (step u value_first) (colon-same i) value_first-same
+      (step u value_first) (colon-same i) (row-same (Shown t m) value_first (λ j s. true≢false s.1.0) (λ j c s. s.0))

@@ -9,8 +9,7 @@ use Rattle.jiter_steps.proofs.Words.{cut, wrong, Event, part, over, bad_digit, u
 use Rattle.jiter_steps.proofs.Words.{hex_digits_at, after, unit_then, surrogate_pair, after_high_backslash, after_high}
 use Rattle.jiter_steps.proofs.Words.{single, unicode_escape, short, after_backslash, event_by, event_at, Body, before}
 use Rattle.jiter_steps.proofs.Words.{join, body_at, whole, text_in_form, content_at, string_at}
-use Rattle.jiter_steps.specs.StringReading.{closed}
-use Rattle.jiter_steps.specs.StringReading.{plain}
+use Rattle.jiter_steps.specs.StringReading.{closed, plain}
 use Rattle.jiter_steps.proofs.Fault.SameSpelling.{SameBefore, index-same}
 use Rattle.jiter_steps.proofs.Reading.Bounds.{both}
 use Rattle.jiter_steps.proofs.Fault.SameRuns.{within-too}
@@ -18,7 +17,7 @@ use Rattle.jiter_steps.proofs.Fault.SameNumbers.{Shown}
 use Rattle.jiter_steps.proofs.Reading.Bodies.{part-ahead, body_at-is, body_at-event_by, event_by-end}
 use Rattle.jiter_steps.proofs.Grammar.Places.{Explains, event_at-explains}
 
--- a part or a quote that ends before m, or a fault of a place there
+-- a part or a quote that ends before m, or an error of a place there
 abbrev ShownStop : ℕ → Stop → Type 0
 ShownStop m (closed e) = e < m
 ShownStop m (wrong k j) = j < m
@@ -32,7 +31,7 @@ abbrev IsWrong : Stop → Type 0
 IsWrong (wrong k j) = Unit {0}
 IsWrong s = ⊥
 
--- the same is event_by; or, where a fault is event_by, that the text ends within the escape
+-- the same is event_by; or, where an error is event_by, that the text ends within the escape
 abbrev Finds : Event → Event → Type 0
 Finds (part bytes owned e) g = g ≡ part bytes owned e
 Finds (over s) g = (g ≡ over s) ⊎ (IsWrong s × (g ≡ over cut))
@@ -52,7 +51,7 @@ module _ (m : ℕ) where
   earlier : (i j : ℕ) (f g : Event) → i ≤ j → Same m j f g → Same m i f g
   earlier i j f g le h s = let r = h s in (omega (arith, r.0), r.1)
 
-  -- finds that end at j, and faults at or after j - 1
+  -- finds that end at j, and errors at or after j - 1
   part-still : (bytes : List ℕ) (owned : Bool) (j : ℕ) → Same m j (part bytes owned j) (part bytes owned j)
   part-still bytes owned j = still j (part bytes owned j) (λ s. omega arith)
 
@@ -118,27 +117,15 @@ module _ (t u : List ℕ) (m : ℕ) (same : SameBefore t u m) where
       hex_digits_or (if is_hex a then (if is_hex b then (if is_hex c then (if is_hex d then None
       else Some (i + 3)) else Some (i + 2)) else Some (i + 1)) else Some i) (unit_of a b c d)
 
-  -- four digits, all shown
-  hex-read : (i : ℕ) → i + 4 ≤ length u → hex_digits_at u i ≡ hex_digits_or (bad_digit u i) (unit_at u i)
-  hex-read i le = if-false (nat_lt (length u) (i + 4)) few _ (le-ltb (length u) (i + 4) le)
-
   good-same : (i : ℕ) → i + 4 ≤ length t → i + 4 ≤ m
       → hex_digits_at u i ≡ hex_digits_or (bad_digit t i) (unit_at t i)
   good-same i within le =
       let there = λ (n : ℕ) (lt : n < i + 4). index-same t u m same n (omega arith) (omega arith) in
-      let a = there i (omega arith) in
-      let b = there (i + 1) (omega arith) in
       let c = there (i + 2) (omega arith) in
       let d = there (i + 3) (omega arith) in
       let long = within-too t u m same (i + 3) (omega arith) (omega arith) in
-      hex-read i (omega arith) ∙ (λ k. digits_of i (a k) (b k) (c k) (d k))
-
-  -- a byte that is no digit, or a text that ends before the fourth
-  bad-event_by : (i k : ℕ) (next : ℕ → Event) → bad_digit u i ≡ Some k
-      → Finds (over (wrong invalid_escape k)) (after next (hex_digits_at u i))
-  bad-event_by i k next e =
-      if_case (λ d. Finds (over (wrong invalid_escape k)) (after next d)) (nat_lt (length u) (i + 4)) _ _
-      (λ q. inr (tt, refl)) (λ q. inl (ap (λ x. after next (hex_digits_or x (unit_at u i))) e))
+      (if-false (nat_lt (length u) (i + 4)) few _ (le-ltb (length u) (i + 4) (omega arith)))
+      ∙ (λ k. digits_of i ((there i (omega arith)) k) ((there (i + 1) (omega arith)) k) (c k) (d k))
 
   unit-same : (i : ℕ) (f g : ℕ → ℕ → Event) → ((x : ℕ) → Same m (i + 4) (f (i + 4) x) (g (i + 4) x))
       → Same m i (unit_then t i f) (unit_then u i g)
@@ -152,8 +139,12 @@ module _ (t u : List ℕ) (m : ℕ) (same : SameBefore t u m) where
             let digits = good-same i within r.0 ∙ ap (λ x. hex_digits_or x (unit_at t i)) e in
             (omega (arith, r.0), subst (λ d. Finds (f (i + 4) (unit_at t i)) (after (g (i + 4)) d)) (sym digits) r.1)
         by within (Some k) e s =
-            let r = bad-same i within k s e in
-            (omega (arith, r.0, s), bad-event_by i k (g (i + 4)) r.1)
+            let r = bad-same i within k s e in (
+              omega (arith, r.0, s),
+              if_case (λ d. Finds (over (wrong invalid_escape k)) (after (g (i + 4)) d))
+                  (nat_lt (length u) (i + 4)) _ _ (λ q. inr (tt, refl))
+                  (λ q. inl (ap (λ x. after (g (i + 4)) (hex_digits_or x (unit_at u i))) r.1)),
+            )
 
   -- escapes
   after_high_backslash-same : (high i : ℕ)
@@ -224,21 +215,19 @@ module _ (t u : List ℕ) (m : ℕ) (same : SameBefore t u m) where
 
   body-within : (n i : ℕ) → length t ≤ n + i → SameBody i (body_at t i)
   body-within zero i le =
-      let over_at = body_at-event_by t i (over unclosed) (event_by-end t i (omega arith)) in
-      subst (SameBody i) (sym over_at) (λ shown. absurd shown)
+      rw (body_at-event_by t i (over unclosed) (event_by-end t i (omega arith))) (λ shown. absurd shown)
   body-within (suc n) i le =
-      subst (SameBody i) (sym (body_at-is t i))
-      (body-join n i (body-within n) le (event_at t i) (event_at-explains t i) (event_by-same i))
+      rw (body_at-is t i) (body-join n i (body-within n) le (event_at t i) (event_at-explains t i) (event_by-same i))
 
   body-same : (i : ℕ) → SameBody i (body_at t i)
   body-same i = body-within (length t) i (omega arith)
 
--- a fault is met
+-- an error is met
 abbrev pub IsRefused : {A : Type 0} → Scanned A → Type 0
 IsRefused (taken a e) = ⊥
 IsRefused (failed k j) = Unit {0}
 
--- what is shown of x is y; or both are faults
+-- what is shown of x is y; or both are errors
 abbrev pub SameOrFault : {A : Type 0} → Scanned A → Scanned A → Type 0
 SameOrFault (taken a e) y = y ≡ taken a e
 SameOrFault (failed k j) y = IsRefused y
@@ -250,12 +239,11 @@ SameScalar t m i x y = Shown t m x → (i < m) × SameOrFault x y
 module _ (t u : List ℕ) (m : ℕ) (same : SameBefore t u m) where
   wrong-ends : (i : ℕ) (b d : Body) → IsWrong b.stop → Ends t u m same b d
       → IsRefused (text_in_form whole u i d.bytes d.owned d.stop)
-  wrong-ends i b d w (inr h) = subst (λ s. IsRefused (text_in_form whole u i d.bytes d.owned s)) (sym h.1) tt
-  wrong-ends i b d w (inl e) = subst (λ (d : Body). IsRefused (text_in_form whole u i d.bytes d.owned d.stop)) (sym e)
-      (by b.stop w) where
-        by : (s : Stop) → IsWrong s → IsRefused (text_in_form whole u i b.bytes b.owned s)
-        by (wrong k j) w = tt
-        by s w = absurd w
+  wrong-ends i b d w (inr h) = rw h.1 tt
+  wrong-ends i b d w (inl e) = rw e (by b.stop w) where
+    by : (s : Stop) → IsWrong s → IsRefused (text_in_form whole u i b.bytes b.owned s)
+    by (wrong k j) w = tt
+    by s w = absurd w
 
   -- what is shown of a string with this body
   body-shown : (i : ℕ) (b : Body) (s : Stop) → b.stop ≡ s

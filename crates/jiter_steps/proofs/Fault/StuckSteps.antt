@@ -1,4 +1,4 @@
--- Where a step between the parts of a container is stuck: after blanks, perhaps with a comma before them.
+-- Where a step between the parts of a container is stuck: after whitespace, perhaps with a comma before them.
 use Rattle.jiter_steps.proofs.Words.{◌≡◌, ◌⊎◌, inl, inr, ℕ, ◌+◌, ◌≤◌, ◌==◌, List, length, subst, arith, Option, Some}
 use Rattle.jiter_steps.proofs.Words.{None, slice_get_within, Kind, IsBlank, StandsAfter, Step, more, closed, stuck}
 use Rattle.jiter_steps.proofs.Words.{step, closer_of, begins_part, container_first, container_comma, container_step}
@@ -12,7 +12,7 @@ StuckIs At (more j) = Unit {0}
 StuckIs At (closed e) = Unit {0}
 StuckIs At (stuck k j) = At j
 
--- blanks from i to j, or a comma after blanks and then blanks
+-- whitespace from i to j, or a comma after whitespace and then whitespace
 abbrev pub BlanksOrComma : List ℕ → ℕ → ℕ → Type 0
 BlanksOrComma t i j = IsBlank t i j ⊎ After t i 44 (IsBlank t) j
 

@@ -1,24 +1,10 @@
--- Blanks: those that reading passes, and those of the grammar.
+-- Whitespace: those that reading passes, and those of the grammar.
 use Rattle.jiter_steps.proofs.Words.{◌≡◌, ℕ, ◌+◌, ◌-◌, ◌<◌, ◌≤◌, true, false, List, length, drop, get_or, IfSome, ap}
 use Rattle.jiter_steps.proofs.Words.{◌∙◌, arith, slice_get, Option, Some, None, length-drop, get_or_from_slice_get}
 use Rattle.jiter_steps.proofs.Words.{nat_tests, run_end-stopping, run_end-within, run_end-ahead, run_end-passes}
-use Rattle.jiter_steps.proofs.Words.{run_end-stops, get-none, count_trailing_zeros, is_blank, past_blanks, IsBlankByte}
-use Rattle.jiter_steps.proofs.Words.{IsBlank}
-use Rattle.std.proofs.lemmas.List.{get_or-drop}
-use Rattle.std.proofs.lemmas.List.Sums.{prefix_len_is}
-use Rattle.jiter_scan.proofs.Runs.{run_end-passing, run_end-past}
-use Rattle.jiter_scan.proofs.Chunks.{run_end-through, run_end-inside}
-use Rattle.jiter_scan.specs.Simd.{failing}
-use lib.Lanes.{chunk}
-
-blank-is : (c : ℕ) → IsBlankByte c → is_blank c ≡ true
-blank-is c h = grind (arith, nat_tests, h)
-
-is-blank : (c : ℕ) → is_blank c ≡ true → IsBlankByte c
-is-blank c h = grind (arith, nat_tests, h)
-
-no_blank-above : (c : ℕ) → 32 < c → is_blank c ≡ false
-no_blank-above c h = grind (arith, nat_tests)
+use Rattle.jiter_steps.proofs.Words.{run_end-stops, get-none, count_trailing_zeros, is_blank, past_blanks, IsBlank}
+use Rattle.jiter_steps.proofs.Words.{get_or-drop, prefix_len_is, run_end-passing, run_end-past, run_end-through}
+use Rattle.jiter_steps.proofs.Words.{run_end-inside, failing, chunk}
 
 module _ (t : List ℕ) where
   -- a byte at a time
@@ -32,7 +18,7 @@ module _ (t : List ℕ) where
   past_blanks-other = run_end-stopping is_blank t
 
   pub past_blanks-above : (i : ℕ) → i < length t → 32 < get_or t i 0 → past_blanks t i ≡ i
-  past_blanks-above i lt above = past_blanks-other i lt (no_blank-above _ above)
+  past_blanks-above i lt above = past_blanks-other i lt (grind (arith, nat_tests))
 
   pub past_blanks-end : (i : ℕ) → length t ≤ i → past_blanks t i ≡ i
   unfolding past_blanks
@@ -46,7 +32,7 @@ module _ (t : List ℕ) where
   unfolding past_blanks
   past_blanks-after = run_end-ahead is_blank t
 
-  -- sixteen bytes at a time, by a bit for each that is no blank
+  -- sixteen bytes at a time, by a bit for each that is not whitespace
   pub past_blanks-through : (i : ℕ) → i + 16 ≤ length t → failing is_blank (chunk i 16 t) ≡ 0
       → past_blanks t i ≡ past_blanks t (i + 16)
   unfolding past_blanks
@@ -57,7 +43,7 @@ module _ (t : List ℕ) where
   unfolding past_blanks
   past_blanks-inside i levels some = run_end-inside is_blank t i 16 levels (omega arith) some
 
-  -- blanks that stand are passed, up to a byte that is none or the end
+  -- whitespace that is there is passed, up to a byte that is none or the end
   passes : (i j : ℕ) → IsBlank t i j → (j < length t → is_blank (get_or t j 0) ≡ false) → past_blanks t i ≡ j
   unfolding past_blanks
   passes i j b other =
@@ -66,7 +52,8 @@ module _ (t : List ℕ) where
       let long = length-drop i t in
       let n : i + (j - i) ≡ j = omega (arith, b.ordered) in
       let all = prefix_len_is is_blank (drop i t) (j - i) 0 (omega (arith, b.within, b.ordered))
-      (λ k lt. ap is_blank (seen k (i + k) (omega arith)) ∙ blank-is _ (b.each (i + k) (omega arith) (omega arith)))
+      (λ k lt. ap is_blank (seen k (i + k) (omega arith)) ∙
+      (grind (arith, nat_tests, b.each (i + k) (omega arith) (omega arith))))
       (λ lt. ap is_blank (seen (j - i) j n) ∙ other (omega arith)) in
       omega arith
 
@@ -76,13 +63,13 @@ module _ (t : List ℕ) where
   pub blank-to_end : (i : ℕ) → IsBlank t i (length t) → past_blanks t i ≡ length t
   blank-to_end i b = passes i (length t) b (λ h. absurd (omega arith))
 
-  -- what is passed is blank, and the byte after it is not
+  -- what is passed is whitespace, and the byte after it is not
   pub passed-blank : (i : ℕ) → i ≤ length t → IsBlank t i (past_blanks t i)
   unfolding past_blanks
   passed-blank i h = record {
     ordered = past_blanks-after i;
     within = past_blanks-bound i h;
-    each = λ k l lt. is-blank _ (run_end-passes is_blank t i k l lt);
+    each = λ k l lt. (grind (arith, nat_tests, run_end-passes is_blank t i k l lt));
   }
 
   pub no_blank-after : (i : ℕ) (o : Option ℕ) → slice_get t (past_blanks t i) ≡ o → IfSome o (λ c. is_blank c ≡ false)

@@ -5,14 +5,15 @@ use Rattle.jiter_steps.proofs.Words.{number_at, Scanned, taken, failed, seen_as,
 use Rattle.jiter_steps.proofs.Words.{IsBlank, literal_at, literal_tree, Key, Node, begin, end, text_at, number_tree}
 use Rattle.jiter_steps.proofs.Words.{value_of, values_of, nesting_limit, IsDocument, Spells, nesting, Reading, done}
 use Rattle.jiter_steps.proofs.Words.{fault, value_at, if_last, to_end, if_begun, prefix_answer, whole_answer, whole}
-use Rattle.jiter_steps.proofs.Words.{string_at, Text, Tree, items_of, take_all}
+use Rattle.jiter_steps.proofs.Words.{string_at, Text, Tree, items_of, take_all, number_at-sound}
 use Rattle.jiter_steps.specs.Node as grammar
 use Rattle.jiter_steps.specs.Tree as tree
 use Rattle.jiter_steps.proofs.Grammar.Blanks.{past_blanks-bound, blank-passed, blank-to_end, passed-blank, at_length}
 use Rattle.jiter_steps.proofs.Grammar.SpelledParts.{begins-value, ends-end, begin-within, node-within}
 use Rattle.jiter_steps.proofs.Reading.Fused.{mapped, scanned_as, pairs, AllTold, Leads, whole_answer-mapped}
 use Rattle.jiter_steps.proofs.Grammar.NodeRules.{nodes, nodes_of, node_members_of, key_of, pieces_from}
-use Rattle.jiter_steps.proofs.Grammar.ScalarLaws.{ScalarLaws, scalar-laws, EndsNumber}
+use Rattle.jiter_steps.proofs.Grammar.StringLaws.{string_at-sound}
+use Rattle.jiter_steps.proofs.Grammar.ScalarLaws.{EndsNumber}
 use Rattle.jiter_steps.proofs.Grammar.Sound.{Sound, value_at-sound}
 use Rattle.jiter_steps.proofs.Cut.PrefixNodes.{node-prefix}
 
@@ -23,8 +24,7 @@ pub value_at-complete : (names : Bool) (t : List ℕ) (n : Node) (levels : ℕ) 
     → value_at (nodes names) t levels (begin n) ≡ done n (end n)
 value_at-complete names t n levels h d q =
     let read = node-prefix names t (length t) (omega arith) n levels h d q (begin-within names t n h) in
-    subst (λ u. value_at (nodes names) u levels (begin n) ≡ done n (end n)) (take_all (length t) t (omega arith))
-    (read.0 (node-within names t n h))
+    rw (← take_all (length t) t (omega arith)) (read.0 (node-within names t n h))
 
 -- the text that a key stands for
 abbrev pub key_text : List ℕ → Key → Text
@@ -45,16 +45,13 @@ module _ (names : Bool) (t : List ℕ) where
   Fits (done n e) = IsDocument names t n × (end n ≡ e)
   Fits (fault k i stop) = Unit {0}
 
-  -- a value where some node fits, and then the value of that node alone; a fault where none fits
+  -- a value where some node fits, and then the value of that node alone; an error where none fits
   abbrev pub IsRead : Reading Tree → Type 0
   IsRead (done v e) =
       (n : Node) × IsDocument names t n × (value_of t n ≡ v) × ((m : Node) → IsDocument names t m → m ≡ n)
   IsRead (fault k i stop) = (n : Node) → IsDocument names t n → ⊥
 
 module _ (names : Bool) (t : List ℕ) where
-  laws : ScalarLaws names t
-  laws = scalar-laws names t
-
   -- the value of the node read is the value read
   scalar-leads : {X : Type 0} (f : X → ℕ → Node) (g : X → ℕ → Tree) (x : Scanned X)
       → ((s : X) (e : ℕ) → x ≡ taken s e → value_of t (f s e) ≡ g s e)
@@ -64,7 +61,7 @@ module _ (names : Bool) (t : List ℕ) where
 
   key-leads : (i : ℕ) → slice_get t i ≡ Some 34 → (x : Scanned Text) → string_at whole t i ≡ x
       → scanned_as (key_text t) (seen_as (key_of t i) x) ≡ x
-  key-leads i quote (taken s e) is = ap (λ m. taken m e) (sym (laws.string-sound i e s quote is).1)
+  key-leads i quote (taken s e) is = ap (λ m. taken m e) (sym (string_at-sound t i e s quote is).1)
   key-leads i quote (failed k j) is = refl
 
   pub nodes-lead : Leads AllTold (nodes names) (whole_trees names) (key_text t) (value_of t) t
@@ -75,10 +72,10 @@ module _ (names : Bool) (t : List ℕ) where
         scalar-leads (λ u e. grammar.literal l i e) (λ u e. literal_tree l) (literal_at t l i) (λ u e is. refl);
     number = λ i h s told.
         scalar-leads (λ n e. grammar.number i e) (λ n e. number_tree n) (number_at names t i)
-        (λ n e is. ap number_tree (sym (laws.number-sound i e n is).1));
+        (λ n e is. ap number_tree (sym (number_at-sound names t i n e is).1));
     text = λ i quote told.
         scalar-leads (λ s e. grammar.string (pieces_from t (i + 1) (chars s.bytes)) i e) (λ s e. tree.string s)
-        (string_at whole t i) (λ s e is. ap tree.string (sym (laws.string-sound i e s quote is).1));
+        (string_at whole t i) (λ s e is. ap tree.string (sym (string_at-sound t i e s quote is).1));
     key = λ i quote told. key-leads i quote (string_at whole t i) refl;
     refuses = λ members i quote. refl;
     array = λ b e items. ap tree.array (values-of t items);
@@ -113,8 +110,7 @@ module _ (names : Bool) (t : List ℕ) where
       → Fits names t (to_end t (if_begun (nodes names) t i o))
   if_begun-fits i before None e = tt
   if_begun-fits i before (Some c) e =
-      to_end-fits i before (value_at (nodes names) t nesting_limit i)
-      (value_at-sound names t nesting_limit i (slice_get_within t i c e))
+      to_end-fits i before _ (value_at-sound names t nesting_limit i (slice_get_within t i c e))
 
   -- What is read is a document.
   pub answer-sound : Fits names t (whole_answer (nodes names) t)

@@ -6,16 +6,13 @@ use Rattle.jiter_steps.proofs.Words.{nat_tests, slice_get_within, slice_get-get_
 use Rattle.jiter_steps.proofs.Words.{lone_surrogate, end_of_hex_escape, control_character, short_escape, is_hex}
 use Rattle.jiter_steps.proofs.Words.{unit_of, is_high, is_low, pair_of, Stands, IsUnit, IsEscape, Piece, SpellsPieces}
 use Rattle.jiter_steps.proofs.Words.{unclosed, cut, wrong, Event, part, over, bad_digit, unit_at, hex_digits_or}
-use Rattle.jiter_steps.proofs.Words.{hex_digits_at, after, surrogate_pair, after_high_backslash, after_high, single}
+use Rattle.jiter_steps.proofs.Words.{hex_digits_at, after, surrogate_pair, after_high_backslash, after_high}
 use Rattle.jiter_steps.proofs.Words.{unicode_escape, short, after_backslash, event_by, event_at, if_case, stands-append}
-use Rattle.jiter_steps.proofs.Words.{stands-within, stands-length}
-use Rattle.std.proofs.Common.{◌*◌}
-use Rattle.std.specs.Char.{digit_value}
-use Rattle.std.proofs.lemmas.Bool.{eqb-false}
-use Rattle.std.proofs.lemmas.Str.{length-encode, len_utf8_bounds, len_utf8_ascii}
+use Rattle.jiter_steps.proofs.Words.{stands-within, stands-length, ◌*◌, digit_value, eqb-false, length-encode}
+use Rattle.jiter_steps.proofs.Words.{len_utf8_bounds, len_utf8_ascii}
 use Rattle.jiter_steps.specs.StringReading.{closed}
 
--- Words and pieces that stand at a place.
+-- Words and pieces that are at a place.
 module _ (t : List ℕ) where
   pub got : (i : ℕ) → i < length t → slice_get t i ≡ Some (slice_index t i)
   got i h = slice_get-get_or t i 0 h
@@ -46,7 +43,7 @@ pub record EscapeAt (t : List ℕ) (i : ℕ) (bs : List ℕ) (j : ℕ) : Type 0 
   pub wide : i + length bs ≤ j
   pub within : j ≤ length t
 
--- the kinds of fault that a place of a string can have
+-- the kinds of error that a place of a string can have
 abbrev pub IsPlaceKind : Kind → Type 0
 IsPlaceKind k = (k ≡ invalid_escape) ⊎ ((k ≡ lone_surrogate) ⊎ ((k ≡ end_of_hex_escape) ⊎ (k ≡ control_character)))
 
@@ -108,11 +105,10 @@ unit-stands : (t : List ℕ) (o e u : ℕ) → UnitAt t o e u → Stands t o e (
 unit-stands t o e u x =
     let h = o + 1 + 1 in
     let within = x.hex.within in
-    let first = got-at t h h refl (omega arith) in
     let second = got-at t (h + 1) (h + 1) refl (omega arith) in
     let third = got-at t (h + 1 + 1) (h + 2) (omega arith) (omega arith) in
     let fourth = got-at t (h + 1 + 1 + 1) (h + 3) (omega arith) (omega arith) in
-    (x.slash, (x.letter, (first, (second, (third, (fourth, omega (arith, x.ends)))))))
+    (x.slash, (x.letter, ((got-at t h h refl (omega arith)), (second, (third, (fourth, omega (arith, x.ends)))))))
 
 unit-is : (t : List ℕ) (o e u : ℕ) → UnitAt t o e u → IsUnit (unit_bytes t (o + 1 + 1)) u
 unit-is t o e u x =
@@ -131,8 +127,7 @@ unit-is t o e u x =
 unit_of-bound : (a b c d : ℕ) → is_hex a ≡ true → is_hex b ≡ true → is_hex c ≡ true → is_hex d ≡ true
     → unit_of a b c d < 65536
 unit_of-bound a b c d ha hb hc hd =
-    sum (digit_value a) (digit_value b) (digit_value c) (digit_value d) (ltb-true _ 16 ha) (ltb-true _ 16 hb)
-    (ltb-true _ 16 hc) (ltb-true _ 16 hd) where
+    sum _ _ _ _ (ltb-true _ 16 ha) (ltb-true _ 16 hb) (ltb-true _ 16 hc) (ltb-true _ 16 hd) where
       sum : (a b c d : ℕ) → a < 16 → b < 16 → c < 16 → d < 16 → a * 4096 + b * 256 + c * 16 + d < 65536
       sum a b c d p q r s = omega arith
 
@@ -143,27 +138,17 @@ scalar-unit t o e u x a b =
     let bound =
     unit_of-bound (slice_index t h) (slice_index t (h + 1)) (slice_index t (h + 2)) (slice_index t (h + 3)) d.0 d.1 d.2
     d.3 in
-    let small = subst (λ n. n < 65536) x.number bound in
-    grind (arith, nat_tests, a, b, small)
-
-pub scalar-pair : (h l : ℕ) → is_high h ≡ true → is_low l ≡ true → IsScalar (pair_of h l)
-scalar-pair h l a b = grind (arith, nat_tests, a, b)
-
-pub scalar-short : (b c : ℕ) → short_escape b ≡ Some c → IsScalar c
-scalar-short b c e = grind (arith, nat_tests, e)
-
-ascii-short : (b c : ℕ) → short_escape b ≡ Some c → c < 128
-ascii-short b c e = grind (arith, nat_tests, e)
+    grind (arith, nat_tests, a, b, subst (λ n. n < 65536) x.number bound)
 
 pub escape-scalar : (p : List ℕ) (c : ℕ) → IsEscape p c → IsScalar c
-escape-scalar p c (inl is) = scalar-short is.sign c is.means
+escape-scalar p c (inl is) = grind (arith, nat_tests, is.means)
 escape-scalar p c (inr (inl is)) = is.1
-escape-scalar p c (inr (inr is)) = subst IsScalar (sym is.means) (scalar-pair is.high is.low is.is_high is.is_low)
+escape-scalar p c (inr (inr is)) = subst IsScalar (sym is.means) (grind (arith, nat_tests, is.is_high, is.is_low))
 
 at-most-four : (c o j : ℕ) → o + 6 ≤ j → o + length (encode_utf8 c) ≤ j
 at-most-four c o j h = omega (arith, length-encode c, (len_utf8_bounds c).1)
 
--- an escape that stands there
+-- an escape that is there
 escaped : (t : List ℕ) (o j c : ℕ) (p : List ℕ) → slice_get t o ≡ Some 92 → Stands t o j p → IsEscape p c
     → o + length (encode_utf8 c) ≤ j → EscapeAt t o (encode_utf8 c) j
 escaped t o j c p slash stands escape wide =
@@ -234,16 +219,12 @@ module _ (t : List ℕ) (o : ℕ) where
       (λ q. after_high_backslash-explains high hi x (e ∙ ap Some (eqb-true b 92 q)) (slice_get t (one + 1)) refl)
       (λ q. (omega arith, slice_get_within t one b e, inr (inr (inl refl))))
 
-  single-explains : (u : ℕ) → UnitAt t o one u → is_high u ≡ false → Explains t o (single one u)
-  single-explains u x hi =
-      if_case (Explains t o) (is_low u) _ _ (λ lo. (omega arith, omega (arith, x.hex.within), inr (inl refl))) (λ lo.
-      escaped t o one u (unit_bytes t (o + 1 + 1)) x.slash (unit-stands t o one u x)
-      (inr (inl (unit-is t o one u x, scalar-unit t o one u x hi lo))) (at-most-four u o one (omega arith)))
-
   unicode_escape-explains : (u : ℕ) → UnitAt t o one u → Explains t o (unicode_escape t one u)
   unicode_escape-explains u x =
       if_case (Explains t o) (is_high u) _ _ (λ hi. after_high-explains u hi x (slice_get t one) refl)
-      (λ hi. single-explains u x hi)
+      (λ hi. if_case (Explains t o) (is_low u) _ _ (λ lo. (omega arith, omega (arith, x.hex.within), inr (inl refl)))
+      (λ lo. escaped t o one u (unit_bytes t (o + 1 + 1)) x.slash (unit-stands t o one u x)
+      (inr (inl (unit-is t o one u x, scalar-unit t o one u x hi lo))) (at-most-four u o one (omega arith))))
 
   module _ (slash : slice_get t o ≡ Some 92) where
     short-explains : (b : ℕ) → slice_get t (o + 1) ≡ Some b → (x : Option ℕ) → short_escape b ≡ x
@@ -251,7 +232,7 @@ module _ (t : List ℕ) (o : ℕ) where
     short-explains b e None me = (omega arith, slice_get_within t (o + 1) b e, inl refl)
     short-explains b e (Some c) me =
         let wide : o + length (encode_utf8 c) ≤ o + 1 + 1 =
-        omega (arith, len_utf8_ascii c (ascii-short b c me), length-encode c) in
+        omega (arith, len_utf8_ascii c (grind (arith, nat_tests, me)), length-encode c) in
         escaped t o (o + 1 + 1) c (92 ∷ b ∷ []) slash (slash, (e, refl))
         (inl (record { sign = b; is = refl; means = me })) wide
 

@@ -1,7 +1,7 @@
 -- Steps between the parts of a container, by the grammar.
 use Rattle.jiter_steps.proofs.Words.{◌≡◌, ℕ, ◌+◌, ◌<◌, ◌≤◌, ◌==◌, true, false, cond, List, length, IfSome, refl, ap}
 use Rattle.jiter_steps.proofs.Words.{◌∙◌, arith, slice_get, Option, Some, None, slice_get_within, eqb-true, eq-eqb}
-use Rattle.jiter_steps.proofs.Words.{taken, failed, Extent, extent_then, if_case, is_blank, past_blanks, IsBlank}
+use Rattle.jiter_steps.proofs.Words.{taken, failed, Span, span_then, if_case, is_blank, past_blanks, IsBlank}
 use Rattle.jiter_steps.proofs.Words.{StandsAfter, Step, more, closed, stuck, step, closer_of, begins_part}
 use Rattle.jiter_steps.proofs.Words.{container_first, container_comma, container_step, colon, value_first, object_colon}
 use Rattle.jiter_steps.proofs.Words.{ContainerKind}
@@ -10,7 +10,7 @@ use Rattle.jiter_steps.proofs.Reading.Bounds.{either}
 use Rattle.jiter_steps.proofs.Reading.BothShapes.{closer-no_blank, closer-no_comma, closer-begins_no_part}
 use Rattle.jiter_steps.proofs.Grammar.Blanks.{blank-passed, passed-blank, no_blank-after}
 
--- what a part of a container may begin with: a byte that is no blank
+-- what a part of a container may begin with: a byte that is not whitespace
 pub record ByteAt (t : List ℕ) (j : ℕ) : Type 0 where
   pub byte : ℕ
   pub here : slice_get t j ≡ Some byte
@@ -30,12 +30,12 @@ quote-begins t j h = record { byte = 34; here = h; no_blank = refl; begins = ref
 pub begins-quote : (t : List ℕ) (j : ℕ) → PartAt shape.Object t j → slice_get t j ≡ Some 34
 begins-quote t j h = h.here ∙ ap Some (eqb-true h.byte 34 h.begins)
 
--- a part may begin at j, after blanks from i on
+-- a part may begin at j, after whitespace from i on
 pub record PartAfter (t : List ℕ) (Begins : ℕ → Type 0) (i j : ℕ) : Type 0 where
   pub blanks : IsBlank t i j
   pub begins : Begins j
 
--- a comma or a colon, and what stands after it
+-- a comma or a colon, and what is after it
 abbrev pub After : List ℕ → ℕ → ℕ → (ℕ → ℕ → Type 0) → ℕ → Type 0
 After t i sign Then j = (c : ℕ) × StandsAfter t i sign c × Then c j
 
@@ -45,10 +45,10 @@ StepIs t i closer More (more j) = More j
 StepIs t i closer More (closed e) = StandsAfter t i closer e
 StepIs t i closer More (stuck k j) = Unit {0}
 
--- the place that an extent leads to
-abbrev pub ExtentIs : (ℕ → Type 0) → Extent → Type 0
-ExtentIs More (taken u j) = More j
-ExtentIs More (failed k j) = Unit {0}
+-- the place that a span leads to
+abbrev pub SpanIs : (ℕ → Type 0) → Span → Type 0
+SpanIs More (taken u j) = More j
+SpanIs More (failed k j) = Unit {0}
 
 -- The steps of a container whose parts begin so, and which ends with the byte closer: what they find is there, and
 -- what is there they find.
@@ -67,7 +67,7 @@ pub tested : {A : Type 0} (P : A → Type 0) (c d : ℕ) (x y : A) → (c ≡ d 
 tested P c d x y p q = if_case P (c == d) x y (λ e. p (eqb-true c d e)) q
 
 module _ (t : List ℕ) where
-  -- the byte after blanks, or none
+  -- the byte after whitespace, or none
   pub record Stops (i j : ℕ) (o : Option ℕ) : Type 0 where
     pub blanks : IsBlank t i j
     pub here : slice_get t j ≡ o
@@ -83,7 +83,7 @@ module _ (t : List ℕ) where
   pub after : (i j c d : ℕ) → Stops i j (Some c) → c ≡ d → StandsAfter t i d (j + 1)
   after i j c d s e = record { at = j; blanks = s.blanks; here = s.here ∙ ap Some e; ends = refl }
 
-  -- a row at what stands after blanks
+  -- a row at what is after whitespace
   pub row-at : {A : Type 0} (row : ℕ → Option ℕ → A) (i j c : ℕ) → IsBlank t i j → slice_get t j ≡ Some c
       → is_blank c ≡ false
       → step t row i ≡ row j (Some c)
@@ -153,17 +153,17 @@ module _ (t : List ℕ) where
     }
 
   -- after a key: its colon, and the byte where its value may begin
-  abbrev ValueAfter : ℕ → Extent → Type 0
-  ValueAfter i x = ExtentIs (After t i 58 (PartAfter t (ByteAt t))) x
+  abbrev ValueAfter : ℕ → Span → Type 0
+  ValueAfter i x = SpanIs (After t i 58 (PartAfter t (ByteAt t))) x
 
   value-at : (i m : ℕ) → StandsAfter t i 58 m → (j : ℕ) (o : Option ℕ) → Stops m j o → ValueAfter i (value_first j o)
   value-at i m h j None s = tt
   value-at i m h j (Some c) s =
       (m, h, record { blanks = s.blanks; begins = record { byte = c; here = s.here; no_blank = s.no_blank } })
 
-  -- the colon after blanks, and then its value
-  abbrev ColonLeads : ℕ → Extent → Type 0
-  ColonLeads i x = ValueAfter i (extent_then x (step t value_first))
+  -- the colon after whitespace, and then its value
+  abbrev ColonLeads : ℕ → Span → Type 0
+  ColonLeads i x = ValueAfter i (span_then x (step t value_first))
 
   colon-at : (i j : ℕ) (o : Option ℕ) → Stops i j o → ColonLeads i (colon j o)
   colon-at i j None s = tt
@@ -173,7 +173,7 @@ module _ (t : List ℕ) where
       (λ e. row-is (ValueAfter i) value_first (j + 1) (value-at i (j + 1) (after i j c 58 s e)) (omega arith))
       (λ e. tt)
 
-  pub object_colon-is : (i : ℕ) → i ≤ length t → ExtentIs (After t i 58 (PartAfter t (ByteAt t))) (object_colon t i)
+  pub object_colon-is : (i : ℕ) → i ≤ length t → SpanIs (After t i 58 (PartAfter t (ByteAt t))) (object_colon t i)
   object_colon-is i = row-is (ColonLeads i) colon i (colon-at i)
 
   pub object_colon-taken : (i m j : ℕ) → StandsAfter t i 58 m → IsBlank t m j → ByteAt t j

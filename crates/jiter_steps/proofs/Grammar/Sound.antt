@@ -1,25 +1,25 @@
 -- What is read is spelled so.
 use Rattle.jiter_steps.proofs.Words.{◌≡◌, ℕ, zero, suc, ◌+◌, ◌<◌, ◌≤◌, Bool, List, length, refl, sym, ap, ◌∙◌, subst}
 use Rattle.jiter_steps.proofs.Words.{arith, None, slice_get, slice_index, Some, chars, slice_get-get_or}
-use Rattle.jiter_steps.proofs.Words.{slice_get_within, nat_tests, number_at, Scanned, taken, failed, Extent}
+use Rattle.jiter_steps.proofs.Words.{slice_get_within, nat_tests, number_at, Scanned, taken, failed, Span}
 use Rattle.jiter_steps.proofs.Words.{ScalarWithin, seen_as, start_of, literal_at, Key, Node, Nodes, no_nodes, node}
-use Rattle.jiter_steps.proofs.Words.{NodeMembers, no_members, member, begin, end, StandsAfter, SpellsKey}
-use Rattle.jiter_steps.proofs.Words.{Spells, SpellsItems, SpellsMoreItems, SpellsMembers, SpellsMoreMembers, nesting}
+use Rattle.jiter_steps.proofs.Words.{NodeMembers, no_members, member, begin, end, StandsAfter, SpellsKey, Spells}
+use Rattle.jiter_steps.proofs.Words.{SpellsItems, SpellsMoreItems, SpellsMembers, SpellsMoreMembers, nesting}
 use Rattle.jiter_steps.proofs.Words.{nesting_round, nesting_round_members, SpellsString, Reading, done, fault}
 use Rattle.jiter_steps.proofs.Words.{Container, scalar_at, with_key, after_colon, after_key, container_at, array_of}
-use Rattle.jiter_steps.proofs.Words.{object_of, value_with, inside_at, value_at, object_colon, whole, string_at, Text}
-use Rattle.jiter_steps.proofs.Words.{Start}
+use Rattle.jiter_steps.proofs.Words.{object_of, value_with, inside_at, value_at, whole, string_at, Text, Start}
+use Rattle.jiter_steps.proofs.Words.{number_at-sound, word_of, number_at-within, word_at-sound}
 use Rattle.jiter_steps.specs.Node as grammar
 use Rattle.jiter_steps.specs.declared.parse.Start.TheVariants as start
 use Rattle.jiter_steps.proofs.Reading.Bounds.{Within}
 use Rattle.jiter_steps.proofs.Reading.FirstBytes.{string-first}
-use Rattle.jiter_steps.proofs.Reading.Instances.{nodes-advances}
+use Rattle.jiter_steps.proofs.Reading.Instances.{nodes-advances, literal_at-within}
 use Rattle.jiter_steps.proofs.Grammar.NodeRules.{nodes, nodes_of, node_members_of, key_of, pieces_from}
 use Rattle.jiter_steps.proofs.Reading.Parts.{Grammar, parts-are, Reads, BuiltOf, container_at-built}
 use Rattle.jiter_steps.specs.declared.parse.ContainerKind.TheVariants as shape
-use Rattle.jiter_steps.proofs.Grammar.RowSteps.{ByteAt, PartAt, begins-quote, PartAfter, After, ExtentIs, delimits}
+use Rattle.jiter_steps.proofs.Grammar.RowSteps.{ByteAt, PartAt, begins-quote, PartAfter, After, SpanIs, delimits}
 use Rattle.jiter_steps.proofs.Grammar.RowSteps.{object_colon-is, Delimits}
-use Rattle.jiter_steps.proofs.Grammar.ScalarLaws.{ScalarLaws, scalar-laws}
+use Rattle.jiter_steps.proofs.Grammar.StringLaws.{string_at-within, string_at-sound}
 use Rattle.jiter_steps.proofs.Reading.Values.{AllWithin, Goes, array_of-goes, object_of-goes, container_at-within}
 use Rattle.jiter_steps.proofs.Reading.Values.{inside_at-within}
 
@@ -73,9 +73,6 @@ MemberSound names t levels i (done m e) = IsMemberAt names t levels i m.0 m.1 e
 MemberSound names t levels i (fault k x stop) = Unit {0}
 
 module _ (names : Bool) (t : List ℕ) where
-  laws : ScalarLaws names t
-  laws = scalar-laws names t
-
   sound-at : (levels : ℕ) (n : Node) → Spells names t n → end n ≤ length t → nesting n ≤ levels
       → Sound names t levels (begin n) (done n (end n))
   sound-at levels n h le d = (record { spelled = h; begins = refl; ends = refl; within = le }, d)
@@ -109,7 +106,7 @@ module _ (names : Bool) (t : List ℕ) where
     with_key-sound i colon j k begins string after h (fault kind x stop) is = tt
 
     after_colon-sound : InnerSound → (i : ℕ) (k : Key) → k.begin ≡ i → SpellsString t k.begin k.pieces k.end
-        → (x : Extent) → ExtentIs (After t k.end 58 (PartAfter t (ByteAt t))) x
+        → (x : Span) → SpanIs (After t k.end 58 (PartAfter t (ByteAt t))) x
         → MemberSound names t levels i (after_colon k inner x)
     after_colon-sound all i k begins string (taken u j) h =
         with_key-sound i h.0 j k begins string h.1 h.2 (inner j)
@@ -119,8 +116,7 @@ module _ (names : Bool) (t : List ℕ) where
     after_key-sound : InnerSound → (i : ℕ) → slice_get t i ≡ Some 34 → (x : Scanned Text) → string_at whole t i ≡ x
         → ScalarWithin t i x → MemberSound names t levels i (after_key inner t i (seen_as (key_of t i) x))
     after_key-sound all i quote (taken s e) is w =
-        after_colon-sound all i (key_of t i s e) refl (laws.string-sound i e s quote is).0 (object_colon t e)
-        (object_colon-is t e w.1)
+        after_colon-sound all i (key_of t i s e) refl (string_at-sound t i e s quote is).0 _ (object_colon-is t e w.1)
     after_key-sound all i quote (failed k j) is w = tt
 
     -- the containers whose values are read inside
@@ -191,7 +187,7 @@ module _ (names : Bool) (t : List ℕ) where
         → IsMemberAt names t levels j p.0 p.1 m
     member-read all b j p m at is =
         let quote = begins-quote t j at in
-        let within = laws.string-within j (slice_get_within t j 34 quote) in
+        let within = string_at-within whole t j (slice_get_within t j 34 quote) in
         subst (MemberSound names t levels j) is (after_key-sound all j quote _ refl within)
 
     -- values
@@ -234,15 +230,15 @@ module _ (names : Bool) (t : List ℕ) where
     value_with-sound all i h start.String e =
         let here = byte-here i 34 h (string-first _ e) in
         scalar-sound levels i (λ s e. grammar.string (pieces_from t (i + 1) (chars s.bytes)) i e) (string_at whole t i)
-        (laws.string-within i h)
-        (λ s e is l le. sound-at levels (grammar.string _ i e) (laws.string-sound i e s here is).0 le (omega arith))
+        (string_at-within whole t i h)
+        (λ s e is l le. sound-at levels (grammar.string _ i e) (string_at-sound t i e s here is).0 le (omega arith))
     value_with-sound all i h start.Number e =
-        scalar-sound levels i (λ n e. grammar.number i e) (number_at names t i) (laws.number-within i h)
+        scalar-sound levels i (λ n e. grammar.number i e) (number_at names t i) (number_at-within names t i h)
         (λ n e is l le. sound-at levels (grammar.number i e)
-        (record { ordered = omega arith; within = le; text = (laws.number-sound i e n is).0 }) le (omega arith))
+        (record { ordered = omega arith; within = le; text = (number_at-sound names t i n e is).0 }) le (omega arith))
     value_with-sound all i h (start.Literal l) e =
-        scalar-sound levels i (λ u e. grammar.literal l i e) (literal_at t l i) (laws.literal-within l i h)
-        (λ u e is b le. sound-at levels (grammar.literal l i e) (laws.literal-sound l i e is) le (omega arith))
+        scalar-sound levels i (λ u e. grammar.literal l i e) (literal_at t l i) (literal_at-within t l i (omega arith))
+        (λ u e is b le. sound-at levels (grammar.literal l i e) (word_at-sound t (word_of l) i e u is) le (omega arith))
     value_with-sound all i h start.Nothing e = tt
 
   -- a value inside needs a level for the container round it

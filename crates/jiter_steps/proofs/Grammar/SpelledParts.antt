@@ -1,24 +1,24 @@
--- What the grammar spells of a container is parts that stand one after another; and what a value begins with.
+-- What the grammar spells of a container is parts that are one after another; and what a value begins with.
 use Rattle.jiter_steps.proofs.Words.{◌≡◌, ◌≢◌, ℕ, zero, suc, ◌+◌, ◌<◌, ◌≤◌, ◌⊎◌, inl, inr, Bool, not, true, false, List}
 use Rattle.jiter_steps.proofs.Words.{[], ◌∷◌, length, refl, sym, ap, ◌∙◌, subst, arith, ◌==◌, IfSome, slice_get}
 use Rattle.jiter_steps.proofs.Words.{slice_index, slice_range, Some, slice_get_within, slice_get-get_or, slice_get_past}
 use Rattle.jiter_steps.proofs.Words.{get_or_from_slice_get, nat_tests, IsNumberText, begins_number, taken}
-use Rattle.jiter_steps.proofs.Words.{continues_number, seen_as, is_blank, IsBlankByte, IsBlank, Stands, stands-length}
-use Rattle.jiter_steps.proofs.Words.{stands-within, stands-slice, slice-stands, word_of, start_of, Key, Node, Nodes}
-use Rattle.jiter_steps.proofs.Words.{no_nodes, node, NodeMembers, no_members, member, begin, end, StandsAfter}
-use Rattle.jiter_steps.proofs.Words.{SpellsNumber, SpellsKey, Spells, SpellsItems, SpellsMoreItems, SpellsMembers}
-use Rattle.jiter_steps.proofs.Words.{SpellsMoreMembers, nesting, nesting_round, nesting_round_members, SpellsString}
-use Rattle.jiter_steps.proofs.Words.{whole, string_at, Literal, Start}
-use Rattle.std.proofs.lemmas.Bool.{cases_eq}
+use Rattle.jiter_steps.proofs.Words.{continues_number, seen_as, is_blank, IsBlank, Stands, stands-length, stands-within}
+use Rattle.jiter_steps.proofs.Words.{stands-slice, slice-stands, word_of, start_of, Key, Node, Nodes, no_nodes, node}
+use Rattle.jiter_steps.proofs.Words.{NodeMembers, no_members, member, begin, end, StandsAfter, SpellsNumber, SpellsKey}
+use Rattle.jiter_steps.proofs.Words.{Spells, SpellsItems, SpellsMoreItems, SpellsMembers, SpellsMoreMembers, nesting}
+use Rattle.jiter_steps.proofs.Words.{nesting_round, nesting_round_members, SpellsString, whole, string_at, Literal}
+use Rattle.jiter_steps.proofs.Words.{Start, cases_eq, nesting_of, nesting_of_members}
 use Rattle.jiter_steps.specs.Node as grammar
-use Rattle.jiter_steps.specs.Node.{nesting_of, nesting_of_members}
 use Rattle.jiter_steps.specs.declared.parse.Literal.TheVariants as literal
 use Rattle.jiter_steps.specs.declared.parse.Start.TheVariants as start
 use Rattle.jiter_steps.proofs.Grammar.NodeRules.{nodes_of, node_members_of, key_of}
 use Rattle.jiter_steps.proofs.Reading.Parts.{after-ahead, MoreParts, Parts, Grammar, parts-are}
 use Rattle.jiter_steps.specs.declared.parse.ContainerKind.TheVariants as shape
 use Rattle.jiter_steps.proofs.Grammar.RowSteps.{PartAt, quote-begins}
-use Rattle.jiter_steps.proofs.Grammar.ScalarLaws.{ScalarLaws, scalar-laws, EndsNumber}
+use Rattle.jiter_steps.proofs.Grammar.StringLaws.{string-ordered, string_at-complete, pieces-again}
+use Rattle.jiter_scan.proofs.NumberLaws as numbers
+use Rattle.jiter_steps.proofs.Grammar.ScalarLaws.{EndsNumber}
 
 -- what kind of value a node is
 abbrev pub start_is : Node → Start
@@ -41,30 +41,25 @@ number-byte : (c : ℕ) → begins_number c ≡ true
     → (start_of c ≡ start.Number) × (is_blank c ≡ false) × ((c == 93) ≡ false)
 number-byte c e = (grind (arith, nat_tests, e), grind (arith, nat_tests, e), grind (arith, nat_tests, e))
 
-blank-ends : (c : ℕ) → IsBlankByte c → continues_number c ≡ false
-blank-ends c h = grind (arith, nat_tests, h)
-
 slice-first : (t : List ℕ) (b e : ℕ) → b < e → e ≤ length t
     → slice_range t b e ≡ slice_index t b ∷ slice_range t (b + 1) e
 slice-first t b e h le =
-    let here = slice_get-get_or t b 0 (omega arith) in
     let rest = stands-slice t (b + 1) e (omega arith) le in
-    sym (slice-stands t b e (slice_index t b ∷ slice_range t (b + 1) e) (here, rest))
+    sym (slice-stands t b e (slice_index t b ∷ slice_range t (b + 1) e) ((slice_get-get_or t b 0 (omega arith)), rest))
 
 module _ (t : List ℕ) where
   -- a number does not go on at i
   ends-get : (i c : ℕ) → slice_get t i ≡ Some c → continues_number c ≡ false → EndsNumber t i
   ends-get i c e h = subst (λ o. IfSome o (λ b. continues_number b ≡ false)) (sym e) h
 
-  -- nor before blanks after which it does not
+  -- nor before whitespace after which it does not
   ends-before : (i j : ℕ) → IsBlank t i j → EndsNumber t j → EndsNumber t i
   ends-before i j b quiet = by (cases_eq i j) where
     by : (i ≡ j) ⊎ (i ≢ j) → EndsNumber t i
     by (inl same) = subst (EndsNumber t) (sym same) quiet
     by (inr apart) =
-        let lt : i < j = omega (arith, b.ordered) in
         ends-get i (slice_index t i) (slice_get-get_or t i 0 (omega (arith, b.within)))
-        (blank-ends _ (b.each i (omega arith) lt))
+        (grind (arith, nat_tests, b.each i (omega arith) (omega (arith, b.ordered))))
 
   ends-after : (i sign e : ℕ) → continues_number sign ≡ false → StandsAfter t i sign e → EndsNumber t i
   ends-after i sign e quiet h = ends-before i h.at h.blanks (ends-get h.at sign h.here quiet)
@@ -113,19 +108,16 @@ pub record IsMember (names : Bool) (t : List ℕ) (levels i : ℕ) (m : Key × N
   pub value : IsItem names t levels (begin m.1) m.1 e
 
 module _ (names : Bool) (t : List ℕ) where
-  laws : ScalarLaws names t
-  laws = scalar-laws names t
-
   number-ahead : (b e : ℕ) → SpellsNumber names t b e → (b ≡ e) ⊎ (b ≢ e) → b < e
   number-ahead b e h (inl same) =
-      absurd (laws.number-not_empty (subst (IsNumberText names) (sym (slice-stands t b e [] same)) h.text))
+      absurd (numbers.number-not_empty names (subst (IsNumberText names) (sym (slice-stands t b e [] same)) h.text))
   number-ahead b e h (inr apart) = omega (arith, h.ordered)
 
   -- what a value's first byte says
   number-begins : (b e : ℕ) → SpellsNumber names t b e → BeginsValue t b start.Number
   number-begins b e h =
       let lt = number-ahead b e h (cases_eq b e) in
-      let first = number-byte (slice_index t b) (laws.number-begins (slice_index t b) (slice_range t (b + 1) e)
+      let first = number-byte (slice_index t b) (numbers.number-begins names (slice_index t b) (slice_range t (b + 1) e)
       (subst (IsNumberText names) (slice-first t b e lt h.within) h.text)) in
       record {
         byte = slice_index t b;
@@ -159,15 +151,14 @@ module _ (names : Bool) (t : List ℕ) where
   item-begins : (n : Node) → Spells names t n → PartAt shape.Array t (begin n)
   item-begins n h =
       let first = begins-value n h in
-      let other = ap not first.no_closer in
-      record { byte = first.byte; here = first.here; no_blank = first.no_blank; begins = other }
+      record { byte = first.byte; here = first.here; no_blank = first.no_blank; begins = (ap not first.no_closer) }
 
   pub key-taken : (k : Key) → SpellsString t k.begin k.pieces k.end
       → seen_as (key_of t k.begin) (string_at whole t k.begin) ≡ taken k k.end
   key-taken k h =
-      ap (seen_as (key_of t k.begin)) (laws.string-complete k.begin k.end k.pieces h)
+      ap (seen_as (key_of t k.begin)) (string_at-complete t k.begin k.end k.pieces h)
       ∙ ap (λ ps. taken (record { pieces = ps; begin = k.begin; end = k.end }) k.end)
-      (laws.pieces-again k.begin k.end k.pieces h)
+      (pieces-again t k.begin k.end k.pieces h)
 
   -- the parts of a container, by the grammar
   module _ (levels : ℕ) where
@@ -229,8 +220,7 @@ module _ (names : Bool) (t : List ℕ) where
         → Members (members_list ms) i e
     members-parts no_members i e h d = h
     members-parts (member k n ms) i e h d =
-        member-first k n (members_list ms) i e h.0 h.1 h.2 (omega arith)
-        (more_members-parts ms (end n) e h.3 (omega arith))
+        member-first k n _ i e h.0 h.1 h.2 (omega arith) (more_members-parts ms (end n) e h.3 (omega arith))
 
   -- What is spelled lies within the text, a node ahead of its begin.
   pub begin-within : (n : Node) → Spells names t n → begin n < length t
@@ -242,18 +232,18 @@ module _ (names : Bool) (t : List ℕ) where
   -- from a key to its value
   pub key-ahead : (key : Key) (j : ℕ) → SpellsKey t key j → key.begin < j
   key-ahead key j h =
-      let string = laws.string-ordered key.begin key.end key.pieces h.string in
+      let string = string-ordered t key.begin key.end key.pieces h.string in
       omega (arith, string.0, after-ahead t key.end 58 h.colon h.after, h.blanks.ordered)
 
   module _ (levels : ℕ) where
-    -- the values of these parts stand one after another, from i to before e, which lies within the text
+    -- the values of these parts are one after another, from i to before e, which lies within the text
     abbrev pub InOrder : {P : Type 0} → (P → Node) → ℕ → List P → ℕ → Type 0
     InOrder value i [] e = (i < e) × (e ≤ length t)
     InOrder value i (p ∷ ps) e =
         (i ≤ begin (value p)) × Spells names t (value p) × (nesting (value p) < levels)
         × InOrder value (end (value p)) ps e
 
-    -- So stand parts whose values are such, one after another.
+    -- So are parts whose values are such, one after another.
     order-grammar : {P : Type 0} (closer : ℕ) (Begins : ℕ → Type 0) (IsPart : ℕ → P → ℕ → Type 0) (value : P → Node)
         → ((i : ℕ) (p : P) (e : ℕ) → IsPart i p e
         → (i ≤ begin (value p)) × Spells names t (value p) × (nesting (value p) < levels) × (end (value p) ≡ e))
@@ -293,9 +283,8 @@ module _ (names : Bool) (t : List ℕ) where
         → (i < e) × (e ≤ length t)
     order-ends all value [] i e h = h
     order-ends all value (p ∷ ps) i e h =
-        let here = all (value p) h.1 h.2 in
         let rest = order-ends all value ps (end (value p)) e h.3 in
-        (omega (arith, h.0, here.0, rest.0), rest.1)
+        (omega (arith, h.0, (all (value p) h.1 h.2).0, rest.0), rest.1)
 
   word-ahead : (l : Literal) (b e : ℕ) → Stands t b e (word_of l) → b < e
   word-ahead literal.Null b e h = omega (arith, stands-length t b e (word_of literal.Null) h)
@@ -304,10 +293,9 @@ module _ (names : Bool) (t : List ℕ) where
   node-ends : (levels : ℕ) → Ends levels
   node-ends zero n h d = absurd (omega arith)
   node-ends (suc levels) (grammar.literal l b e) h d =
-      let within = stands-within t b e (word_of l) (omega (arith, begin-within (grammar.literal l b e) h)) h in
-      (word-ahead l b e h, within)
+      (word-ahead l b e h, stands-within t b e (word_of l) (omega (arith, begin-within (grammar.literal l b e) h)) h)
   node-ends (suc levels) (grammar.number b e) h d = (number-ahead b e h (cases_eq b e), h.within)
-  node-ends (suc levels) (grammar.string ps b e) h d = let order = laws.string-ordered b e ps h in (order.0, order.1)
+  node-ends (suc levels) (grammar.string ps b e) h d = let order = string-ordered t b e ps h in (order.0, order.1)
   node-ends (suc levels) (grammar.array b e ns) h d =
       let order = items-order levels ns (b + 1) e h.1 (omega arith) in
       let ends = order-ends levels (node-ends levels) (λ n. n) (nodes_list ns) (b + 1) e order in

@@ -32,14 +32,13 @@ all_follow-printed (b ∷ w) h = (high-printed b h.0.least, all_follow-printed w
 pub plain-printed : (p : List ℕ) (c : ℕ) → IsPlain p c → ArePrinted (encode_utf8 c)
 plain-printed p c is =
     let l = lead c is.scalar in
-    let high = all_follow-printed l.rest l.follow in
     subst ArePrinted (sym l.is) (
       record {
         printed = omega (arith, l.byte, is.printed);
         no_quote = omega (arith, l.byte, is.no_quote);
         no_backslash = omega (arith, l.byte, is.no_backslash);
       },
-      high,
+      all_follow-printed l.rest l.follow,
     )
 
 module _ (t : List ℕ) where

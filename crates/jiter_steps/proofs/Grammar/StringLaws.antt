@@ -1,16 +1,15 @@
--- The laws of reading a string that the layers above stand on.
+-- The laws of reading a string that the layers above rest on.
 use Rattle.jiter_steps.proofs.Words.{◌≡◌, ◌≢◌, ℕ, ◌+◌, ◌-◌, ◌<◌, ◌≤◌, Bool, List, length, drop, refl, sym, ap, ◌∙◌}
 use Rattle.jiter_steps.proofs.Words.{subst, arith, slice_get, Option, Some, None, ◌==◌, chars, utf8_valid_len}
 use Rattle.jiter_steps.proofs.Words.{utf8_error_len, slice_get_within, Kind, eof_string, invalid_code_point, taken}
-use Rattle.jiter_steps.proofs.Words.{failed, ScalarWithin, FaultAt, Text, Piece, SpellsString, characters, text_of}
+use Rattle.jiter_steps.proofs.Words.{failed, ScalarWithin, Text, Piece, SpellsString, characters, text_of}
 use Rattle.jiter_steps.proofs.Words.{has_backslash, text_at, Stop, unclosed, cut, wrong, body_at, Form, whole, kept}
-use Rattle.jiter_steps.proofs.Words.{raw, raw_kept, if_utf8, valid_prefix_by, valid_prefix, between, text_in_form}
-use Rattle.jiter_steps.proofs.Words.{content_at, string_at, if_case}
-use Rattle.std.proofs.lemmas.Str.{chars-encodes, utf8_valid_len_le}
+use Rattle.jiter_steps.proofs.Words.{raw, raw_kept, valid_prefix_by, valid_prefix, between, text_in_form, content_at}
+use Rattle.jiter_steps.proofs.Words.{string_at, if_case, chars-encodes, utf8_valid_len_le}
 use Rattle.jiter_steps.specs.StringReading.{closed}
 use Rattle.jiter_steps.proofs.Reading.Bounds.{fault-end, fault-byte}
 use Rattle.jiter_steps.proofs.Grammar.NodeRules.{pieces_from}
-use Rattle.jiter_steps.proofs.Grammar.Places.{pieces-ahead, IsPlaceKind}
+use Rattle.jiter_steps.proofs.Grammar.Places.{pieces-ahead}
 use Rattle.jiter_steps.proofs.Reading.Bodies.{StopWithin, body_at-within, body_at-long}
 use Rattle.jiter_steps.proofs.Grammar.StringComplete.{string-complete, pieces-read}
 use Rattle.jiter_steps.proofs.Grammar.StringSound.{string-sound, closed-text, pieces-unique}
@@ -18,10 +17,6 @@ use Rattle.jiter_steps.proofs.Reading.StringForms.{content-kept, content-raw}
 use Rattle.jiter_steps.proofs.Grammar.StringMarks.{EndOf, mark-is}
 
 -- ---- how far reading gets
--- a fault of a place is one of a byte
-place-fault : (t : List ℕ) (k : Kind) (j : ℕ) → j ≤ length t → IsPlaceKind k → FaultAt t k j
-place-fault t k j le h = fault-byte t k j (grind (arith, h)) (grind (arith, h)) le
-
 -- each way that a string whose quote is at i can end
 module _ (t : List ℕ) (i : ℕ) (inside : i < length t) where
   end-within : ScalarWithin {A = Text} t i (failed eof_string (length t))
@@ -29,12 +24,6 @@ module _ (t : List ℕ) (i : ℕ) (inside : i < length t) where
 
   code-within : (n : ℕ) → i + 1 + n ≤ length t → ScalarWithin {A = Text} t i (failed invalid_code_point (i + 1 + n))
   code-within n h = (omega arith, fault-byte t invalid_code_point (i + 1 + n) (λ m. cc) refl h)
-
-  if_utf8-within : (o : Bool) (bs : List ℕ) (e : ℕ) → i + 1 + length bs ≤ length t → i < e → e ≤ length t
-      → ScalarWithin t i (if_utf8 (i + 1) o bs e)
-  if_utf8-within o bs e h l m =
-      if_case (ScalarWithin t i) (utf8_valid_len bs == length bs) _ _ (λ q. (l, m))
-      (λ q. code-within (utf8_valid_len bs) (omega (arith, utf8_valid_len_le bs)))
 
   kept-within : (o : Bool) (bs : List ℕ) (e : ℕ) → i + 1 + length bs ≤ length t → i < e → e ≤ length t
       → ScalarWithin t i (valid_prefix (i + 1) o bs e)
@@ -45,8 +34,11 @@ module _ (t : List ℕ) (i : ℕ) (inside : i < length t) where
 
   text_in_form-within : (form : Form) (bs : List ℕ) (o : Bool) (s : Stop) → i + 1 + length bs ≤ length t
       → StopWithin t (i + 1) s → ScalarWithin t i (text_in_form form t (i + 1) bs o s)
-  text_in_form-within form bs o (wrong k j) h w = (omega (arith, w.0), place-fault t k j (omega (arith, w.1)) w.2)
-  text_in_form-within whole bs o (closed e) h w = if_utf8-within o bs e h (omega (arith, w.0)) w.1
+  text_in_form-within form bs o (wrong k j) h w =
+      (omega (arith, w.0), fault-byte t k j (grind (arith, w.2)) (grind (arith, w.2)) (omega (arith, w.1)))
+  text_in_form-within whole bs o (closed e) h w =
+      if_case (ScalarWithin t i) (utf8_valid_len bs == length bs) _ _ (λ q. ((omega (arith, w.0)), w.1))
+      (λ q. code-within (utf8_valid_len bs) (omega (arith, utf8_valid_len_le bs)))
   text_in_form-within kept bs o (closed e) h w = kept-within o bs e h (omega (arith, w.0)) w.1
   text_in_form-within form bs o (closed e) h w = (omega (arith, w.0), w.1)
   text_in_form-within kept bs o unclosed h w = kept-within o bs (length t) h inside (omega arith)
@@ -55,7 +47,7 @@ module _ (t : List ℕ) (i : ℕ) (inside : i < length t) where
   text_in_form-within kept bs o cut h w = kept-within o bs (length t) h inside (omega arith)
   text_in_form-within form bs o cut h w = end-within
 
--- a string ends after its begin; a fault stands in the text, or at its end
+-- a string ends after its begin; an error is in the text, or at its end
 pub string_at-within : (form : Form) (t : List ℕ) (i : ℕ) → i < length t → ScalarWithin t i (string_at form t i)
 unfolding content_at
 string_at-within form t i h =
@@ -114,7 +106,7 @@ raw-whole t i e x h = (content-kept t (i + 1) x e h).1
 pub kept-whole : (t : List ℕ) (i e : ℕ) (x : Text) → string_at whole t i ≡ taken x e → string_at kept t i ≡ taken x e
 kept-whole t i e x h = (content-kept t (i + 1) x e h).0
 
--- a fault other than that of UTF-8 is one of raw reading
+-- an error other than that of UTF-8 is one of raw reading
 pub raw-whole-fault : (t : List ℕ) (i : ℕ) (k : Kind) (j : ℕ) → k ≢ invalid_code_point
     → string_at whole t i ≡ failed k j → string_at raw t i ≡ failed k j
 raw-whole-fault t i k j ne h = content-raw t (i + 1) k j ne h

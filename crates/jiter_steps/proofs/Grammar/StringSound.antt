@@ -6,8 +6,7 @@ use Rattle.jiter_steps.proofs.Words.{eqb-true, and_parts, encode_same, take_all,
 use Rattle.jiter_steps.proofs.Words.{SpellsChar, SpellsPieces, SpellsString, characters, text_of, taken, Text, Stop}
 use Rattle.jiter_steps.proofs.Words.{Event, part, over, event_at, join, body_at, whole, content_at, string_at}
 use Rattle.jiter_steps.proofs.Words.{text_in_form, if_case, if_gives, failed-taken, same_taken, stands-length}
-use Rattle.std.specs.Str.Lossy.{valid_len_up_to}
-use Rattle.std.proofs.lemmas.Str.{IsUtf8-from_is_utf8, IsUtf8-nil, scalars-chars, encodes-chars}
+use Rattle.jiter_steps.proofs.Words.{valid_len_up_to, IsUtf8-from_is_utf8, IsUtf8-nil, scalars-chars, encodes-chars}
 use Rattle.jiter_steps.specs.StringReading.{closed}
 use Rattle.jiter_steps.proofs.Grammar.NodeRules.{end_of, pieces_from}
 use Rattle.jiter_steps.proofs.Grammar.Utf8Shape.{Follows, AllFollow, Lead, lead}
@@ -110,9 +109,8 @@ module _ (t : List ℕ) where
   pieces-sound [] i e sc b s = let x = none-sound i e b s in (i, refl, x.0, x.1)
   pieces-sound (c ∷ cs) i e sc b s =
       let p = and_parts _ _ sc in
-      let j = end_of i c (event_at t i) in
       let x = char-sound i c (encode_utf8_all cs) p.0 b in
-      let r = pieces-sound cs j e p.1 x.1.bytes (x.1.stop ∙ s) in
+      let r = pieces-sound cs (end_of i c (event_at t i)) e p.1 x.1.bytes (x.1.stop ∙ s) in
       (r.0, (x.0, r.1), r.2, r.3)
 
   -- ---- in one way

@@ -1,6 +1,6 @@
 -- A body, a part at a time.
 use Rattle.jiter_steps.proofs.Words.{◌≡◌, ℕ, zero, suc, ◌+◌, ◌<◌, ◌≤◌, ◌||◌, Bool, true, false, List, ◌++◌, length}
-use Rattle.jiter_steps.proofs.Words.{refl, sym, ap, ◌∙◌, subst, arith, append_assoc, length-append, slice_get_past}
+use Rattle.jiter_steps.proofs.Words.{refl, sym, ap, ◌∙◌, arith, append_assoc, length-append, slice_get_past}
 use Rattle.jiter_steps.proofs.Words.{slice_get_within, Stop, unclosed, wrong, Event, part, over, event_by, event_at}
 use Rattle.jiter_steps.proofs.Words.{Body, before, join, body_within, body_at}
 use Rattle.jiter_steps.specs.StringReading.{closed}
@@ -58,11 +58,9 @@ module _ (t : List ℕ) where
     by-turns : (n i : ℕ) → length t ≤ n + i → P i (body_at t i)
     by-turns zero i p =
         let past : length t ≤ i = omega arith in
-        subst (P i) (sym (body_at-event_by i (over unclosed) (event_by-end t i past)))
-        (at-end i unclosed (slice_get_past t i past))
+        rw (body_at-event_by i (over unclosed) (event_by-end t i past)) (at-end i unclosed (slice_get_past t i past))
     by-turns (suc n) i p =
-        subst (P i) (sym (body_at-is i))
-        (by-place i (λ j l. by-turns n j (omega arith)) (event_at t i) (event_at-explains t i))
+        rw (body_at-is i) (by-place i (λ j l. by-turns n j (omega arith)) (event_at t i) (event_at-explains t i))
 
     pub each-body : (i : ℕ) → P i (body_at t i)
     each-body i = by-turns (length t) i (omega arith)
@@ -79,7 +77,7 @@ module _ (t : List ℕ) where
       omega (arith, part-wide i j bs o h, go (part-ahead t i j bs o h).1, length-append bs (body_at t j).bytes))
       (λ i s h le. omega arith)
 
--- where a string stops that is read from i on: after i, or at a fault of a place
+-- where a string stops that is read from i on: after i, or at an error of a place
 abbrev pub StopWithin : List ℕ → ℕ → Stop → Type 0
 StopWithin t i (closed e) = (i < e) × (e ≤ length t)
 StopWithin t i (wrong k j) = (i ≤ j) × (j < length t) × IsPlaceKind k

@@ -1,14 +1,12 @@
--- Where steps and readings end: within the text, and a fault of the input's end at its length alone. One walk over the
+-- Where steps and readings end: within the text, and an error of the input's end at its length alone. One walk over the
 -- rows.
 use Rattle.jiter_steps.proofs.Words.{◌≡◌, ◌≢◌, ℕ, ◌+◌, ◌<◌, ◌≤◌, ◌==◌, Bool, true, false, cond, length, List, refl, sym}
 use Rattle.jiter_steps.proofs.Words.{◌∙◌, arith, slice_get, Option, Some, None, false≢true, slice_get_within, Kind}
-use Rattle.jiter_steps.proofs.Words.{is_end_kind, out_of_memory, eof_object, eof_value, taken, failed, Extent}
-use Rattle.jiter_steps.proofs.Words.{extent_then, FaultAt, get-none, past_blanks, Step, more, closed, stuck, step}
+use Rattle.jiter_steps.proofs.Words.{is_end_kind, out_of_memory, eof_object, eof_value, taken, failed, Span}
+use Rattle.jiter_steps.proofs.Words.{span_then, FaultAt, get-none, past_blanks, Step, more, closed, stuck, step}
 use Rattle.jiter_steps.proofs.Words.{closer_of, begins_part, end_kind_of, comma_kind_of, container_first}
 use Rattle.jiter_steps.proofs.Words.{container_comma, container_step, colon, value_first, object_colon, ContainerKind}
-use Rattle.jiter_steps.proofs.Words.{Reading, done, fault}
-use Rattle.jiter_scan.specs.Kind.{expected_colon}
-use Rattle.jiter_scan.specs.Kind.{key_must_be_a_string, trailing_comma}
+use Rattle.jiter_steps.proofs.Words.{Reading, done, fault, expected_colon, key_must_be_a_string, trailing_comma}
 use Rattle.jiter_steps.proofs.Reading.BothShapes.{end_kind-bytes, comma_kind-late, comma_kind-bytes}
 use Rattle.jiter_steps.proofs.Grammar.Blanks.{past_blanks-bound, past_blanks-after}
 
@@ -18,10 +16,10 @@ Ahead t i (more j) = (i ≤ j) × (j < length t)
 Ahead t i (closed e) = (i < e) × (e ≤ length t)
 Ahead t i (stuck k j) = (i ≤ j) × FaultAt t k j
 
--- so does what may stand after a key: n bytes or more, and where n is 0 a byte follows
-abbrev pub ExtentAhead : List ℕ → ℕ → ℕ → Extent → Type 0
-ExtentAhead t i n (taken u j) = (i + n ≤ j) × (j + 1 ≤ length t + n)
-ExtentAhead t i n (failed k j) = (i ≤ j) × FaultAt t k j
+-- so does what may be after a key: n bytes or more, and where n is 0 a byte follows
+abbrev pub SpanAhead : List ℕ → ℕ → ℕ → Span → Type 0
+SpanAhead t i n (taken u j) = (i + n ≤ j) × (j + 1 ≤ length t + n)
+SpanAhead t i n (failed k j) = (i ≤ j) × FaultAt t k j
 
 -- a reading from i ends after it, or stops at or after it, and not past the length
 abbrev pub Within : {A : Type 0} → List ℕ → ℕ → Reading A → Type 0
@@ -49,7 +47,7 @@ reaches t j le None e = omega (arith, get-none t j e)
 reaches t j le (Some c) e = slice_get_within t j c e
 
 module _ (t : List ℕ) where
-  -- a fault at the end of input, and one at a byte
+  -- an error at the end of input, and one at a byte
   pub fault-end : (k : Kind) (j : ℕ) → k ≢ out_of_memory → j ≡ length t → FaultAt t k j
   fault-end k j m e = record { within = omega arith; ends = λ h. e; bytes = m }
 
@@ -113,31 +111,29 @@ module _ (t : List ℕ) where
     container_step-ahead = step-ahead (container_step b t) step-here
 
   -- after a key: its colon
-  colon-here : (i j : ℕ) (o : Option ℕ) → i ≤ j → Reaches t j o → ExtentAhead t i 1 (colon j o)
+  colon-here : (i j : ℕ) (o : Option ℕ) → i ≤ j → Reaches t j o → SpanAhead t i 1 (colon j o)
   colon-here i j None a h = (a, fault-end eof_object j (λ e. cc) h)
   colon-here i j (Some c) a h =
-      either (ExtentAhead t i 1) (c == 58) _ _ (omega arith, omega arith)
+      either (SpanAhead t i 1) (c == 58) _ _ (omega arith, omega arith)
       (a, fault-byte expected_colon j (λ e. cc) refl (omega arith))
 
-  pub colon-ahead : (i : ℕ) → i ≤ length t → ExtentAhead t i 1 (step t colon i)
+  pub colon-ahead : (i : ℕ) → i ≤ length t → SpanAhead t i 1 (step t colon i)
   colon-ahead i h = colon-here i (past_blanks t i) _ (past_blanks-after t i) (past-reaches i h)
 
   -- where a value begins
-  value-here : (i j : ℕ) (o : Option ℕ) → i ≤ j → Reaches t j o → ExtentAhead t i 0 (value_first j o)
+  value-here : (i j : ℕ) (o : Option ℕ) → i ≤ j → Reaches t j o → SpanAhead t i 0 (value_first j o)
   value-here i j None a h = (a, fault-end eof_value j (λ e. cc) h)
   value-here i j (Some c) a h = (omega arith, omega arith)
 
-  pub value_first-ahead : (i : ℕ) → i ≤ length t → ExtentAhead t i 0 (step t value_first i)
-  value_first-ahead i h = value-here i (past_blanks t i) _ (past_blanks-after t i) (past-reaches i h)
-
   -- after a key: its colon, and where its value begins
-  later : (i j n : ℕ) (x : Extent) → i + n ≤ j → ExtentAhead t j 0 x → ExtentAhead t i 0 x
+  later : (i j n : ℕ) (x : Span) → i + n ≤ j → SpanAhead t j 0 x → SpanAhead t i 0 x
   later i j n (taken u k) le w = (omega (arith, w.0), w.1)
   later i j n (failed k x) le w = (omega (arith, w.0), w.1)
 
-  after-colon : (i : ℕ) (x : Extent) → ExtentAhead t i 1 x → ExtentAhead t i 0 (extent_then x (step t value_first))
-  after-colon i (taken u j) w = later i j 1 _ w.0 (value_first-ahead j (omega (arith, w.1)))
+  after-colon : (i : ℕ) (x : Span) → SpanAhead t i 1 x → SpanAhead t i 0 (span_then x (step t value_first))
+  after-colon i (taken u j) w =
+      later i j 1 _ w.0 (value-here j (past_blanks t j) _ (past_blanks-after t j) (past-reaches j (omega (arith, w.1))))
   after-colon i (failed k j) w = w
 
-  pub object_colon-ahead : (i : ℕ) → i ≤ length t → ExtentAhead t i 0 (object_colon t i)
+  pub object_colon-ahead : (i : ℕ) → i ≤ length t → SpanAhead t i 0 (object_colon t i)
   object_colon-ahead i h = after-colon i (step t colon i) (colon-ahead i h)

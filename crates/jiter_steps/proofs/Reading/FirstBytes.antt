@@ -1,10 +1,9 @@
--- What stands where a value or a key begins.
+-- What is where a value or a key begins.
 use Rattle.jiter_steps.proofs.Words.{◌≡◌, ◌⊎◌, inl, inr, ℕ, ◌+◌, ◌<◌, ◌≤◌, ◌==◌, true, length, List, refl, sym, ap, ◌∙◌}
 use Rattle.jiter_steps.proofs.Words.{eqb-true, arith, slice_get, slice_index, Option, Some, None, slice_get-get_or}
 use Rattle.jiter_steps.proofs.Words.{cases_lt, nat_tests, past_blanks, start_of, if_case, Step, more, closed, stuck}
 use Rattle.jiter_steps.proofs.Words.{step, closer_of, begins_part, container_first, container_comma, container_step}
-use Rattle.jiter_steps.proofs.Words.{ContainerKind}
-use Rattle.std.proofs.lemmas.List.{get_or_past}
+use Rattle.jiter_steps.proofs.Words.{ContainerKind, get_or_past}
 use Rattle.jiter_steps.specs.declared.parse.ContainerKind.TheVariants as shape
 use Rattle.jiter_steps.specs.declared.parse.Start.TheVariants as start
 use Rattle.jiter_steps.proofs.Reading.Bounds.{either}
@@ -38,7 +37,7 @@ BeginsAt b t j = (c : ℕ) × (slice_get t j ≡ Some c) × (begins_part b c ≡
 pub key-quote : (t : List ℕ) (j : ℕ) → BeginsAt shape.Object t j → slice_get t j ≡ Some 34
 key-quote t j h = h.1 ∙ ap Some (eqb-true h.0 34 h.2)
 
--- it stands where their steps go on
+-- it is where their steps go on
 module _ (b : ContainerKind) (t : List ℕ) where
   abbrev Goes : Step → Type 0
   Goes = GoesTo (BeginsAt b t)

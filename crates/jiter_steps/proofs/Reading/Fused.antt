@@ -1,14 +1,13 @@
--- What is built of one reading of a text maps to what is built of another; where some faults of the one aren't told,
--- with every other fault.
+-- What is built of one reading of a text maps to what is built of another; where some errors of the one aren't told,
+-- with every other error.
 use Rattle.jiter_steps.proofs.Words.{◌≡◌, ℕ, zero, suc, ◌+◌, ◌<◌, Bool, true, false, cond, List, [], ◌∷◌, ◌++◌, length}
 use Rattle.jiter_steps.proofs.Words.{map, refl, sym, ap, ◌∙◌, subst, slice_index, slice_get, Option, Some, None, Kind}
-use Rattle.jiter_steps.proofs.Words.{Scanned, taken, failed, Extent, past_blanks, start_of, nesting_limit, Step, more}
+use Rattle.jiter_steps.proofs.Words.{Scanned, taken, failed, Span, past_blanks, start_of, nesting_limit, Step, more}
 use Rattle.jiter_steps.proofs.Words.{closed, stuck, step, object_colon, Reading, done, fault, Rules, Container}
 use Rattle.jiter_steps.proofs.Words.{scalar_at, with_key, after_colon, after_key, if_forgiven, follow, after_part}
 use Rattle.jiter_steps.proofs.Words.{parts_at, container_at, array_of, object_of, value_with, inside_at, value_at}
 use Rattle.jiter_steps.proofs.Words.{if_last, to_end, if_begun, prefix_answer, unless_refused, whole_answer, Literal}
-use Rattle.jiter_steps.proofs.Words.{Start}
-use Rattle.std.proofs.lemmas.List.{map_push}
+use Rattle.jiter_steps.proofs.Words.{Start, map_push}
 use Rattle.jiter_steps.specs.declared.parse.Start.TheVariants as start
 use Rattle.jiter_steps.specs.declared.parse.ContainerKind.TheVariants as shape
 use Rattle.jiter_steps.proofs.Reading.Bounds.{both}
@@ -31,7 +30,7 @@ abbrev pub pairs : {K L A B : Type 0} → (K → L) → (A → B) → List (K ×
 pairs g h ms = map (pair g h) ms
 
 module _ (Told : Kind → Type 0) where
-  -- a value, or a fault that is told
+  -- a value, or an error that is told
   abbrev pub Tells : {A : Type 0} → Reading A → Type 0
   Tells (done a e) = Unit {0}
   Tells (fault k i stop) = Told k
@@ -47,6 +46,15 @@ module _ (Told : Kind → Type 0) where
   abbrev pub ScansTo : {A B : Type 0} → (A → B) → Scanned A → Scanned B → Type 0
   ScansTo h x y = TellsScan x → scanned_as h x ≡ y
 
+  -- what is refused, where its error is told
+  abbrev pub RefusesTo : Option (Kind × ℕ) → Option (Kind × ℕ) → Type 0
+  RefusesTo None o = None ≡ o
+  RefusesTo (Some f) o = Told f.0 → Some f ≡ o
+
+  pub refuses-same : (o r : Option (Kind × ℕ)) → o ≡ r → RefusesTo o r
+  refuses-same None r same = same
+  refuses-same (Some f) r same = λ told. same
+
   -- g and h take what p tells of this text to what q gives, and both forgive the same, which is told
   pub record Leads {K L A B : Type 0} (p : Rules K A) (q : Rules L B) (g : K → L) (h : A → B) (t : List ℕ)
       : Type 0 where
@@ -59,7 +67,7 @@ module _ (Told : Kind → Type 0) where
     pub text : (i : ℕ) → slice_get t i ≡ Some 34 → ScansTo h (p.text t i) (q.text t i)
     pub key : (i : ℕ) → slice_get t i ≡ Some 34 → ScansTo g (p.key t i) (q.key t i)
     pub refuses : (members : List (K × A)) (i : ℕ) → slice_get t i ≡ Some 34
-        → p.refuses members t i ≡ q.refuses (pairs g h members) t i
+        → RefusesTo (p.refuses members t i) (q.refuses (pairs g h members) t i)
     pub array : (b e : ℕ) (items : List A) → h (p.array b e items) ≡ q.array b e (map h items)
     pub object : (b e : ℕ) (members : List (K × A)) → h (p.object b e members) ≡ q.object b e (pairs g h members)
 
@@ -71,7 +79,7 @@ module _ (Told : Kind → Type 0) where
     pub first-begins : (i : ℕ) → GoesTo Begins (step t c.first i)
     pub next-begins : (i : ℕ) → GoesTo Begins (step t c.next i)
     pub part : (i : ℕ) → Begins i → MapsTo m (c.part i) (d.part i)
-    pub refuses : (parts : List P) (i : ℕ) → Begins i → c.refuses parts i ≡ d.refuses (map m parts) i
+    pub refuses : (parts : List P) (i : ℕ) → Begins i → RefusesTo (c.refuses parts i) (d.refuses (map m parts) i)
     pub build : (e : ℕ) (parts : List P) → h (c.build e parts) ≡ d.build e (map m parts)
 
   module _ {K L A B : Type 0} (p : Rules K A) (q : Rules L B) (g : K → L) (h : A → B) (t : List ℕ)
@@ -119,25 +127,22 @@ module _ (Told : Kind → Type 0) where
 
       part-mapped : (parts : List P) (i : ℕ) → Begins i
           → MapsTo m (part_after c parts i) (part_after d (map m parts) i)
-      part-mapped parts i b =
-          subst (λ o. MapsTo m (part_after c parts i) (unless_refused o (d.part i))) (maps.refuses parts i b)
-          (by (c.refuses parts i)) where
-            by : (o : Option (Kind × ℕ)) → MapsTo m (unless_refused o (c.part i)) (unless_refused o (d.part i))
-            by None = maps.part i b
-            by (Some f) = λ told. refl
+      part-mapped parts i b = by (c.refuses parts i) (d.refuses (map m parts) i) (maps.refuses parts i b) where
+        by : (o r : Option (Kind × ℕ)) → RefusesTo o r
+            → MapsTo m (unless_refused o (c.part i)) (unless_refused r (d.part i))
+        by None r same = subst (λ o. MapsTo m (c.part i) (unless_refused o (d.part i))) same (maps.part i b)
+        by (Some f) r same = λ told. ap (λ o. unless_refused o (d.part i)) (same told)
 
       parts_at-mapped : (n : ℕ) (parts : List P) (i : ℕ) → Begins i
           → MapsTo h (parts_at p c t n parts i) (parts_at q d t n (map m parts) i)
       unfolding parts_at
       parts_at-mapped zero parts i b = λ told. refl
       parts_at-mapped (suc n) parts i b =
-          after_part-mapped (parts_at p c t n) (parts_at q d t n) (parts_at-mapped n) parts (part_after c parts i)
-          (part_after d (map m parts) i) (part-mapped parts i b)
+          after_part-mapped (parts_at p c t n) (parts_at q d t n) (parts_at-mapped n) parts _ _ (part-mapped parts i b)
 
       container_at-mapped : (i : ℕ) → MapsTo h (container_at p c t i) (container_at q d t i)
       container_at-mapped i told =
-          follow-mapped (parts_at p c t (length t) []) (parts_at q d t (length t) [])
-          (parts_at-mapped (length t) []) [] _ (maps.first-begins (i + 1)) told
+          follow-mapped _ _ (parts_at-mapped (length t) []) [] _ (maps.first-begins (i + 1)) told
           ∙ ap (follow q (parts_at q d t (length t) []) (λ e. d.build e [])) (maps.first (i + 1))
 
     module _ (f : ℕ → Reading A) (f' : ℕ → Reading B) (same : (i : ℕ) → MapsTo h (f i) (f' i)) where
@@ -147,7 +152,7 @@ module _ (Told : Kind → Type 0) where
       with_key-mapped k (done a e) y all told = ap (with_key (g k)) (all told)
       with_key-mapped k (fault kind i stop) y all told = ap (with_key (g k)) (all told)
 
-      after_colon-mapped : (k : K) (x : Extent) → MapsTo (pair g h) (after_colon k f x) (after_colon (g k) f' x)
+      after_colon-mapped : (k : K) (x : Span) → MapsTo (pair g h) (after_colon k f x) (after_colon (g k) f' x)
       after_colon-mapped k (taken u j) = with_key-mapped k (f j) (f' j) (same j)
       after_colon-mapped k (failed kind j) = λ told. refl
 
@@ -194,19 +199,40 @@ module _ (Told : Kind → Type 0) where
           scalar-mapped i _ _ (leads.literal l i (starts i (start.Literal l) e (λ z. cc)) e)
       value_with-mapped i start.Nothing e = λ told. refl
 
-    inside_at-mapped : (levels i : ℕ) → MapsTo h (inside_at p t levels i) (inside_at q t levels i)
+    pub inside_at-mapped : (levels i : ℕ) → MapsTo h (inside_at p t levels i) (inside_at q t levels i)
     unfolding inside_at
     inside_at-mapped zero i = λ told. refl
     inside_at-mapped (suc levels) i =
-        value_with-mapped (inside_at p t levels) (inside_at q t levels) (inside_at-mapped levels) i
-        (start_of (slice_index t i)) refl
+        value_with-mapped (inside_at p t levels) (inside_at q t levels) (inside_at-mapped levels) i _ refl
 
     pub value_at-told : (levels i : ℕ) → MapsTo h (value_at p t levels i) (value_at q t levels i)
     value_at-told levels i =
-        value_with-mapped (inside_at p t levels) (inside_at q t levels) (inside_at-mapped levels) i
-        (start_of (slice_index t i)) refl
+        value_with-mapped (inside_at p t levels) (inside_at q t levels) (inside_at-mapped levels) i _ refl
 
--- where every fault is told
+    to_end-mapped : (x : Reading A) → mapped h (to_end t x) ≡ to_end t (mapped h x)
+    to_end-mapped (done a e) = at (slice_get t (past_blanks t e)) where
+      at : (o : Option ℕ) → mapped h (if_last a e (past_blanks t e) o) ≡ if_last (h a) e (past_blanks t e) o
+      at None = refl
+      at (Some c) = refl
+    to_end-mapped (fault k i stop) = refl
+
+    if_begun-told : (i : ℕ) (o : Option ℕ) → MapsTo h (if_begun p t i o) (if_begun q t i o)
+    if_begun-told i None = λ told. refl
+    if_begun-told i (Some c) = value_at-told nesting_limit i
+
+    pub prefix_answer-told : MapsTo h (prefix_answer p t) (prefix_answer q t)
+    unfolding prefix_answer
+    prefix_answer-told = if_begun-told (past_blanks t 0) (slice_get t (past_blanks t 0))
+
+    to_end-told : (x : Reading A) (y : Reading B) → MapsTo h x y → MapsTo h (to_end t x) (to_end t y)
+    to_end-told (done a e) y same = λ told. to_end-mapped (done a e) ∙ ap (to_end t) (same tt)
+    to_end-told (fault k i stop) y same = λ told. ap (to_end t) (same told)
+
+    pub whole_answer-told : MapsTo h (whole_answer p t) (whole_answer q t)
+    unfolding whole_answer
+    whole_answer-told = to_end-told (prefix_answer p t) (prefix_answer q t) prefix_answer-told
+
+-- where every error is told
 abbrev pub AllTold : Kind → Type 0
 AllTold k = Unit {0}
 
@@ -219,21 +245,8 @@ module _ {K L A B : Type 0} (p : Rules K A) (q : Rules L B) (g : K → L) (h : A
   pub value_at-mapped : (levels i : ℕ) → mapped h (value_at p t levels i) ≡ value_at q t levels i
   value_at-mapped levels i = value_at-told AllTold p q g h t leads levels i (all_told (value_at p t levels i))
 
-  to_end-mapped : (x : Reading A) → mapped h (to_end t x) ≡ to_end t (mapped h x)
-  to_end-mapped (done a e) = at (slice_get t (past_blanks t e)) where
-    at : (o : Option ℕ) → mapped h (if_last a e (past_blanks t e) o) ≡ if_last (h a) e (past_blanks t e) o
-    at None = refl
-    at (Some c) = refl
-  to_end-mapped (fault k i stop) = refl
-
-  if_begun-mapped : (i : ℕ) (o : Option ℕ) → mapped h (if_begun p t i o) ≡ if_begun q t i o
-  if_begun-mapped i None = refl
-  if_begun-mapped i (Some c) = value_at-mapped nesting_limit i
-
-  prefix_answer-mapped : mapped h (prefix_answer p t) ≡ prefix_answer q t
-  unfolding prefix_answer
-  prefix_answer-mapped = if_begun-mapped (past_blanks t 0) (slice_get t (past_blanks t 0))
+  pub prefix_answer-mapped : mapped h (prefix_answer p t) ≡ prefix_answer q t
+  prefix_answer-mapped = prefix_answer-told AllTold p q g h t leads (all_told (prefix_answer p t))
 
   pub whole_answer-mapped : mapped h (whole_answer p t) ≡ whole_answer q t
-  unfolding whole_answer
-  whole_answer-mapped = to_end-mapped (prefix_answer p t) ∙ ap (to_end t) prefix_answer-mapped
+  whole_answer-mapped = whole_answer-told AllTold p q g h t leads (all_told (whole_answer p t))

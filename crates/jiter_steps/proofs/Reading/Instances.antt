@@ -1,12 +1,10 @@
--- The readings that calls answer with stay within the text; so do their faults, and one of the input's end stands at
+-- The readings that calls answer with stay within the text; so do their errors, and one of the input's end is at
 -- its length.
 use Rattle.jiter_steps.proofs.Words.{ℕ, ◌<◌, ◌≤◌, Bool, List, length, arith, none-some, Kind, Scanned, taken, failed}
-use Rattle.jiter_steps.proofs.Words.{Extent, number_at, PartialMode, ScalarWithin, number_at-within, word_of}
+use Rattle.jiter_steps.proofs.Words.{Span, number_at, PartialMode, ScalarWithin, number_at-within, word_of}
 use Rattle.jiter_steps.proofs.Words.{literal_at, Form, whole, raw, string_at, nesting_limit, seen_as, only_ends}
 use Rattle.jiter_steps.proofs.Words.{whole_trees, partial_trees, value_form, answer, partial_answer, read_at, skip_at}
-use Rattle.jiter_steps.proofs.Words.{Literal}
-use Rattle.jiter_scan.proofs.WordLaws.{WordWithin, word_at-within}
-use Rattle.jiter_steps.specs.Answer.{trees}
+use Rattle.jiter_steps.proofs.Words.{Literal, WordWithin, word_at-within, trees}
 use Rattle.jiter_steps.specs.declared.parse.Literal.TheVariants as literal
 use Rattle.jiter_steps.proofs.Reading.Bounds.{Within}
 use Rattle.jiter_steps.proofs.Reading.Values.{Advances, value_at-within}
@@ -21,13 +19,13 @@ seen-within f t i (taken a e) h = h
 seen-within f t i (failed k j) h = h
 
 -- a literal is a word that is not empty
-extent-within : (t : List ℕ) (l : Literal) (i : ℕ) (x : Extent) → WordWithin t (word_of l) i x → ScalarWithin t i x
-extent-within t literal.Null i (taken u e) h = (omega (arith, h.0), h.1)
-extent-within t l i (taken u e) h = (omega (arith, h.0), h.1)
-extent-within t l i (failed k j) h = h
+span-within : (t : List ℕ) (l : Literal) (i : ℕ) (x : Span) → WordWithin t (word_of l) i x → ScalarWithin t i x
+span-within t literal.Null i (taken u e) h = (omega (arith, h.0), h.1)
+span-within t l i (taken u e) h = (omega (arith, h.0), h.1)
+span-within t l i (failed k j) h = h
 
 pub literal_at-within : (t : List ℕ) (l : Literal) (i : ℕ) → i ≤ length t → ScalarWithin t i (literal_at t l i)
-literal_at-within t l i le = extent-within t l i (literal_at t l i) (word_at-within t (word_of l) i le)
+literal_at-within t l i le = span-within t l i (literal_at t l i) (word_at-within t (word_of l) i le)
 
 module _ (t : List ℕ) where
   pub trees-advances : (forgives : Kind → Bool) (form : Form) (names : Bool) → Advances (trees forgives form names) t

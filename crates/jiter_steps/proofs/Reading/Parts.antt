@@ -11,7 +11,7 @@ pub after-ahead : (t : List ℕ) (i c e : ℕ) → StandsAfter t i c e → i < e
 after-ahead t i c e h = omega (arith, h.blanks.ordered, h.ends)
 
 module _ {P : Type 0} (t : List ℕ) (closer : ℕ) (Begins : ℕ → Type 0) (IsPart : ℕ → P → ℕ → Type 0) where
-  -- the part p after blanks from i on, and the rest after it
+  -- the part p after whitespace from i on, and the rest after it
   pub record PartThen (i : ℕ) (p : P) (Rest : ℕ → Type 0) : Type 0 where
     pub begin : ℕ
     pub end : ℕ
@@ -115,6 +115,6 @@ module _ {K P A : Type 0} (r : Rules K A) (t : List ℕ) (c : Container P A) (cl
     bracket-built b (closed e) h = ([], refl, h)
     bracket-built b (stuck k j) h = fault-built b (λ e. c.build e []) k j j
 
-    -- A container that is read is built of parts that stand one after another.
+    -- A container that is read is built of parts that are one after another.
     pub container_at-built : (i : ℕ) → i < length t → BuiltOf (i + 1) (container_at r c t i)
     container_at-built i h = bracket-built (i + 1) (step t c.first (i + 1)) (delimits.first-is (i + 1) (omega arith))

@@ -1,9 +1,8 @@
--- How the four forms stand to one another.
+-- How the four forms relate to one another.
 use Rattle.jiter_steps.proofs.Words.{◌≡◌, ◌≢◌, ℕ, ◌-◌, Bool, List, length, sym, ap, ◌∙◌, arith, ◌==◌, utf8_valid_len}
 use Rattle.jiter_steps.proofs.Words.{utf8_error_len, eqb-true, take_all, Kind, invalid_code_point, taken, failed}
 use Rattle.jiter_steps.proofs.Words.{if_gives, failed-taken, same_taken, Text, Stop, body_at, whole, kept, raw}
-use Rattle.jiter_steps.proofs.Words.{valid_prefix, between, text_in_form, content_at}
-use Rattle.std.proofs.lemmas.List.{drop_all}
+use Rattle.jiter_steps.proofs.Words.{valid_prefix, between, text_in_form, content_at, drop_all}
 use Rattle.jiter_steps.specs.StringReading.{closed}
 
 pub kept-valid : (i e : ℕ) (o : Bool) (bs : List ℕ) → utf8_valid_len bs ≡ length bs
@@ -19,8 +18,7 @@ module _ (t : List ℕ) (i : ℕ) where
   whole-kept bs o (closed f) x e h =
       if_gives (utf8_valid_len bs == length bs) _ _ (taken x e) h
       (λ is z.
-      let same = (same_taken _ x f e z).1 in
-      (kept-valid i f o bs (eqb-true _ _ is) ∙ z, ap (λ n. taken (between t i (n - 1)) n) same))
+      (kept-valid i f o bs (eqb-true _ _ is) ∙ z, ap (λ n. taken (between t i (n - 1)) n) (same_taken _ x f e z).1))
       (λ is z. absurd (failed-taken _ _ x e z))
   whole-kept bs o s x e h = absurd (cc)
 
@@ -36,7 +34,7 @@ module _ (t : List ℕ) (i : ℕ) where
       (λ is z. let kind : invalid_code_point ≡ x = cc in absurd (ne (sym kind)))
   whole-raw bs o s x e ne h = h
 
-  -- a fault other than that of UTF-8 is one of raw reading too
+  -- an error other than that of UTF-8 is one of raw reading too
   pub content-raw : (k : Kind) (j : ℕ) → k ≢ invalid_code_point → content_at whole t i ≡ failed k j
       → content_at raw t i ≡ failed k j
   unfolding content_at

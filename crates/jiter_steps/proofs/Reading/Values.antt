@@ -1,15 +1,14 @@
 -- The equations of reading.
 use Rattle.jiter_steps.proofs.Words.{◌≡◌, ℕ, zero, suc, ◌+◌, ◌<◌, ◌≤◌, length, List, [], ◌∷◌, ◌++◌, refl, sym, ap, ◌∙◌}
 use Rattle.jiter_steps.proofs.Words.{◌-◌, arith, slice_index, Option, Some, None, none-some, Kind, recursion_limit}
-use Rattle.jiter_steps.proofs.Words.{Scanned, taken, failed, Extent, ScalarWithin, FaultAt, start_of, Step, more}
+use Rattle.jiter_steps.proofs.Words.{Scanned, taken, failed, Span, ScalarWithin, FaultAt, start_of, Step, more}
 use Rattle.jiter_steps.proofs.Words.{closed, stuck, step, object_colon, Reading, done, fault, Rules, Container}
 use Rattle.jiter_steps.proofs.Words.{scalar_at, with_key, after_colon, after_key, if_forgiven, follow, after_part}
 use Rattle.jiter_steps.proofs.Words.{parts_at, container_at, array_of, object_of, unless_refused, value_with, inside_at}
-use Rattle.jiter_steps.proofs.Words.{value_at, Literal, Start}
-use Rattle.jiter_scan.specs.Kind.{expected_value}
+use Rattle.jiter_steps.proofs.Words.{value_at, Literal, Start, expected_value}
 use Rattle.jiter_steps.specs.declared.parse.ContainerKind.TheVariants as shape
 use Rattle.jiter_steps.specs.declared.parse.Start.TheVariants as start
-use Rattle.jiter_steps.proofs.Reading.Bounds.{Ahead, ExtentAhead, Within, either, fault-byte, container_first-ahead}
+use Rattle.jiter_steps.proofs.Reading.Bounds.{Ahead, SpanAhead, Within, either, fault-byte, container_first-ahead}
 use Rattle.jiter_steps.proofs.Reading.Bounds.{container_step-ahead, object_colon-ahead}
 
 -- scalars and keys end after their begin and within the text
@@ -32,7 +31,7 @@ pub record Goes {P A : Type 0} (c : Container P A) (t : List ℕ) : Type 0 where
   pub refuses : (parts : List P) (i j : ℕ) (k : Kind) → i < length t → c.refuses parts i ≡ Some (k, j)
       → (i < j) × FaultAt t k j
 
--- what stands at i after these parts: a part, unless it is refused
+-- what is at i after these parts: a part, unless it is refused
 abbrev pub part_after : {P A : Type 0} → Container P A → List P → ℕ → Reading P
 part_after c parts i = unless_refused (c.refuses parts i) (c.part i)
 
@@ -150,7 +149,7 @@ module _ {K A : Type 0} (r : Rules K A) (t : List ℕ) where
     parts-part i e parts p s h free v w = next_part-done i e parts p s h (part-free c parts i free ∙ v) w
 
   -- the value of a key, after what stands for its colon
-  after_colon-within : (i e : ℕ) (k : K) (inner : ℕ → Reading A) (x : Extent) → i < e → ExtentAhead t e 0 x
+  after_colon-within : (i e : ℕ) (k : K) (inner : ℕ → Reading A) (x : Span) → i < e → SpanAhead t e 0 x
       → AllWithin t inner → Within t i (after_colon k inner x)
   after_colon-within i e k inner (failed kind j) lt h all = (omega (arith, h.0), h.1.within, h.1)
   after_colon-within i e k inner (taken u j) lt h all = by (inner j) (all j (omega (arith, h.1))) where
@@ -160,7 +159,7 @@ module _ {K A : Type 0} (r : Rules K A) (t : List ℕ) where
 
   after_key-within : (i : ℕ) (inner : ℕ → Reading A) (x : Scanned K) → i < length t → ScalarWithin t i x
       → AllWithin t inner
-      → ((e : ℕ) → e ≤ length t → ExtentAhead t e 0 (object_colon t e)) → Within t i (after_key inner t i x)
+      → ((e : ℕ) → e ≤ length t → SpanAhead t e 0 (object_colon t e)) → Within t i (after_key inner t i x)
   after_key-within i inner (failed kind j) lt h all ended = (omega arith, omega arith, h.1)
   after_key-within i inner (taken k e) lt h all ended =
       after_colon-within i e k inner (object_colon t e) h.0 (ended e h.1) all
@@ -203,8 +202,7 @@ module _ {K A : Type 0} (r : Rules K A) (t : List ℕ) where
   inside_at-within good zero i h =
       (omega arith, omega arith, fault-byte t recursion_limit i (λ e. cc) refl (omega arith))
   inside_at-within good (suc levels) i h =
-      value_with-within good (λ j. inside_at r t levels j) (inside_at-within good levels) i
-      (start_of (slice_index t i)) h
+      value_with-within good (λ j. inside_at r t levels j) (inside_at-within good levels) i _ h
 
   pub value_at-within : Advances r t → (levels : ℕ) → AllWithin t (value_at r t levels)
   value_at-within good levels i h =

@@ -2,8 +2,7 @@
 use Rattle.jiter_steps.proofs.Words.{◌≡◌, ℕ, ◌<◌, ◌≤◌, List, length, refl, ap, ◌∙◌, arith, slice_get, Option, Some}
 use Rattle.jiter_steps.proofs.Words.{None, slice_get-get_or, slice_get_past, slice_get_within, Kind, eof_value}
 use Rattle.jiter_steps.proofs.Words.{get-none, past_blanks, nesting_limit, Reading, done, fault, Rules, value_at}
-use Rattle.jiter_steps.proofs.Words.{if_last, to_end, if_begun, prefix_answer, whole_answer}
-use Rattle.jiter_scan.specs.Kind.{trailing_characters}
+use Rattle.jiter_steps.proofs.Words.{if_last, to_end, if_begun, prefix_answer, whole_answer, trailing_characters}
 use Rattle.jiter_steps.proofs.Grammar.Blanks.{past_blanks-bound}
 use Rattle.jiter_steps.proofs.Reading.Bounds.{Within, fault-end, fault-byte}
 use Rattle.jiter_steps.proofs.Reading.Values.{Advances, value_at-within}
@@ -20,7 +19,7 @@ module _ {K A : Type 0} (r : Rules K A) (t : List ℕ) where
   unfolding prefix_answer
   prefix-begins i e h = ap (λ k. if_begun r t k (slice_get t k)) e ∙ ap (if_begun r t i) (slice_get-get_or t i 0 h)
 
-  -- With nothing but blanks after the value.
+  -- With nothing but whitespace after the value.
   pub whole-is : whole_answer r t ≡ to_end t (prefix_answer r t)
   unfolding whole_answer
   whole-is = refl
@@ -46,8 +45,7 @@ module _ {K A : Type 0} (r : Rules K A) (t : List ℕ) where
     if_begun-within i None le q =
         let past = get-none t i q in (omega arith, le, fault-end t eof_value i (λ m. cc) (omega (arith, past)))
     if_begun-within i (Some c) le q =
-        within-later 0 i (value_at r t nesting_limit i) (omega arith)
-        (value_at-within r t good nesting_limit i (slice_get_within t i c q))
+        within-later 0 i _ (omega arith) (value_at-within r t good nesting_limit i (slice_get_within t i c q))
 
     if_last-within : (a : A) (e j : ℕ) (o : Option ℕ) → 0 < e → e ≤ length t → j ≤ length t
         → Within t 0 (if_last a e j o)

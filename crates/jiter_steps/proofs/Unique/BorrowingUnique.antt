@@ -1,12 +1,12 @@
 -- With partial reading off: where a value is read without the rule on repeated keys, the reading with the rule gives
--- that value if no object of it has a key twice, and else the fault of a repeated key.
+-- that value if no object of it has a key twice, and else the error of a repeated key.
 use Rattle.jiter_steps.proofs.Words.{◌≡◌, ◌⊎◌, inl, inr, ℕ, zero, suc, ◌+◌, false, List, [], ◌∷◌, ◌++◌, length, refl}
 use Rattle.jiter_steps.proofs.Words.{sym, ap, ◌∙◌, subst, append-nil, append_assoc, Option, Some, None, Kind, if-false}
 use Rattle.jiter_steps.proofs.Words.{Reading, done, fault, Rules, Container, if_forgiven, unless_refused, follow}
 use Rattle.jiter_steps.proofs.Words.{after_part, parts_at, container_at, Step, more, closed, stuck, step}
 use Rattle.jiter_steps.proofs.Words.{without_repeats}
 use Rattle.jiter_steps.proofs.Reading.Values.{part_after}
-use Rattle.jiter_steps.proofs.Unique.Agreeing.{IsOfRepeat, IsRepeat, Agrees, RefusesRepeats}
+use Rattle.jiter_steps.proofs.Unique.Agreeing.{IsRepeat, Agrees, RefusesRepeats}
 
 module _ {A : Type 0} (Unique : A → Type 0) where
   -- the value y is unique where x is the same, and not where x has a repeated key
@@ -87,8 +87,7 @@ module _ {A : Type 0} (Unique : A → Type 0) where
 
       -- a value that is built on parts that are not unique
       bad-on : (ps : List P) → (AreGood ps → ⊥) → (y : Reading A) → BuiltOn ps y → Refutes y
-      bad-on ps bad (done a e) on =
-          λ unique. bad (laws.prefix ps on.0 (laws.built e (ps ++ on.0) (subst Unique on.1 unique)))
+      bad-on ps bad (done a e) on = λ unique. bad (laws.prefix ps on.0 (laws.built e (ps ++ on.0) (rw (← on.1) unique)))
       bad-on ps bad (fault k i stop) on = tt
 
       abbrev GoTells : Go → Go → Type 0
@@ -97,22 +96,15 @@ module _ {A : Type 0} (Unique : A → Type 0) where
       follow-tells : (f g : Go) → GoTells f g → (ps : List P) → AreGood ps → (s z : Step) → s ≡ z
           → Tells (follow u (f ps) (λ e. d.build e ps) s) (follow r (g ps) (λ e. c.build e ps) z)
       follow-tells f g all ps good s z is =
-          subst (λ s. Tells (follow u (f ps) (λ e. d.build e ps) s) (follow r (g ps) (λ e. c.build e ps) z)) (sym is)
-          (by z) where
+          rw is (by z) where
             by : (z : Step) → Tells (follow u (f ps) (λ e. d.build e ps) z) (follow r (g ps) (λ e. c.build e ps) z)
             by (more j) = all ps j good
             by (closed e) = (λ h. laws.build e ps good, λ h. absurd h)
-            by (stuck k j) =
-                strictly (Tells (if_forgiven r (λ e. d.build e ps) k j j)) (λ e. c.build e ps) k j j tt
-
-      -- a repeated key, in the part itself or of it
-      repeat-fault : (ps : List P) (k : Kind) (i stop : ℕ) → IsOfRepeat k
-          → IsRepeat (if_forgiven r (λ e. d.build e ps) k i stop)
-      repeat-fault ps k i stop is = strictly IsRepeat (λ e. d.build e ps) k i stop is
+            by (stuck k j) = strictly (Tells (if_forgiven r (λ e. d.build e ps) k j j)) (λ e. c.build e ps) k j j tt
 
       after-repeat : (f : Go) (ps : List P) (x : Reading P) → IsRepeat x → IsRepeat (after_part u d t f ps x)
       after-repeat f ps (done p e) is = absurd is
-      after-repeat f ps (fault k i stop) is = repeat-fault ps k i stop is
+      after-repeat f ps (fault k i stop) is = strictly IsRepeat (λ e. d.build e ps) k i stop is
 
       module _ (f g : Go) (all : GoTells f g) (on : AllOn g) (ps : List P) (good : AreGood ps) (i : ℕ) where
         abbrev With : Reading P → Reading A
@@ -128,20 +120,18 @@ module _ {A : Type 0} (Unique : A → Type 0) where
         part-tells : (p : P) (e : ℕ) → c.part i ≡ done p e → d.refuses ps i ≡ None → (x : Reading P) → d.part i ≡ x
             → (x ≡ done p e) ⊎ IsRepeat x → Tells (With x) (after_part r c t g ps (done p e))
         part-tells p e is free x reads (inl also) =
-            subst (λ x. Tells (With x) (after_part r c t g ps (done p e))) (sym also)
-            (follow-tells f g all (ps ++ p ∷ [])
+            rw also (follow-tells f g all (ps ++ p ∷ [])
             (laws.push ps p i e free is good (good-part i p e is (reads ∙ also))) (step t d.next e) (step t c.next e)
             (same e))
         part-tells p e is free x reads (inr repeat) =
             repeat-refutes p e x repeat
-            (λ all_good. bad-part i p e is (subst IsRepeat (sym reads) repeat) (laws.last ps p all_good))
+            (λ all_good. bad-part i p e is (rw reads repeat) (laws.last ps p all_good))
 
         after-tells : (o : Option (Kind × ℕ)) → d.refuses ps i ≡ o → RefusesRepeats o → (y : Reading P)
             → c.part i ≡ y → Tells (With (unless_refused o (d.part i))) (after_part r c t g ps y)
         after-tells o refuses repeat (fault k j stop) is =
             strictly (Tells (With (unless_refused o (d.part i)))) (λ e. c.build e ps) k j stop tt
-        after-tells None refuses repeat (done p e) is =
-            part-tells p e is refuses (d.part i) refl (subst (λ y. Agrees (d.part i) y) is (agrees i))
+        after-tells None refuses repeat (done p e) is = part-tells p e is refuses (d.part i) refl (rw (← is) (agrees i))
         after-tells (Some z) refuses repeat (done p e) is =
             repeat-refutes p e (fault z.0 z.1 z.1) repeat (laws.refused ps p i e z refuses is)
 
@@ -151,8 +141,7 @@ module _ {A : Type 0} (Unique : A → Type 0) where
       parts_at-tells (suc n) ps i good =
           let f = parts_at u d t n in
           let g = parts_at r c t n in
-          subst (λ o. Tells (after_part u d t f ps (part_after d ps i))
-          (after_part r c t g ps (unless_refused o (c.part i)))) (sym (plain ps i))
+          rw (plain ps i)
           (after-tells f g (parts_at-tells n) (parts_at-on n) ps good i (d.refuses ps i) refl (repeats ps i)
           (c.part i) refl)
 

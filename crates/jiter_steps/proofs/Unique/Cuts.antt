@@ -16,7 +16,7 @@ use Rattle.jiter_steps.proofs.Unique.Agreeing.{IsOfRepeat, IsRepeat, prefix_answ
 use Rattle.jiter_steps.proofs.Unique.Dead.{unique-dead}
 use Rattle.jiter_steps.proofs.Unique.Tracking.{Stops, Tracks, strict, partial, prefix_answer-tracks}
 
--- a repeated key is a fault of a byte, and not one of UTF-8
+-- a repeated key is an error of a byte, and not one of UTF-8
 late-repeat : (k : Kind) → IsOfRepeat k → (is_end_kind k ≡ false) × (k ≢ invalid_code_point)
 late-repeat (duplicate_key key) is = (refl, λ e. cc)
 late-repeat k is = absurd is
@@ -43,8 +43,7 @@ module _ (names : Bool) (t : List ℕ) (n : Node) (k : ℕ) (d : IsUniqueDocumen
   no-repeat kind i stop found repeat =
       let late = late-repeat kind repeat in
       let rest = rest-of (i + 1) in
-      unique-dead names u kind i stop found late.0 late.1 rest.0 n
-      (subst (λ l. IsUniqueDocument names l n) (sym rest.1) d)
+      unique-dead names u kind i stop found late.0 late.1 rest.0 n (rw rest.1 d)
 
   -- a prefix that holds the last bracket is a document
   prefix-document : end n ≤ k → IsDocument names u n
@@ -57,7 +56,7 @@ module _ (names : Bool) (t : List ℕ) (n : Node) (k : ℕ) (d : IsUniqueDocumen
     limit = d.document.limit;
   }
 
-  -- a fault of the prefix is one of the input's end
+  -- an error of the prefix is one of the input's end
   prefix-early : (kind : Kind) (i stop : ℕ) → unique_answer names u ≡ fault kind i stop → is_end_kind kind ≡ true
   prefix-early kind i stop found =
       elim (whole_answer-agrees own_bytes (whole_trees names) (λ ms v j. refl) (λ kind h. refl) u) [

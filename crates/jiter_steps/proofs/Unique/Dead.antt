@@ -1,13 +1,12 @@
--- Where a fault of a byte is answered, that of a repeated key too, no document with unique keys begins with the bytes
+-- Where an error of a byte is answered, that of a repeated key too, no document with unique keys begins with the bytes
 -- up to its index.
 use Rattle.jiter_steps.proofs.Words.{◌≡◌, ◌≢◌, ℕ, ◌+◌, ◌<◌, ◌≤◌, ◌==◌, Bool, false, List, ◌++◌, map, take, refl, sym}
 use Rattle.jiter_steps.proofs.Words.{ap, ◌∙◌, subst, arith, cond, slice_get, Option, Some, None, none-some}
-use Rattle.jiter_steps.proofs.Words.{slice_get_within, Kind, is_end_kind, invalid_code_point, extent_then, Scanned}
+use Rattle.jiter_steps.proofs.Words.{slice_get_within, Kind, is_end_kind, invalid_code_point, span_then, Scanned}
 use Rattle.jiter_steps.proofs.Words.{taken, failed, whole_trees, nothing_forgiven, past_blanks, Rules, fault, step}
 use Rattle.jiter_steps.proofs.Words.{colon, value_first, object_colon, whole, string_at, Text, Tree, is_among}
 use Rattle.jiter_steps.proofs.Words.{after_its_colon, repeated_key, without_repeats, own_bytes, unique_answer}
-use Rattle.std.proofs.lemmas.Option.{cond_some}
-use Rattle.jiter_steps.specs.Unique.{BeginsNoUniqueDocument}
+use Rattle.jiter_steps.proofs.Words.{cond_some, BeginsNoUniqueDocument}
 use Rattle.jiter_steps.proofs.Fault.Dead.{trees-keep, prefix-same}
 use Rattle.jiter_steps.proofs.Fault.SameReadings.{IsFault, KeepsScalars, ShownFault, whole_answer-stays}
 use Rattle.jiter_steps.proofs.Fault.SameRuns.{past_blanks-same}
@@ -37,10 +36,10 @@ module _ (t : List ℕ) (e j : ℕ) where
       record { byte = c; here = ap (slice_get t) at ∙ here; before = omega (arith, at, le) }
 
   byte-here : (p : ℕ) → past_blanks t e ≡ p → (o : Option ℕ) → slice_get t p ≡ o
-      → extent_then (colon p o) (step t value_first) ≡ taken tt j → ColonAt t e j
+      → span_then (colon p o) (step t value_first) ≡ taken tt j → ColonAt t e j
   byte-here p at None here is = absurd (cc)
   byte-here p at (Some c) here is =
-      either (λ x. extent_then x (step t value_first) ≡ taken tt j → ColonAt t e j) (c == 58) (taken tt (p + 1)) _
+      either (λ x. span_then x (step t value_first) ≡ taken tt j → ColonAt t e j) (c == 58) (taken tt (p + 1)) _
       (value-here c p at here (past_blanks t (p + 1)) (past_blanks-after t (p + 1))
       (slice_get t (past_blanks t (p + 1))))
       (λ is. absurd (cc)) is
@@ -56,7 +55,7 @@ module _ (t u : List ℕ) (m : ℕ) (same : SameBefore t u m) where
       let place = past_blanks-same t u m same e p c refl here lt in
       ap (λ j. colon j (slice_get u j)) place ∙ ap (colon p) (same p c lt here ∙ sym here)
 
-  -- a key and the byte after it that stand before m give the same in the other text
+  -- a key and the byte after it that are before m give the same in the other text
   key-too : (keys : List (List ℕ)) (i e c : ℕ) (k : Text) → string_at whole t i ≡ taken k e
       → slice_get t (past_blanks t e) ≡ Some c → past_blanks t e < m
       → (i < m) × (repeated_key own_bytes keys u (string_at whole u i)
@@ -112,16 +111,15 @@ module _ (t u : List ℕ) (m : ℕ) (same : SameBefore t u m) where
             other.1 ∙ sym (ap (repeated_key own_bytes keys t) key) ∙ free;
       }
 
--- Where a fault is answered that is neither one of the input's end nor one of UTF-8, no document with unique keys
--- begins with the bytes of the text up to and including the one at the fault's index.
+-- Where an error is answered that is neither one of the input's end nor one of UTF-8, no document with unique keys
+-- begins with the bytes of the text up to and including the one at the error's index.
 pub unique-dead : (names : Bool) (t : List ℕ) (k : Kind) (i stop : ℕ) → unique_answer names t ≡ fault k i stop
     → is_end_kind k ≡ false → k ≢ invalid_code_point → BeginsNoUniqueDocument names (take (i + 1) t)
 unique-dead names t k i stop is byte utf8 rest n d =
     let u = take (i + 1) t ++ rest in
     let same = prefix-same t (i + 1) rest in
-    let shown = subst (ShownFault (i + 1)) (sym is) (omega arith, (byte, utf8)) in
     subst IsFault (unique-complete names u n d)
     (whole_answer-stays t u (i + 1) same (rules names) (λ k. refl)
     (repeats-advance t own_bytes (whole_trees names) (trees-advances t nothing_forgiven whole names))
     (repeats-advance u own_bytes (whole_trees names) (trees-advances u nothing_forgiven whole names))
-    (keys-keep t u (i + 1) same names) shown)
+    (keys-keep t u (i + 1) same names) (subst (ShownFault (i + 1)) (sym is) (omega arith, (byte, utf8))))

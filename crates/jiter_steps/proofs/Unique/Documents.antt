@@ -9,8 +9,8 @@ use Rattle.jiter_steps.proofs.Words.{repeated_key, without_repeats, own_bytes, u
 use Rattle.jiter_steps.proofs.Grammar.Documents.{key_text, Fits, nodes-lead, answer-sound, prefix-complete}
 use Rattle.jiter_steps.proofs.Grammar.Documents.{answer-complete}
 use Rattle.jiter_steps.proofs.Grammar.NodeRules.{nodes, key_of}
-use Rattle.jiter_steps.proofs.Grammar.ScalarLaws.{scalar-laws}
-use Rattle.jiter_steps.proofs.Reading.Fused.{mapped, pairs, AllTold, Leads, whole_answer-mapped}
+use Rattle.jiter_steps.proofs.Grammar.StringLaws.{string_at-sound}
+use Rattle.jiter_steps.proofs.Reading.Fused.{mapped, pairs, AllTold, Leads, refuses-same, whole_answer-mapped}
 use Rattle.jiter_steps.proofs.Unique.Agreeing.{IsRepeat, Agrees, prefix_answer-agrees}
 use Rattle.jiter_steps.proofs.Unique.BorrowingUnique.{Tells}
 use Rattle.jiter_steps.proofs.Unique.Keys.{characters, all_characters}
@@ -74,7 +74,7 @@ module _ (names : Bool) (t : List ℕ) where
       → repeated_key characters (all_characters ms) t (seen_as (key_of t i) x)
       ≡ repeated_key own_bytes (all_characters ms) t x
   key-fault ms i quote (taken s e) is =
-      let same = ap (λ s. s.bytes) ((scalar-laws names t).string-sound i e s quote is).1 in
+      let same = ap (λ s. s.bytes) (string_at-sound t i e s quote is).1 in
       ap (λ k. if is_among k (all_characters ms) then after_its_colon k (step t colon e) else None) (sym same)
   key-fault ms i quote (failed k j) is = refl
 
@@ -95,16 +95,15 @@ module _ (names : Bool) (t : List ℕ) where
         text = plain.text;
         key = plain.key;
         refuses = λ ms i quote.
-            key-fault ms i quote (string_at whole t i) refl
-            ∙ ap (λ ks. repeated_key own_bytes ks t (string_at whole t i)) (keys-same ms);
+            refuses-same AllTold _ _
+            (key-fault ms i quote (string_at whole t i) refl
+            ∙ ap (λ ks. repeated_key own_bytes ks t (string_at whole t i)) (keys-same ms));
         array = plain.array;
         object = plain.object;
       }
 
   answer-mapped : mapped (value_of t) (whole_answer (strictest names t) t) ≡ unique_answer names t
-  answer-mapped =
-      whole_answer-mapped (strictest names t) (without_repeats own_bytes (whole_trees names)) (key_text t)
-      (value_of t) t strictest-leads
+  answer-mapped = whole_answer-mapped (strictest names t) _ (key_text t) (value_of t) t strictest-leads
 
   -- A document with unique keys is answered with its value.
   pub unique-complete : (n : Node) → IsUniqueDocument names t n → unique_answer names t ≡ done (value_of t n) (end n)

@@ -1,11 +1,7 @@
 -- Unique keys of a list of members: what one more member adds.
 use Rattle.jiter_steps.proofs.Words.{◌≡◌, ◌≢◌, Bool, true, false, ◌||◌, List, [], ◌∷◌, ◌++◌, ℕ, map, refl, sym, ◌∙◌}
 use Rattle.jiter_steps.proofs.Words.{true≢false, Key, Node, text_of, HasUniqueKeys, ItemsHaveUniqueKeys}
-use Rattle.jiter_steps.proofs.Words.{MembersHaveUniqueKeys, is_among}
-use Rattle.std.proofs.lemmas.Bool.{or_parts}
-use Rattle.std.proofs.lemmas.Slice.Eq.{bytes_eq-Decides}
-use Rattle.std.specs.Str.{bytes_eq}
-use Rattle.jiter_steps.specs.Unique.{HasNoKey}
+use Rattle.jiter_steps.proofs.Words.{MembersHaveUniqueKeys, is_among, or_parts, bytes_eq-Decides, bytes_eq, HasNoKey}
 use Rattle.jiter_steps.proofs.Grammar.NodeRules.{nodes_of, node_members_of}
 
 -- a key's characters

@@ -1,24 +1,21 @@
 -- Where a node is read with partial reading off, the reading that refuses repeated keys agrees exactly if no object of
 -- the node has two keys of the same characters.
-use Rattle.jiter_steps.proofs.Words.{◌≡◌, ℕ, zero, suc, Bool, true, false, List, refl, sym, ap, ◌∙◌, subst, slice_index}
-use Rattle.jiter_steps.proofs.Words.{Some, None, none-some, Kind, duplicate_key, if-false, if-true, Scanned, taken}
-use Rattle.jiter_steps.proofs.Words.{failed, Extent, extent_then, number_at, seen_as, whole, string_at, start_of}
-use Rattle.jiter_steps.proofs.Words.{literal_at, Key, Node, Reading, done, fault, Rules, scalar_at, with_key}
-use Rattle.jiter_steps.proofs.Words.{after_colon, after_key, array_of, object_of, value_with, inside_at, value_at, step}
-use Rattle.jiter_steps.proofs.Words.{colon, value_first, object_colon, HasUniqueKeys, ItemsHaveUniqueKeys}
-use Rattle.jiter_steps.proofs.Words.{MembersHaveUniqueKeys, is_among, after_its_colon, repeated_key, without_repeats}
-use Rattle.jiter_steps.proofs.Words.{Start}
-use Rattle.std.proofs.lemmas.Bool.{false_from_ne_true}
+use Rattle.jiter_steps.proofs.Words.{◌≡◌, ℕ, zero, suc, Bool, true, false, List, refl, sym, ap, ◌∙◌, subst, Some, None}
+use Rattle.jiter_steps.proofs.Words.{none-some, Kind, duplicate_key, if-false, if-true, Scanned, taken, failed, Span}
+use Rattle.jiter_steps.proofs.Words.{span_then, number_at, seen_as, whole, string_at, literal_at, Key, Node, Reading}
+use Rattle.jiter_steps.proofs.Words.{done, fault, Rules, scalar_at, with_key, after_colon, after_key, array_of}
+use Rattle.jiter_steps.proofs.Words.{object_of, value_with, inside_at, value_at, step, colon, value_first, object_colon}
+use Rattle.jiter_steps.proofs.Words.{HasUniqueKeys, ItemsHaveUniqueKeys, MembersHaveUniqueKeys, is_among}
+use Rattle.jiter_steps.proofs.Words.{after_its_colon, repeated_key, without_repeats, Start, false_from_ne_true}
 use Rattle.jiter_steps.specs.declared.parse.Start.TheVariants as start
 use Rattle.jiter_steps.proofs.Grammar.NodeRules.{nodes, nodes_of, node_members_of}
 use Rattle.jiter_steps.proofs.Reading.Fused.{mapped}
-use Rattle.jiter_steps.proofs.Unique.Agreeing.{IsRepeat, Agrees, key-repeats}
-use Rattle.jiter_steps.proofs.Unique.Agreeing.{inside_at-agrees, key-agrees}
+use Rattle.jiter_steps.proofs.Unique.Agreeing.{IsRepeat, Agrees, key-repeats, inside_at-agrees, key-agrees}
 use Rattle.jiter_steps.proofs.Unique.BorrowingUnique.{Tells, Distinguishes, container-tells}
 use Rattle.jiter_steps.proofs.Unique.Keys.{characters, all_characters, items-prefix, items-last, items-push}
 use Rattle.jiter_steps.proofs.Unique.Keys.{members-prefix, members-last, members-push, members-clash}
 
--- a member that was read: its key is refused exactly where it stands already
+-- a member that was read: its key is refused exactly where it is already
 record KeyRead (keys : List (List ℕ)) (t : List ℕ) (x : Scanned Key) (p : Key × Node) : Type 0 where
   refused : is_among (characters p.0) keys ≡ true → (f : Kind × ℕ) × (repeated_key characters keys t x ≡ Some f)
   free : is_among (characters p.0) keys ≡ false → repeated_key characters keys t x ≡ None
@@ -28,25 +25,23 @@ module _ (t : List ℕ) (keys : List (List ℕ)) (g : ℕ → Reading Node) (p :
   keyed-is k (done a d) is = cc
   keyed-is k (fault kind j stop) is = absurd (cc)
 
-  value-is : (k : Key) (x : Extent) → after_colon k g x ≡ done p e → p.0 ≡ k
+  value-is : (k : Key) (x : Span) → after_colon k g x ≡ done p e → p.0 ≡ k
   value-is k (taken u j) is = keyed-is k (g j) is
   value-is k (failed kind j) is = absurd (cc)
 
-  colon-read : (k : Key) (d : ℕ) (x : Extent) → step t colon d ≡ x
-      → after_colon k g (extent_then x (step t value_first)) ≡ done p e → KeyRead keys t (taken k d) p
+  colon-read : (k : Key) (d : ℕ) (x : Span) → step t colon d ≡ x
+      → after_colon k g (span_then x (step t value_first)) ≡ done p e → KeyRead keys t (taken k d) p
   colon-read k d (failed kind j) at is = absurd (cc)
   colon-read k d (taken u j) at is =
       let same = value-is k (step t value_first j) is in
       record {
         refused = λ old. (
           (duplicate_key (characters k), j),
-          if-true (is_among (characters k) keys) (after_its_colon (characters k) (step t colon d)) None
-              (subst (λ k. is_among (characters k) keys ≡ true) same old)
+          if-true (is_among (characters k) keys) _ None (subst (λ k. is_among (characters k) keys ≡ true) same old)
               ∙ ap (after_its_colon (characters k)) at,
         );
         free = λ new.
-            if-false (is_among (characters k) keys) (after_its_colon (characters k) (step t colon d)) None
-            (subst (λ k. is_among (characters k) keys ≡ false) same new);
+            if-false (is_among (characters k) keys) _ None (subst (λ k. is_among (characters k) keys ≡ false) same new);
       }
 
   key-read : (i : ℕ) (x : Scanned Key) → after_key g t i x ≡ done p e → KeyRead keys t x p
@@ -98,7 +93,7 @@ module _ (names : Bool) (t : List ℕ) where
       keyed-tells k x (done a e) h = (λ is. h.0 (unkeyed k x a e is), λ is. h.1 (repeat-unkeyed k x is))
       keyed-tells k x (fault kind j stop) h = tt
 
-      colon-tells : (k : Key) (x : Extent) → TellsMember (after_colon k f x) (after_colon k g x)
+      colon-tells : (k : Key) (x : Span) → TellsMember (after_colon k f x) (after_colon k g x)
       colon-tells k (taken u j) = keyed-tells k (f j) (g j) (tells j)
       colon-tells k (failed kind j) = tt
 
@@ -128,10 +123,9 @@ module _ (names : Bool) (t : List ℕ) where
         prefix = members-prefix;
         last = members-last;
         refused = λ ms m j e z refuses is good.
-            let read = key-read t (all_characters ms) g m e j (plain.key t j) is in
             let new =
             false_from_ne_true (is_among (characters m.0) (all_characters ms)) (λ old. members-clash ms m old good) in
-            none-some z (sym (read.free new) ∙ refuses);
+            none-some z (sym ((key-read t (all_characters ms) g m e j (plain.key t j) is).free new) ∙ refuses);
         build = λ e ms good. good;
         built = λ e ms good. good;
       }
@@ -148,14 +142,11 @@ module _ (names : Bool) (t : List ℕ) where
           HasUniqueKeys (λ ns. ItemsHaveUniqueKeys (nodes_of ns)) (λ j. refl) (λ j. refl) (λ e ps. refl) (λ ps j. refl)
           (λ ps j. tt) agrees good-value bad-value (items-distinguish i) i
       value_with-tells i start.Object =
-          container-tells HasUniqueKeys characters plain (λ k. refl) t (object_of plain g t i)
-          (object_of strictest f t i)
+          container-tells HasUniqueKeys characters plain (λ k. refl) t (object_of plain g t i) _
           (λ m. HasUniqueKeys m.1) (λ ms. MembersHaveUniqueKeys (node_members_of ms)) (λ j. refl) (λ j. refl)
-          (λ e ps. refl)
-          (λ ps j. refl) (λ ps j. key-repeats characters (all_characters ps) t (plain.key t j))
+          (λ e ps. refl) (λ ps j. refl) (λ ps j. key-repeats characters (all_characters ps) t (plain.key t j))
           (λ j. key-agrees characters plain (λ ms u j. refl) (λ k h. refl) t f g agrees j (plain.key t j)) good-member
-          bad-member
-          (members-distinguish i) i
+          bad-member (members-distinguish i) i
       value_with-tells i start.String = scalar-tells i _ (string_at whole t i) (λ s e. tt)
       value_with-tells i start.Number = scalar-tells i _ (number_at names t i) (λ n e. tt)
       value_with-tells i (start.Literal l) = scalar-tells i _ (literal_at t l i) (λ u e. tt)
@@ -168,11 +159,9 @@ module _ (names : Bool) (t : List ℕ) where
   unfolding inside_at
   inside_at-tells zero i = tt
   inside_at-tells (suc levels) i =
-      value_with-tells (inside_at strictest t levels) (inside_at plain t levels) (same-rules levels)
-      (inside_at-tells levels) i (start_of (slice_index t i))
+      value_with-tells _ (inside_at plain t levels) (same-rules levels) (inside_at-tells levels) i _
 
   -- A value that is read is unique where the other reading agrees, and not where that has a repeated key.
   pub value_at-tells : (levels i : ℕ) → TellsOf (value_at strictest t levels i) (value_at plain t levels i)
   value_at-tells levels i =
-      value_with-tells (inside_at strictest t levels) (inside_at plain t levels) (same-rules levels)
-      (inside_at-tells levels) i (start_of (slice_index t i))
+      value_with-tells _ (inside_at plain t levels) (same-rules levels) (inside_at-tells levels) i _

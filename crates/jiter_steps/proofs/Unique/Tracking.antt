@@ -5,7 +5,7 @@ use Rattle.jiter_steps.proofs.Words.{◌++◌, length, IfSome, refl, sym, ap, �
 use Rattle.jiter_steps.proofs.Words.{Option, Some, None, if◌then◌else◌, utf8_valid_len, utf8_error_len, drop}
 use Rattle.jiter_steps.proofs.Words.{false≢true, slice_get_past, slice_get_within, slice_get-get_or, Kind, is_end_kind}
 use Rattle.jiter_steps.proofs.Words.{is_forgiven, duplicate_key, invalid_code_point, number_at, allows_trailing_strings}
-use Rattle.jiter_steps.proofs.Words.{Scanned, taken, failed, Extent, PartialMode, ScalarWithin, if-true, seen_as}
+use Rattle.jiter_steps.proofs.Words.{Scanned, taken, failed, Span, PartialMode, ScalarWithin, if-true, seen_as}
 use Rattle.jiter_steps.proofs.Words.{whole_trees, partial_trees, nothing_forgiven, past_blanks, start_of, literal_at}
 use Rattle.jiter_steps.proofs.Words.{nesting_limit, Reading, done, fault, Rules, Container, scalar_at, with_key}
 use Rattle.jiter_steps.proofs.Words.{after_colon, after_key, if_forgiven, unless_refused, follow, after_part, parts_at}
@@ -18,10 +18,10 @@ use Rattle.jiter_steps.specs.Tree as tree
 use Rattle.jiter_steps.specs.declared.parse.ContainerKind.TheVariants as shape
 use Rattle.jiter_steps.specs.declared.parse.Start.TheVariants as start
 use Rattle.jiter_steps.proofs.Cut.Halting.{Halts, StuckAt, byte-halts, container-halts}
-use Rattle.jiter_steps.proofs.Reading.Bounds.{Ahead, ExtentAhead, Within, either, container_first-ahead}
+use Rattle.jiter_steps.proofs.Reading.Bounds.{Ahead, SpanAhead, Within, either, container_first-ahead}
 use Rattle.jiter_steps.proofs.Reading.Bounds.{container_step-ahead, object_colon-ahead}
-use Rattle.jiter_steps.proofs.Reading.FirstBytes.{begins-within, GoesTo, BeginsAt, key-quote}
-use Rattle.jiter_steps.proofs.Reading.FirstBytes.{container_first-begins, container_step-begins}
+use Rattle.jiter_steps.proofs.Reading.FirstBytes.{begins-within, GoesTo, BeginsAt, key-quote, container_first-begins}
+use Rattle.jiter_steps.proofs.Reading.FirstBytes.{container_step-begins}
 use Rattle.jiter_steps.proofs.Reading.Instances.{trees-advances}
 use Rattle.jiter_steps.proofs.Reading.StringForms.{content-kept}
 use Rattle.jiter_steps.proofs.Reading.Values.{Advances, part_after, object_of-goes, inside_at-within}
@@ -34,7 +34,7 @@ end-no_repeat (duplicate_key key) early is = false≢true early
 end-no_repeat k early is = absurd is
 
 module _ (t : List ℕ) where
-  -- no container takes a byte where the reading stands then, and it met no repeated key
+  -- no container takes a byte where the reading is then, and it met no repeated key
   abbrev pub Stops : {A : Type 0} → Reading A → Type 0
   Stops (done a e) = Halts t e
   Stops (fault k i stop) = Halts t stop × (IsOfRepeat k → ⊥)
@@ -45,9 +45,7 @@ module _ (t : List ℕ) where
   Tracks x (fault k i stop) = is_end_kind k ≡ true → Stops x
 
   length-halts : (j : ℕ) → j ≡ length t → Halts t j
-  length-halts j at =
-      let past = slice_get_past t j (omega (arith, at)) in
-      subst (λ o. IfSome o (λ c. start_of c ≢ start.Nothing)) (sym past) tt
+  length-halts j at = rw (slice_get_past t j (omega (arith, at))) tt
 
 module _ (names : Bool) (mode : PartialMode) (t : List ℕ) where
   abbrev pub strict : Rules Text Tree
@@ -82,8 +80,7 @@ module _ (names : Bool) (mode : PartialMode) (t : List ℕ) where
         → s ≡ z → GoesTo Begins z → Ahead t i z
         → Tracks t (follow partial (f ps) (λ e. d.build e ps) s) (follow strict (g ps) (λ e. c.build e ps) z)
     follow-tracks n f g all ps i enough s z is begins ahead =
-        subst (λ s. Tracks t (follow partial (f ps) (λ e. d.build e ps) s) (follow strict (g ps) (λ e. c.build e ps) z))
-        (sym is) (by z begins ahead) where
+        rw is (by z begins ahead) where
           by : (z : Step) → GoesTo Begins z → Ahead t i z
               → Tracks t (follow partial (f ps) (λ e. d.build e ps) z) (follow strict (g ps) (λ e. c.build e ps) z)
           by (more j) begins ahead = all ps j begins (omega (arith, ahead.0))
@@ -95,8 +92,7 @@ module _ (names : Bool) (mode : PartialMode) (t : List ℕ) where
         → Stops t (follow partial (f ps) (λ e. d.build e ps) (step t d.next q))
     halted f ps q here =
         let stuck_here = halts q here in
-        subst (λ s. Stops t (follow partial (f ps) (λ e. d.build e ps) s)) (sym (next q ∙ stuck_here.1))
-        (subst (Stops t) (sym (if-true (is_forgiven stuck_here.0) _ _ stuck_here.2)) here)
+        rw (next q ∙ stuck_here.1) (rw (if-true (is_forgiven stuck_here.0) _ _ stuck_here.2) here)
 
     after-stops : (f : Go) (ps : List P) (x : Reading P) → Stops t x → Stops t (after_part partial d t f ps x)
     after-stops f ps (done q e) here = halted f (ps ++ q ∷ []) e here
@@ -116,9 +112,7 @@ module _ (names : Bool) (mode : PartialMode) (t : List ℕ) where
         → Tracks t (after_part partial d t f ps (part_after d ps i))
         (after_part strict c t g ps (part_after c ps i))
     part_after-tracks n f g all ps i enough begins =
-        subst (λ o. Tracks t (after_part partial d t f ps (unless_refused o (d.part i)))
-        (after_part strict c t g ps (part_after c ps i))) (sym (refuses ps i))
-        (by (c.refuses ps i) (repeats ps i)) where
+        rw (refuses ps i) (by (c.refuses ps i) (repeats ps i)) where
           by : (o : Option (Kind × ℕ)) → RefusesRepeats o
               → Tracks t (after_part partial d t f ps (unless_refused o (d.part i)))
               (after_part strict c t g ps (unless_refused o (c.part i)))
@@ -148,7 +142,7 @@ module _ (names : Bool) (mode : PartialMode) (t : List ℕ) where
     keyed-tracks k x (done a e) h = ap (with_key k) h
     keyed-tracks k x (fault kind j stop) h = λ early. keyed-stops k x (h early)
 
-    colon-tracks : (k : Text) (e : ℕ) (x : Extent) → ExtentAhead t e 0 x
+    colon-tracks : (k : Text) (e : ℕ) (x : Span) → SpanAhead t e 0 x
         → Tracks t (after_colon k f x) (after_colon k g x)
     colon-tracks k e (taken w j) ahead = keyed-tracks k (f j) (g j) (all j (omega (arith, ahead.1)))
     colon-tracks k e (failed kind j) ahead = λ early.

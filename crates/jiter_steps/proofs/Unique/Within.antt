@@ -1,4 +1,4 @@
--- Rules that refuse repeated keys: a repeated key's fault stands after the key and within the text, so that readings
+-- Rules that refuse repeated keys: a repeated key's error is after the key and within the text, so that readings
 -- do.
 use Rattle.jiter_steps.proofs.Words.{◌≡◌, ℕ, ◌+◌, ◌<◌, ◌≤◌, Bool, List, map, arith, refl, subst, ◌==◌, Option, Some}
 use Rattle.jiter_steps.proofs.Words.{None, slice_get, slice_get_within, Kind, duplicate_key, Scanned, taken, failed}
@@ -12,7 +12,7 @@ use Rattle.jiter_steps.proofs.Reading.Values.{Advances}
 use Rattle.jiter_steps.proofs.Reading.WholeTexts.{prefix_answer-within, whole_answer-within}
 
 module _ (t : List ℕ) where
-  -- a fault at j, after i
+  -- an error at j, after i
   abbrev After : ℕ → Option (Kind × ℕ) → Type 0
   After i None = Unit {0}
   After i (Some f) = (i < f.1) × FaultAt t f.0 f.1

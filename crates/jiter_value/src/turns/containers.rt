@@ -2,20 +2,20 @@
 ghost use Rattle.std.specs.Prelude.{◌≡◌, ◌≢◌, ℕ, ◌+◌, ◌≤◌, ◌<◌, List, IfOk, IfSome, None, OnOk, length};
 ghost use Rattle.std.specs.Prelude.{slice_index, true, false};
 ghost use Rattle.jiter_value.specs.Words.{fault_kind, start_of, nesting_limit, step_of, done, WhereRefused};
-ghost use Rattle.jiter_value.specs.Words.{step, more, container_first, opening, Keeping, forgives};
+ghost use Rattle.jiter_value.specs.Words.{step, more, container_first, opening, TextPolicy, forgives};
 ghost use Rattle.jiter_value.specs.Words.{value_size, inside_size, after_size, resume_with, from_value};
 ghost use Rattle.jiter_value.specs.Words.{after, container_ends, container_fault, Stands, StandsInside};
 ghost use Rattle.jiter_value.specs.Words.{slot_in, base_of, part_of, empty_tree, HasRoom, LeavesKeys};
-ghost use Rattle.jiter_value.specs.Words.{Follows, IsAtValue, IsReady, Proceeds, IsResolved, Turned, left};
+ghost use Rattle.jiter_value.specs.Words.{Follows, IsAtValue, IsReady, Proceeds, IsResolved, Turned, work_left};
 ghost use Rattle.jiter_value.specs.Words.{outcome, MayGrowAt, SettingsView};
 ghost use Rattle.jiter_steps.specs.declared.read_error.ReadError.TheVariants as error;
 
 use crate::settings::{Settings, forgives};
 use crate::stacks::{
-    Open, Slot, Stacks, State, close, has_room, no_memory, object_of, put_reserved, reserve_part,
-    too_deep,
+    OpenContainer, Slot, Stacks, State, close, has_room, no_memory, object_of, put_reserved,
+    reserve_part, too_deep,
 };
-use crate::texts::StringStorage;
+use crate::string_storage::StringStorage;
 use crate::turns::Reading;
 use crate::value::JsonValue;
 use jiter_scan::errors::{FaultKind, fault_at};
@@ -110,8 +110,8 @@ fn after_last<'s, T: StringStorage<'s>>(
     requires stands { Stands reading.old.stacks slot }
     requires levels { length reading.old.stacks.nest.items ≤ nesting_limit }
     requires within { from ≤ length bytes.now }
-    ensures { Follows T.made bytes.now from (left bytes.now reading.old.stacks from + 1)
-        (after_size reading.old.stacks slot) (after T.made reading.old.settings bytes.now reading.old.stacks slot from)
+    ensures { Follows T.policy bytes.now from (work_left bytes.now reading.old.stacks from + 1)
+        (after_size reading.old.stacks slot) (after T.policy reading.old.settings bytes.now reading.old.stacks slot from)
         slot reading.old reading.new result }
 {
     let mut at = from;
@@ -150,8 +150,8 @@ pub fn after_value<'s, T: StringStorage<'s>>(
     requires stands { Stands reading.old.stacks slot }
     requires levels { length reading.old.stacks.nest.items ≤ nesting_limit }
     requires within { from ≤ length bytes.now }
-    ensures { Follows T.made bytes.now from (left bytes.now reading.old.stacks from + 1)
-        (after_size reading.old.stacks slot) (after T.made reading.old.settings bytes.now reading.old.stacks slot from)
+    ensures { Follows T.policy bytes.now from (work_left bytes.now reading.old.stacks from + 1)
+        (after_size reading.old.stacks slot) (after T.policy reading.old.settings bytes.now reading.old.stacks slot from)
         slot reading.old reading.new result }
 {
     match kind_of_container(slot) {
@@ -178,8 +178,8 @@ pub fn close_and_go_on<'s, T: StringStorage<'s>>(
     requires stands { StandsInside shape reading.old.stacks }
     requires levels { length reading.old.stacks.nest.items ≤ nesting_limit + 1 }
     requires within { at ≤ length bytes.now }
-    ensures leads { Proceeds T.made reading.old.settings bytes.now at (left bytes.now reading.old.stacks at)
-        (inside_size shape reading.old.stacks) (container_ends T.made reading.old.settings bytes.now shape reading.old.stacks at)
+    ensures leads { Proceeds T.policy reading.old.settings bytes.now at (work_left bytes.now reading.old.stacks at)
+        (inside_size shape reading.old.stacks) (container_ends T.policy reading.old.settings bytes.now shape reading.old.stacks at)
         reading.new.stacks result }
     ensures keys { OnOk (outcome reading.new.stacks result.1)
         (LeavesKeys reading.old.stacks.members.items reading.new.stacks.members.items) }
@@ -206,8 +206,8 @@ pub fn fault_inside<'s, T: StringStorage<'s>>(
     requires stands { StandsInside shape reading.old.stacks }
     requires levels { length reading.old.stacks.nest.items ≤ nesting_limit + 1 }
     requires within { at ≤ length bytes.now }
-    ensures leads { Proceeds T.made reading.old.settings bytes.now at (left bytes.now reading.old.stacks at)
-        (inside_size shape reading.old.stacks) (container_fault T.made reading.old.settings bytes.now shape
+    ensures leads { Proceeds T.policy reading.old.settings bytes.now at (work_left bytes.now reading.old.stacks at)
+        (inside_size shape reading.old.stacks) (container_fault T.policy reading.old.settings bytes.now shape
         reading.old.stacks (fault_kind kind) index at)
         reading.new.stacks result }
     ensures keys { OnOk (outcome reading.new.stacks result.1)
@@ -224,8 +224,8 @@ pub fn fault_inside<'s, T: StringStorage<'s>>(
 fn put_empty(alloc: Global, stacks: &mut Stacks<'_>, slot: Slot, shape: ContainerKind)
     requires stands { Stands stacks.old slot }
     requires room { HasRoom stacks.old slot }
-    ensures value { (made : Keeping) → (p : SettingsView) → (t : List ℕ) → (e : ℕ)
-        → resume_with made p t stacks.old slot (done (empty_tree shape) e) ≡ after made p t stacks.new slot e }
+    ensures value { (policy : TextPolicy) → (p : SettingsView) → (t : List ℕ) → (e : ℕ)
+        → resume_with policy p t stacks.old slot (done (empty_tree shape) e) ≡ after policy p t stacks.new slot e }
     ensures stands { Stands stacks.new slot }
     ensures nest { stacks.new.nest ≡ stacks.old.nest }
     ensures held { after_size stacks.new slot ≡ value_size stacks.old slot + 1 }
@@ -250,8 +250,8 @@ fn empty<'s, T: StringStorage<'s>>(
     requires room { HasRoom reading.old.stacks slot }
     requires levels { length reading.old.stacks.nest.items ≤ nesting_limit }
     requires within { end ≤ length bytes.now }
-    ensures { Follows T.made bytes.now end (left bytes.now reading.old.stacks end + 1)
-        (value_size reading.old.stacks slot + 1) (resume_with T.made reading.old.settings bytes.now reading.old.stacks slot
+    ensures { Follows T.policy bytes.now end (work_left bytes.now reading.old.stacks end + 1)
+        (value_size reading.old.stacks slot + 1) (resume_with T.policy reading.old.settings bytes.now reading.old.stacks slot
         (done (empty_tree shape) end))
         slot reading.old reading.new result }
 {
@@ -274,7 +274,7 @@ fn open<'s, T: StringStorage<'s>>(
     requires within { (at < next) × (next < length bytes.now) }
     requires bracket { start_of (slice_index bytes.now at) ≡ opening shape }
     requires part { step bytes.now (container_first shape) (at + 1) ≡ more next }
-    ensures { Turned T.made T.wants bytes.now at slot reading.old reading.new result }
+    ensures { Turned T.policy T.wants bytes.now at slot reading.old reading.new result }
 {
     let base = match shape {
         // An object's limit is tested after its first key and colon.
@@ -284,7 +284,7 @@ fn open<'s, T: StringStorage<'s>>(
         ContainerKind::Array => reading.stacks.items.len(),
         ContainerKind::Object => reading.stacks.members.len(),
     };
-    let container = Open { outer: slot, base };
+    let container = OpenContainer { outer: slot, base };
     match push_small(&mut reading.stacks.nest, container) {
         Ok(()) => to_part(&mut reading.stacks, next, shape),
         Err(refused) => no_memory(&mut reading.stacks, refused, next),
@@ -302,7 +302,7 @@ pub fn begin<'s, T: StringStorage<'s>>(
 ) -> (usize, State)
     requires at_value { IsAtValue bytes.now reading.old.stacks slot at }
     requires bracket { start_of (slice_index bytes.now at) ≡ opening shape }
-    ensures { Turned T.made T.wants bytes.now at slot reading.old reading.new result }
+    ensures { Turned T.policy T.wants bytes.now at slot reading.old reading.new result }
 {
     let (end, step) = first(bytes, at + 1, shape);
     match step {

@@ -28,7 +28,7 @@ pub struct DuplicateKeyIndex<'s> {
 
 /// The position of a key among the slots.
 #[derive(Clone, Copy)]
-pub struct Place {
+pub struct BucketSlot {
     /// The first slot of its bucket.
     pub bucket: usize,
     /// The first free slot of the bucket, or the bucket's end.
@@ -36,16 +36,16 @@ pub struct Place {
 }
 
 // The number of slots of a bucket.
-const WIDTH: usize = 8;
+const BUCKET_SLOTS: usize = 8;
 
 // The number of slots of a new set.
-const FIRST: usize = 128;
+const NEW_SET_SLOTS: usize = 128;
 
-// A key's mark is made of at most this many of its last bytes.
-const MARKED: usize = 32;
+// A key's hash is made of at most this many of its last bytes.
+const HASHED_BYTES: usize = 32;
 
 // An odd number whose bits look random.
-const ODD: u64 = 0x9e37_79b9_7f4a_7c15;
+const HASH_MULTIPLIER: u64 = 0x9e37_79b9_7f4a_7c15;
 
 /// Drops the sets of closed objects: these end after the last member that is left.
 #[inline(always)]
@@ -74,17 +74,18 @@ fn no_members(alloc: Global, count: usize) -> Result<Vec<usize>, AllocFailed>
     }
 }
 
-// A hash of the key's last bytes, which chooses its bucket. It has no secret: an attacker can put all keys into one
-// bucket, but `rest` stays fast.
+// A hash of the key's last bytes, which chooses its bucket. With all keys in one bucket, `rest` is still fast.
 fn hash_of(key: &str) -> u64
     ensures { result ≡ hash_of key.now }
 {
     let bytes = key.as_bytes();
-    let mut mark: u64 = 0;
-    for i in bytes.len().saturating_sub(MARKED)..bytes.len() {
-        mark = mark.wrapping_add(bytes[i] as u64).wrapping_mul(ODD);
+    let mut hash: u64 = 0;
+    for i in bytes.len().saturating_sub(HASHED_BYTES)..bytes.len() {
+        hash = hash
+            .wrapping_add(bytes[i] as u64)
+            .wrapping_mul(HASH_MULTIPLIER);
     }
-    mark
+    hash
 }
 
 // The index of the bucket's first slot, not the bucket's number.
@@ -94,21 +95,21 @@ fn bucket_of(key: &str, count: usize) -> usize
     ensures within { result + 8 ≤ count }
 {
     let high = (hash_of(key) / 0x1_0000_0000) as usize;
-    high % (count / WIDTH) * WIDTH
+    high % (count / BUCKET_SLOTS) * BUCKET_SLOTS
 }
 
-fn place_of(slots: &Vec<usize>, key: &str) -> Place
+fn place_of(slots: &Vec<usize>, key: &str) -> BucketSlot
     requires { 8 ≤ vec_len slots.now }
     ensures { IsPlaceOf slots.now.items key.now result }
 {
     let bucket = bucket_of(key, slots.len());
-    let end = bucket + WIDTH;
+    let end = bucket + BUCKET_SLOTS;
     for at in bucket..end {
         if slots[at] == 0 {
-            return Place { bucket, at };
+            return BucketSlot { bucket, at };
         }
     }
-    Place { bucket, at: end }
+    BucketSlot { bucket, at: end }
 }
 
 // `number` is what a slot holds: the index of a member plus 1, or 0.
@@ -126,7 +127,7 @@ fn is_key_of(members: &Vec<(CowStr<'_>, JsonValue<'_>)>, number: usize, key: &st
 fn is_named(
     members: &Vec<(CowStr<'_>, JsonValue<'_>)>,
     slots: &Vec<usize>,
-    place: Place,
+    place: BucketSlot,
     key: &str,
 ) -> bool
     requires { place.at ≤ vec_len slots.now }
@@ -145,7 +146,7 @@ fn is_named(
 fn put<'s>(
     alloc: Global,
     set: &mut DuplicateKeyIndex<'s>,
-    place: Place,
+    place: BucketSlot,
     key: &CowStr<'s>,
 ) -> Result<bool, AllocFailed>
     requires end { set.old.end < 2 ^ 63 }
@@ -155,7 +156,7 @@ fn put<'s>(
     ensures new { IfOk result (λ new. new ≡ true → place.at ≡ place.bucket + 8
         → has_text set.old.rest (text_view key.now).bytes ≡ false) }
 {
-    if place.at < place.bucket + WIDTH {
+    if place.at < place.bucket + BUCKET_SLOTS {
         set.end += 1;
         set.slots[place.at] = set.end;
         return Ok(true);
@@ -206,7 +207,7 @@ fn index_new_members<'s>(
     Ok(())
 }
 
-// Adds the key that is read next. `true` means that it is new; after `false` the caller looks again.
+// Adds the key that is read next. `true` means that it is new, but `false` is not proved to mean that it isn't.
 fn add_key<'s>(
     alloc: Global,
     set: &mut DuplicateKeyIndex<'s>,
@@ -228,8 +229,9 @@ fn add_key<'s>(
     put(alloc, set, place, key)
 }
 
-/// Adds the key that is read next to the set of the object whose members begin at `base`. That is the last set, or a
-/// new one. `true` means that the key is new; after `false` the caller looks again.
+/// Adds the key that is read next to the set of the object whose members begin at `base`: the last set, or a new one.
+/// `true` means that the key is new. After `false` the caller compares it with each key, since the set isn't proved to
+/// hold only keys of the object. Fails if an allocation fails.
 pub fn is_new_key<'s>(
     alloc: Global,
     sets: &mut Vec<DuplicateKeyIndex<'s>>,
@@ -251,7 +253,7 @@ pub fn is_new_key<'s>(
     let mut set = DuplicateKeyIndex {
         base,
         end: base,
-        slots: no_members(alloc, FIRST)?,
+        slots: no_members(alloc, NEW_SET_SLOTS)?,
         rest: BTreeSet::new(alloc),
     };
     let new = add_key(alloc, &mut set, members, key)?;

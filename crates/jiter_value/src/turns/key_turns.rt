@@ -6,9 +6,9 @@ ghost use Rattle.jiter_value.specs.Words.{StandsAtKey, HasRoomIn, HaveKeys, IsLe
 ghost use Rattle.jiter_value.specs.Words.{IsKeyRead, Int, IsLook, scan_stop};
 
 use crate::stacks::{Stacks, State, no_memory, too_deep};
-use crate::texts::StringStorage;
+use crate::string_storage::StringStorage;
 use crate::turns::containers::fault_inside;
-use crate::turns::{Keys, Reading};
+use crate::turns::{KeyPolicy, Reading};
 use crate::value::JsonValue;
 use jiter_scan::short_scan::{Look, look_at};
 use jiter_scan::text::utf8_text;
@@ -18,8 +18,7 @@ use jiter_steps::step::{colon, value_first};
 use jiter_steps::string_decoder::string_from;
 use std::borrow::CowStr;
 
-// Pushes a key, whose stack has room, with the integer 0 as a placeholder for its value. All bytes of the placeholder
-// are written at once.
+// Pushes a key on a stack with capacity. Its value is the placeholder 0, of which all bytes are written at once.
 #[inline(always)]
 fn put_key<'s>(members: &mut Vec<(CowStr<'s>, JsonValue<'s>)>, key: CowStr<'s>)
     requires { vec_len members.old < vec_capacity members.old }
@@ -51,7 +50,7 @@ fn is_too_deep(stacks: &Stacks<'_>) -> bool
 
 // Goes on with the key at `at`, which ends before `end` and whose colon ends before `after`, if `keys` allows it.
 #[inline(always)]
-fn kept_key<'s, T: StringStorage<'s>, K: Keys<'s>>(
+fn kept_key<'s, T: StringStorage<'s>, K: KeyPolicy<'s>>(
     reading: &mut Reading<'s>,
     keys: &mut K,
     bytes: &[u8],
@@ -60,17 +59,17 @@ fn kept_key<'s, T: StringStorage<'s>, K: Keys<'s>>(
     after: usize,
     key: CowStr<'s>,
 ) -> (usize, State)
-    requires serves { K.serves keys.old T.made }
+    requires serves { K.serves keys.old T.policy }
     requires going { K.stopped keys.old ≡ false }
     requires known { (ks : List (List ℕ)) × K.knows keys.old ks × HaveKeys ks reading.old.stacks.members.items }
     requires stands { StandsAtKey reading.old.stacks }
     requires room { HasRoomIn ContainerKind.Object reading.old.stacks }
     requires levels { length reading.old.stacks.nest.items ≤ nesting_limit + 1 }
-    requires read { IsKeyRead T.made bytes.now at end after (text_view key) }
+    requires read { IsKeyRead T.policy bytes.now at end after (text_view key) }
     requires within { (end ≤ after) × (after ≤ length bytes.now) }
-    ensures turned { HasTakenKey T.made reading.old.settings bytes.now at reading.old.stacks reading.new.stacks result
+    ensures turned { HasTakenKey T.policy reading.old.settings bytes.now at reading.old.stacks reading.new.stacks result
         (K.stopped keys.new) (K.knows keys.new) (K.refuses keys.new bytes.now reading.old.stacks at) }
-    ensures serves { K.serves keys.new T.made }
+    ensures serves { K.serves keys.new T.policy }
     ensures settings { reading.new.settings ≡ reading.old.settings }
 {
     if !keys.admits(reading.alloc, &reading.stacks, bytes, at, end, &key) {
@@ -89,7 +88,7 @@ fn kept_key<'s, T: StringStorage<'s>, K: Keys<'s>>(
 
 // Goes on with the key at `at`, which ends before `end`, after its colon.
 #[inline(always)]
-fn read_key<'s, T: StringStorage<'s>, K: Keys<'s>>(
+fn read_key<'s, T: StringStorage<'s>, K: KeyPolicy<'s>>(
     reading: &mut Reading<'s>,
     texts: T,
     keys: &mut K,
@@ -99,23 +98,23 @@ fn read_key<'s, T: StringStorage<'s>, K: Keys<'s>>(
     key: CowStr<'_>,
 ) -> (usize, State)
     requires texts { T.of texts bytes.now }
-    requires serves { K.serves keys.old T.made }
+    requires serves { K.serves keys.old T.policy }
     requires going { K.stopped keys.old ≡ false }
     requires known { (ks : List (List ℕ)) × K.knows keys.old ks × HaveKeys ks reading.old.stacks.members.items }
     requires at_key { IsAtKey bytes.now reading.old.stacks at }
     requires read { string_at whole bytes.now at ≡ taken (text_view key) end }
     requires lent { IsLentAt bytes.now (at + 1) (text_view key) }
     requires within { (at < end) × (end ≤ length bytes.now) }
-    ensures turned { HasTakenKey T.made reading.old.settings bytes.now at reading.old.stacks reading.new.stacks result
+    ensures turned { HasTakenKey T.policy reading.old.settings bytes.now at reading.old.stacks reading.new.stacks result
         (K.stopped keys.new) (K.knows keys.new) (K.refuses keys.new bytes.now reading.old.stacks at) }
-    ensures serves { K.serves keys.new T.made }
+    ensures serves { K.serves keys.new T.policy }
     ensures settings { reading.new.settings ≡ reading.old.settings }
 {
     let (after, problem) = colon(bytes, end);
     if let Some(kind) = problem {
         return fault_inside::<T>(reading, bytes, after, after, kind, ContainerKind::Object);
     }
-    match texts.keep(bytes, at + 1, key) {
+    match texts.store(bytes, at + 1, key) {
         Ok(kept) => kept_key::<T, K>(reading, keys, bytes, at, end, after, kept),
         Err(refused) => no_memory(&mut reading.stacks, refused, after),
     }
@@ -123,7 +122,7 @@ fn read_key<'s, T: StringStorage<'s>, K: Keys<'s>>(
 
 // Any key, and its errors. `found` is what a look at the key found.
 #[inline(never)]
-fn slow_key_turn<'s, T: StringStorage<'s>, K: Keys<'s>>(
+fn slow_key_turn<'s, T: StringStorage<'s>, K: KeyPolicy<'s>>(
     reading: &mut Reading<'s>,
     texts: T,
     keys: &mut K,
@@ -132,18 +131,18 @@ fn slow_key_turn<'s, T: StringStorage<'s>, K: Keys<'s>>(
     found: (usize, Look),
 ) -> (usize, State)
     requires texts { T.of texts bytes.now }
-    requires serves { K.serves keys.old T.made }
+    requires serves { K.serves keys.old T.policy }
     requires going { K.stopped keys.old ≡ false }
     requires known { (ks : List (List ℕ)) × K.knows keys.old ks × HaveKeys ks reading.old.stacks.members.items }
     requires at_key { IsAtKey bytes.now reading.old.stacks at }
     requires stop { found.0 ≡ scan_stop bytes.now (at + 1) }
     requires found { IsLook bytes.now (at + 1) found.0 found.1 }
-    ensures turned { HasTakenKey T.made reading.old.settings bytes.now at reading.old.stacks reading.new.stacks result
+    ensures turned { HasTakenKey T.policy reading.old.settings bytes.now at reading.old.stacks reading.new.stacks result
         (K.stopped keys.new) (K.knows keys.new) (K.refuses keys.new bytes.now reading.old.stacks at) }
-    ensures serves { K.serves keys.new T.made }
+    ensures serves { K.serves keys.new T.policy }
     ensures settings { reading.new.settings ≡ reading.old.settings }
 {
-    match string_from(reading.alloc, &mut reading.tape, bytes, at, found, false) {
+    match string_from(reading.alloc, &mut reading.buffer, bytes, at, found, false) {
         Ok((key, end)) => read_key(reading, texts, keys, bytes, at, end, key),
         Err(ReadError::Fault(fault)) => {
             fault_inside::<T>(
@@ -161,7 +160,7 @@ fn slow_key_turn<'s, T: StringStorage<'s>, K: Keys<'s>>(
 
 /// Takes one turn at a key. If `keys` doesn't allow the key, nothing changes.
 #[inline(always)]
-pub fn key_turn<'s, T: StringStorage<'s>, K: Keys<'s>>(
+pub fn key_turn<'s, T: StringStorage<'s>, K: KeyPolicy<'s>>(
     reading: &mut Reading<'s>,
     texts: T,
     keys: &mut K,
@@ -169,13 +168,13 @@ pub fn key_turn<'s, T: StringStorage<'s>, K: Keys<'s>>(
     at: usize,
 ) -> (usize, State)
     requires texts { T.of texts bytes.now }
-    requires serves { K.serves keys.old T.made }
+    requires serves { K.serves keys.old T.policy }
     requires going { K.stopped keys.old ≡ false }
     requires known { (ks : List (List ℕ)) × K.knows keys.old ks × HaveKeys ks reading.old.stacks.members.items }
     requires at_key { IsAtKey bytes.now reading.old.stacks at }
-    ensures turned { HasTakenKey T.made reading.old.settings bytes.now at reading.old.stacks reading.new.stacks result
+    ensures turned { HasTakenKey T.policy reading.old.settings bytes.now at reading.old.stacks reading.new.stacks result
         (K.stopped keys.new) (K.knows keys.new) (K.refuses keys.new bytes.now reading.old.stacks at) }
-    ensures serves { K.serves keys.new T.made }
+    ensures serves { K.serves keys.new T.policy }
     ensures settings { reading.new.settings ≡ reading.old.settings }
 {
     let (to, look) = look_at(bytes, at + 1);

@@ -8,7 +8,7 @@ ghost use Rattle.jiter_value.specs.Words.{IsRefusedAt, Turned, view, Int};
 ghost use Rattle.jiter_steps.specs.declared.read_error.ReadError.TheVariants as error;
 
 use crate::stacks::{Slot, Stacks, State, give_up, no_memory, put_reserved};
-use crate::texts::{StringStorage, keep_lent};
+use crate::string_storage::{StringStorage, store_borrowed};
 use crate::turns::Reading;
 use crate::turns::containers::{after_value, begin, fault_inside};
 use crate::value::JsonValue;
@@ -16,7 +16,7 @@ use jiter_scan::errors::{FaultKind, fault_at};
 use jiter_scan::fast_number::{FastNumber, fast_number_at, signed};
 use jiter_scan::memory::{AllocFailed, copy_text};
 use jiter_scan::number_decoder::slow_number_at;
-use jiter_scan::number_extent::minus_end;
+use jiter_scan::number_span::skip_minus;
 use jiter_scan::short_scan::{Look, look_at};
 use jiter_scan::text::{ascii_text, utf8_text};
 use jiter_scan::{NumberAny, NumberInt};
@@ -38,8 +38,7 @@ fn literal_value<'s>(literal: Literal) -> JsonValue<'s>
     }
 }
 
-// An error at `index` where a value is expected. If it is forgiven, it closes the innermost container, without the key
-// that has no value.
+// An error at `index` where a value is expected. If forgiven, the container ends. A key without a value is dropped.
 #[cold]
 #[inline(never)]
 fn fault_in_value<'s, T: StringStorage<'s>>(
@@ -51,9 +50,9 @@ fn fault_in_value<'s, T: StringStorage<'s>>(
     slot: Slot,
 ) -> (usize, State)
     requires at_value { IsAtValue bytes.now reading.old.stacks slot at }
-    requires value { (levels : ℕ) → value_at (rules_as T.made reading.old.settings) bytes.now levels at
+    requires value { (levels : ℕ) → value_at (rules_as T.policy reading.old.settings) bytes.now levels at
         ≡ fault (fault_kind kind) index at }
-    ensures { Turned T.made T.wants bytes.now at slot reading.old reading.new result }
+    ensures { Turned T.policy T.wants bytes.now at slot reading.old reading.new result }
 {
     match slot {
         Slot::Item => fault_inside::<T>(reading, bytes, at, index, kind, ContainerKind::Array),
@@ -76,11 +75,11 @@ fn put_and_go_on<'s, T: StringStorage<'s>>(
     value: JsonValue<'s>,
 ) -> (usize, State)
     requires at_value { IsAtValue bytes.now reading.old.stacks slot at }
-    requires value { (levels : ℕ) → value_at (rules_as T.made reading.old.settings) bytes.now levels at
+    requires value { (levels : ℕ) → value_at (rules_as T.policy reading.old.settings) bytes.now levels at
         ≡ done (view value) end }
     requires one { size (view value) ≡ 1 }
     requires within { (at < end) × (end ≤ length bytes.now) }
-    ensures { Turned T.made T.wants bytes.now at slot reading.old reading.new result }
+    ensures { Turned T.policy T.wants bytes.now at slot reading.old reading.new result }
 {
     put_reserved(&mut reading.stacks, slot, value);
     after_value::<T>(reading, bytes, end, slot)
@@ -103,11 +102,11 @@ fn utf8_turn<'s, T: StringStorage<'s>>(
     requires within { (at < to) × (to < length bytes.now) }
     requires stop { to ≡ scan_stop bytes.now (at + 1) }
     requires quote { IsLook bytes.now (at + 1) to Look.Utf8 }
-    ensures { Turned T.made T.wants bytes.now at slot reading.old reading.new result }
+    ensures { Turned T.policy T.wants bytes.now at slot reading.old reading.new result }
 {
     let keep = reading.settings.mode.allow_trailing_str();
     match checked_text(bytes, at + 1, to, keep) {
-        Ok(plain) => match keep_lent(texts, bytes, at + 1, plain) {
+        Ok(plain) => match store_borrowed(texts, bytes, at + 1, plain) {
             Ok(text) => put_and_go_on::<T>(reading, bytes, at, to + 1, slot, JsonValue::Str(text)),
             Err(refused) => no_memory(&mut reading.stacks, refused, to + 1),
         },
@@ -135,15 +134,15 @@ fn escaped_turn<'s, T: StringStorage<'s>>(
     requires begins { start_of (slice_index bytes.now at) ≡ Start.String }
     requires stop { stop ≡ scan_stop bytes.now (at + 1) }
     requires escaped { IsLook bytes.now (at + 1) stop (Look.Escaped ascii) }
-    ensures { Turned T.made T.wants bytes.now at slot reading.old reading.new result }
+    ensures { Turned T.policy T.wants bytes.now at slot reading.old reading.new result }
 {
     let keep = reading.settings.mode.allow_trailing_str();
-    match decode_inline(&mut reading.tape, bytes, at, stop, ascii, keep) {
+    match decode_inline(&mut reading.buffer, bytes, at, stop, ascii, keep) {
         Ok((count, end)) => {
             // An owned copy, made by one allocation of its exact length.
-            let decoded = utf8_text(&reading.tape.as_slice()[..count]);
+            let decoded = utf8_text(&reading.buffer.as_slice()[..count]);
             match copy_text(reading.alloc, decoded) {
-                Ok(own) => match texts.keep(bytes, at + 1, CowStr::Owned(own)) {
+                Ok(own) => match texts.store(bytes, at + 1, CowStr::Owned(own)) {
                     Ok(text) => {
                         put_and_go_on::<T>(reading, bytes, at, end, slot, JsonValue::Str(text))
                     }
@@ -176,12 +175,12 @@ fn faulty_text_turn<'s, T: StringStorage<'s>>(
     requires begins { start_of (slice_index bytes.now at) ≡ Start.String }
     requires stop { index ≡ scan_stop bytes.now (at + 1) }
     requires found { IsLook bytes.now (at + 1) index (Look.Fault kind) }
-    ensures { Turned T.made T.wants bytes.now at slot reading.old reading.new result }
+    ensures { Turned T.policy T.wants bytes.now at slot reading.old reading.new result }
 {
     let keep = reading.settings.mode.allow_trailing_str();
     let found = (index, Look::Fault(kind));
-    match string_from(reading.alloc, &mut reading.tape, bytes, at, found, keep) {
-        Ok((text, end)) => match texts.keep(bytes, at + 1, text) {
+    match string_from(reading.alloc, &mut reading.buffer, bytes, at, found, keep) {
+        Ok((text, end)) => match texts.store(bytes, at + 1, text) {
             Ok(kept) => { put_and_go_on::<T>(reading, bytes, at, end, slot, JsonValue::Str(kept)) }
             Err(refused) => no_memory(&mut reading.stacks, refused, end),
         },
@@ -203,11 +202,11 @@ fn text_turn<'s, T: StringStorage<'s>>(
     requires texts { T.of texts bytes.now }
     requires at_value { IsAtValue bytes.now reading.old.stacks slot at }
     requires begins { start_of (slice_index bytes.now at) ≡ Start.String }
-    ensures { Turned T.made T.wants bytes.now at slot reading.old reading.new result }
+    ensures { Turned T.policy T.wants bytes.now at slot reading.old reading.new result }
 {
     let (to, look) = look_at(bytes, at + 1);
     match look {
-        Look::Plain => match keep_lent(texts, bytes, at + 1, utf8_text(&bytes[at + 1..to])) {
+        Look::Plain => match store_borrowed(texts, bytes, at + 1, utf8_text(&bytes[at + 1..to])) {
             Ok(text) => put_and_go_on::<T>(reading, bytes, at, to + 1, slot, JsonValue::Str(text)),
             Err(refused) => no_memory(&mut reading.stacks, refused, to + 1),
         },
@@ -227,18 +226,18 @@ fn number_value<'s, T: StringStorage<'s>>(
     requires texts { T.of texts bytes.now }
     requires lent { IsNumberAt bytes.now at (number_view number) }
     ensures value { IfOk result (λ v.
-        view v ≡ tree_as T.made.text (number_tree (number_view number.entry))) }
+        view v ≡ tree_as T.policy.text (number_tree (number_view number.entry))) }
     ensures one { IfOk result (λ v. size (view v) ≡ 1) }
     ensures memory { OnErr result T.wants }
 {
     match number {
         NumberAny::Int(NumberInt::Int(integer)) => Ok(JsonValue::Int(integer)),
         NumberAny::Int(NumberInt::BigInt(text)) => {
-            let kept = keep_lent(texts, bytes, at, text)?;
+            let kept = store_borrowed(texts, bytes, at, text)?;
             Ok(JsonValue::BigInt(kept))
         }
         NumberAny::Float(text) => {
-            let kept = keep_lent(texts, bytes, at, text)?;
+            let kept = store_borrowed(texts, bytes, at, text)?;
             Ok(JsonValue::Float(kept))
         }
     }
@@ -257,7 +256,7 @@ fn slow_number_turn<'s, T: StringStorage<'s>>(
     requires texts { T.of texts bytes.now }
     requires at_value { IsAtValue bytes.now reading.old.stacks slot at }
     requires begins { start_of (slice_index bytes.now at) ≡ Start.Number }
-    ensures { Turned T.made T.wants bytes.now at slot reading.old reading.new result }
+    ensures { Turned T.policy T.wants bytes.now at slot reading.old reading.new result }
 {
     match slow_number_at(bytes, at, reading.settings.allow_inf_nan) {
         Ok((number, end)) => match number_value(texts, bytes, at, number) {
@@ -289,8 +288,7 @@ fn refused_at(stacks: &mut Stacks<'_>, refused: AllocFailed, at: usize) -> (usiz
     (at, Put::NoMemory)
 }
 
-// Puts a short number, and returns the index after it. It does not go on after it: the steps there would make this too
-// large to be inlined.
+// Puts a short number, and returns the index after it. The steps after it would make this too large to be inlined.
 #[inline(always)]
 fn put_number<'s, T: StringStorage<'s>>(
     texts: T,
@@ -302,20 +300,20 @@ fn put_number<'s, T: StringStorage<'s>>(
     requires texts { T.of texts bytes.now }
     requires at_value { IsAtValue bytes.now stacks.old slot at }
     requires begins { start_of (slice_index bytes.now at) ≡ Start.Number }
-    ensures put { result.1 ≡ Put.Done → IsPutAt T.made bytes.now stacks.old at slot stacks.new result.0 }
+    ensures put { result.1 ≡ Put.Done → IsPutAt T.policy bytes.now stacks.old at slot stacks.new result.0 }
     ensures other { result.1 ≡ Put.Long → stacks.new ≡ stacks.old }
     ensures refused { result.1 ≡ Put.NoMemory → IsRefusedAt bytes.now at stacks.new result.0 }
     ensures memory { result.1 ≡ Put.NoMemory → T.wants }
     ensures keys { result.1 ≡ Put.Done → LeavesKeys stacks.old.members.items stacks.new.members.items }
 {
-    let from = minus_end(bytes, at);
+    let from = skip_minus(bytes, at);
     match fast_number_at(bytes, from) {
         FastNumber::Int(magnitude, end) => {
             put_reserved(stacks, slot, JsonValue::Int(signed(magnitude, from > at)));
             (end, Put::Done)
         }
         FastNumber::Float(end) => {
-            match keep_lent(texts, bytes, at, ascii_text(&bytes[at..end])) {
+            match store_borrowed(texts, bytes, at, ascii_text(&bytes[at..end])) {
                 Ok(text) => {
                     put_reserved(stacks, slot, JsonValue::Float(text));
                     (end, Put::Done)
@@ -327,7 +325,7 @@ fn put_number<'s, T: StringStorage<'s>>(
     }
 }
 
-// `ONCE` and `SLOT` are those of [`turn_into`], so this has one caller, and is inlined although it is large.
+// With the constants of [`turn_into`], each copy has one caller. So it is inlined, although it is large.
 #[inline(always)]
 fn number_turn<'s, T: StringStorage<'s>, const ONCE: bool, const SLOT: u8>(
     reading: &mut Reading<'s>,
@@ -339,7 +337,7 @@ fn number_turn<'s, T: StringStorage<'s>, const ONCE: bool, const SLOT: u8>(
     requires texts { T.of texts bytes.now }
     requires at_value { IsAtValue bytes.now reading.old.stacks slot at }
     requires begins { start_of (slice_index bytes.now at) ≡ Start.Number }
-    ensures { Turned T.made T.wants bytes.now at slot reading.old reading.new result }
+    ensures { Turned T.policy T.wants bytes.now at slot reading.old reading.new result }
 {
     let (end, put) = put_number(texts, &mut reading.stacks, bytes, at, slot);
     match put {
@@ -361,7 +359,7 @@ fn slow_literal_turn<'s, T: StringStorage<'s>>(
 ) -> (usize, State)
     requires at_value { IsAtValue bytes.now reading.old.stacks slot at }
     requires begins { start_of (slice_index bytes.now at) ≡ Start.Literal literal }
-    ensures { Turned T.made T.wants bytes.now at slot reading.old reading.new result }
+    ensures { Turned T.policy T.wants bytes.now at slot reading.old reading.new result }
 {
     match literal_end(bytes, at, literal) {
         Ok(end) => {
@@ -382,7 +380,7 @@ fn literal_turn<'s, T: StringStorage<'s>>(
 ) -> (usize, State)
     requires at_value { IsAtValue bytes.now reading.old.stacks slot at }
     requires begins { start_of (slice_index bytes.now at) ≡ Start.Literal literal }
-    ensures { Turned T.made T.wants bytes.now at slot reading.old reading.new result }
+    ensures { Turned T.policy T.wants bytes.now at slot reading.old reading.new result }
 {
     let Some(end) = fast_literal_end(bytes, at, literal) else {
         return slow_literal_turn::<T>(reading, bytes, at, slot, literal);
@@ -406,7 +404,7 @@ fn other_turn<'s, T: StringStorage<'s>>(
     requires array { start_of (slice_index bytes.now at) ≢ Start.Array }
     requires object { start_of (slice_index bytes.now at) ≢ Start.Object }
     requires string { start_of (slice_index bytes.now at) ≢ Start.String }
-    ensures { Turned T.made T.wants bytes.now at slot reading.old reading.new result }
+    ensures { Turned T.policy T.wants bytes.now at slot reading.old reading.new result }
 {
     match start_of(bytes[at]) {
         Start::Literal(literal) => slow_literal_turn::<T>(reading, bytes, at, slot, literal),
@@ -422,7 +420,8 @@ fn other_turn<'s, T: StringStorage<'s>>(
 
 /// Takes one turn at a value for this slot.
 ///
-/// `ONCE` and `SLOT` are the caller's: each of its copies has its own copy of this code, which is inlined there.
+/// The compiler inlines a large function only if it has one caller. So each caller passes its own `ONCE` and `SLOT`,
+/// which no line reads, and gets a copy of its own.
 #[inline(always)]
 pub fn turn_into<'s, T: StringStorage<'s>, const ONCE: bool, const SLOT: u8>(
     reading: &mut Reading<'s>,
@@ -433,7 +432,7 @@ pub fn turn_into<'s, T: StringStorage<'s>, const ONCE: bool, const SLOT: u8>(
 ) -> (usize, State)
     requires texts { T.of texts bytes.now }
     requires at_value { IsAtValue bytes.now reading.old.stacks slot at }
-    ensures { Turned T.made T.wants bytes.now at slot reading.old reading.new result }
+    ensures { Turned T.policy T.wants bytes.now at slot reading.old reading.new result }
 {
     match bytes[at] {
         b'[' => begin::<T>(reading, bytes, at, slot, ContainerKind::Array),

@@ -2,21 +2,21 @@
 ghost use Rattle.std.specs.Prelude.{◌≡◌, ◌+◌, ◌≤◌, ◌<◌, ◌∷◌, ◌++◌, ℕ, [], All, IfOk, IfSome, OnOk, drop};
 ghost use Rattle.std.specs.Prelude.{false, is_some, ◌⊎◌, length, not, reverse, slice_index, true, option_map};
 ghost use Rattle.std.specs.Prelude.{bytes_eq};
-ghost use Rattle.jiter_value.specs.Words.{taken, nesting_limit, Moves, value_at, step, colon, text_view};
+ghost use Rattle.jiter_value.specs.Words.{taken, nesting_limit, NeverMovesBack, value_at, step, colon, text_view};
 ghost use Rattle.jiter_value.specs.Words.{lent_unique, rules_as, HasKeys, IsUpToDate, StandsAtKey, IsFree};
 ghost use Rattle.jiter_value.specs.Words.{keys_of, HoldsNothing, IsKeyRead, has_key, innermost_base};
 ghost use Rattle.jiter_value.specs.Words.{object_has_key, fault_at_key, fault_of, HasStopped, GivesUnique};
 ghost use Rattle.jiter_value.specs.Words.{WhereUniqueRefused, MayGrowBy};
 
-use crate::stacks::{Open, Stacks, State, take_error, take_root};
-use crate::texts::BorrowingUnique;
+use crate::stacks::{OpenContainer, Stacks, State, take_error, take_root};
+use crate::string_storage::BorrowingUnique;
 use crate::turns::duplicate_keys::{DuplicateKeyIndex, drop_closed, is_new_key};
-use crate::turns::{Keys, Reading};
+use crate::turns::{KeyPolicy, Reading};
 use crate::value::JsonValue;
 use jiter_scan::memory::{AllocFailed, copy_text};
-use jiter_steps::blank::past_blanks;
 use jiter_steps::parse::Parser;
 use jiter_steps::read_error::ReadError;
+use jiter_steps::whitespace::past_blanks;
 use smallvec::SmallVec;
 use std::alloc::Global;
 use std::borrow::CowStr;
@@ -32,7 +32,7 @@ pub struct Repeated {
 
 /// Why a reading that rejects duplicate keys stopped.
 #[derive(Drop)]
-pub enum Stopped {
+pub enum Interrupted {
     /// An error of the bytes, or a failed allocation.
     Read(ReadError),
     /// A duplicate key.
@@ -40,7 +40,7 @@ pub enum Stopped {
 }
 
 #[inline(always)]
-fn innermost_base(nest: &SmallVec<Open, 8>) -> usize
+fn innermost_base(nest: &SmallVec<OpenContainer, 8>) -> usize
     requires { 0 < length nest.now.items }
     ensures { result ≡ innermost_base (reverse nest.now.items) }
 {
@@ -89,9 +89,9 @@ fn has_key(members: &Vec<(CowStr<'_>, JsonValue<'_>)>, base: usize, key: &str) -
 }
 
 // An object with at most this many members has no set: a key is compared with all of its keys.
-const FEW: usize = 32;
+const LINEAR_SEARCH_MAX: usize = 32;
 
-// Whether the innermost object doesn't have the key yet. If it has more than `FEW` members, adds the key to its set.
+// Whether the innermost object doesn't have the key yet. If it has more than `LINEAR_SEARCH_MAX` members, adds the key to its set.
 fn is_new<'s>(
     alloc: Global,
     sets: &mut Vec<DuplicateKeyIndex<'s>>,
@@ -105,7 +105,9 @@ fn is_new<'s>(
     ensures new { IfOk result (λ new. new ≡ not (object_has_key (text_view key.now).bytes stacks.now)) }
 {
     let base = innermost_base(&stacks.nest);
-    if stacks.members.len() - base > FEW && is_new_key(alloc, sets, &stacks.members, base, key)? {
+    if stacks.members.len() - base > LINEAR_SEARCH_MAX
+        && is_new_key(alloc, sets, &stacks.members, base, key)?
+    {
         return Ok(true);
     }
     Ok(!has_key(&stacks.members, base, key.as_str()))
@@ -143,12 +145,12 @@ fn find_repeat<'s>(
 
 /// Allows a key only if its object doesn't have it yet.
 #[derive(Drop)]
-pub struct NewKeys<'s> {
+pub struct DistinctKeys<'s> {
     sets: Vec<DuplicateKeyIndex<'s>>,
-    stopped: Option<(Stopped, usize)>,
+    stopped: Option<(Interrupted, usize)>,
 }
 
-impl<'s> NewKeys<'s> {
+impl<'s> DistinctKeys<'s> {
     // The slow path of `admits`: also looks into the sets. Stores why the reading stops.
     #[cold]
     #[inline(never)]
@@ -175,16 +177,19 @@ impl<'s> NewKeys<'s> {
             Ok(None) => return true,
             Ok(Some(repeated)) => {
                 let place = repeated.index;
-                self.stopped = Some((Stopped::Repeated(repeated), place));
+                self.stopped = Some((Interrupted::Repeated(repeated), place));
             }
-            Err(refused) => self.stopped = Some((Stopped::Read(ReadError::Memory(refused)), at)),
+            Err(refused) => self.stopped = Some((
+                Interrupted::Read(ReadError::Memory(refused)),
+                at,
+            )),
         }
         false
     }
 }
 
-impl<'s> Keys<'s> for NewKeys<'s> {
-    ghost serves = { λ k made. made ≡ lent_unique };
+impl<'s> KeyPolicy<'s> for DistinctKeys<'s> {
+    ghost serves = { λ k policy. policy ≡ lent_unique };
 
     ghost knows = { λ k ks. All (HasKeys ks) k.sets.items };
 
@@ -205,7 +210,7 @@ impl<'s> Keys<'s> for NewKeys<'s> {
     ) -> bool {
         let base = innermost_base(&stacks.nest);
         if self.sets.is_empty()
-            && stacks.members.len() - base <= FEW
+            && stacks.members.len() - base <= LINEAR_SEARCH_MAX
             && !has_key(&stacks.members, base, key.as_str())
         {
             return true;
@@ -224,30 +229,30 @@ pub fn run_unique<'s>(
     reading: &mut Reading<'s>,
     texts: BorrowingUnique<'s>,
     parser: &mut Parser<'_>,
-) -> Result<JsonValue<'s>, Stopped>
+) -> Result<JsonValue<'s>, Interrupted>
     requires texts { texts.bytes.now ≡ parser.old.bytes.now }
     requires within { parser.old.index < length parser.old.bytes.now }
     requires holds { HoldsNothing reading.old.stacks }
-    ensures moves { Moves parser.old parser.new }
+    ensures moves { NeverMovesBack parser.old parser.new }
     ensures value { GivesUnique result parser.new.index
         (value_at (rules_as lent_unique reading.old.settings) parser.old.bytes.now nesting_limit parser.old.index) }
     ensures memory { WhereUniqueRefused result (MayGrowBy ⊥ parser.old.bytes.now parser.old.index) }
     ensures settings { reading.new.settings ≡ reading.old.settings }
 {
-    let mut keys = NewKeys {
+    let mut keys = DistinctKeys {
         sets: Vec::new(reading.alloc),
         stopped: None,
     };
     reading.state = State::Root;
     reading.at = parser.index;
     let bytes = parser.bytes;
-    let state = reading.go::<BorrowingUnique<'s>, NewKeys<'s>, false>(texts, &mut keys, bytes);
+    let state = reading.go::<BorrowingUnique<'s>, DistinctKeys<'s>, false>(texts, &mut keys, bytes);
     parser.index = reading.at;
     match state {
         State::Done => Ok(take_root(&mut reading.stacks)),
-        State::GivenUp => Err(Stopped::Read(take_error(&mut reading.stacks))),
+        State::GivenUp => Err(Interrupted::Read(take_error(&mut reading.stacks))),
         _ => {
-            let NewKeys { sets: _, stopped } = keys;
+            let DistinctKeys { sets: _, stopped } = keys;
             match stopped {
                 Some((why, place)) => {
                     parser.index = place;

@@ -11,7 +11,7 @@ use Rattle.jiter_steps.proofs.Grammar.SpelledParts.{node-ahead, node-within}
 use Rattle.json_lines.specs.ItemsLaw.{AreDocuments, sources_of}
 use Rattle.json_lines.proofs.ItemsLaw.Moved.{IsMoved, begin-moved, end-moved, moved, nesting-moved, node-moves}
 
--- a byte of bytes that stand
+-- a byte of bytes that are there
 pub stands-get : (t w : List ℕ) (b e k : ℕ) → Stands t b e w → k < length w → slice_get t (b + k) ≡ slice_get w k
 stands-get t [] b e k h lt = absurd (omega arith)
 stands-get t (c ∷ w) b e zero h lt = let same : b + 0 ≡ b = omega arith in ap (slice_get t) same ∙ h.0

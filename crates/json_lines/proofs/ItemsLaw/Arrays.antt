@@ -100,7 +100,7 @@ module _ (names : Bool) (t : List ℕ) where
           within = λ i l le. omega arith;
         }
 
-    -- a document that stands there
+    -- a document that is there
     module _ (i k : ℕ) (before : IsBlank t i o) (after : IsBlank t p k) (m : Node) (h : IsDocument names src m) where
       document-in : ItemIn i k (value_of src m)
       document-in =

@@ -99,13 +99,13 @@ same-member {k' = k'} {v = v} {ms = ms} p q r =
 white-blank : (c : ℕ) → is_white c ≡ true → IsBlankByte c
 white-blank c h = grind (arith, nat_tests, h)
 
--- from lo to before hi each byte of t stands in u too, where f says
+-- from lo to before hi each byte of t is in u too, where f says
 pub record IsMoved (t u : List ℕ) (lo hi : ℕ) (f : ℕ → ℕ) : Type 0 where
   pub same : (i c : ℕ) → lo ≤ i → i < hi → slice_get t i ≡ Some c → slice_get u (f i) ≡ Some c
   pub next : (i : ℕ) → lo ≤ i → i < hi → f (i + 1) ≡ f i + 1
   pub within : (i : ℕ) → lo ≤ i → i ≤ hi → f i ≤ length u
 
--- whitespace that stands
+-- whitespace that is there
 white-each : (t w : List ℕ) (i j : ℕ) → Stands t i j w → Pass is_white w
     → (k : ℕ) → i ≤ k → k < j → IsBlankByte (slice_index t k)
 white-each t [] i j h white k l u = absurd (omega (arith, h))

@@ -21,7 +21,7 @@ no_value = fault "EOF while parsing a value at line 1 column 0"
 
 abbrev rows : List Row
 rows =
-    -- no blanks stay
+    -- no whitespace stays
     (false, " [true, [null, []], false]", value "[true,[null,[]],false]") ∷
     -- a float and a long integer by their source text, an integer in decimal
     (false, "[1.50, -0, 123456789012345678901234567890]", value "[1.50,0,123456789012345678901234567890]") ∷
@@ -33,7 +33,7 @@ rows =
     (true, "[NaN]", value "[NaN]") ∷
     -- and where they are not
     (false, "[NaN]", fault "expected value at line 1 column 2") ∷
-    -- faults by their line and column
+    -- errors by their line and column
     (false, "", no_value) ∷
     (false, "[tru]", fault "expected ident at line 1 column 5") ∷
     (false, "[true", fault "EOF while parsing a list at line 1 column 5") ∷
@@ -56,7 +56,7 @@ unique_rows =
     ("{\"a\":1,\n\"\\u0061\" : 2}", fault "Detected duplicate key \"a\" at line 2 column 11") ∷
     -- a key that only another object has
     ("{\"a\": {\"a\": 1}, \"b\": [{\"a\": 2}]}", value "{\"a\":{\"a\":1},\"b\":[{\"a\":2}]}") ∷
-    -- a fault before the key stands again, and one of what stands after its colon
+    -- an error before the key is again, and one of what is after its colon
     ("{\"a\":,\"a\":2}", fault "expected value at line 1 column 6") ∷
     ("{\"a\":1,\"a\":?}", fault "Detected duplicate key \"a\" at line 1 column 12") ∷
     []
@@ -82,7 +82,7 @@ mode_rows =
     ) ∷
     -- a key that does is left out
     ("{\"a\": 1, \"b", fault "EOF while parsing a string at line 1 column 11", value "{\"a\":1}", value "{\"a\":1}") ∷
-    -- what stands where a comma should
+    -- what is where a comma should
     ("[1 x", fault "expected `,` or `]` at line 1 column 4", value "[1]", value "[1]") ∷
     -- what follows the value
     ("null x", fault "trailing characters at line 1 column 6", value "null", value "null") ∷

@@ -110,3 +110,50 @@ fn each_end_has_a_status_and_a_name(rt: HostRuntime) -> Result<(), AllocError> {
     );
     Ok(())
 }
+
+// What each word changes.
+const ROWS: [Row<'static>; 6] = [
+    Row {
+        given: &["off"],
+        text: b"[1, \"a",
+        status: 1,
+        line: b"EOF while parsing a string at line 1 column 6\n",
+    },
+    Row {
+        given: &["on"],
+        text: b"[1, \"a",
+        status: 0,
+        line: b"[1]\n",
+    },
+    Row {
+        given: &["trailing-strings"],
+        text: b"[1, \"a",
+        status: 0,
+        line: b"[1,\"a\"]\n",
+    },
+    Row {
+        given: &["off", "inf-nan"],
+        text: b"{\"a\":NaN,\"a\":1}",
+        status: 0,
+        line: b"{\"a\":NaN,\"a\":1}\n",
+    },
+    Row {
+        given: &["off", "unique"],
+        text: b"{\"a\":1,\n\"a\" : 2}",
+        status: 1,
+        line: b"Detected duplicate key \"a\" at line 2 column 6\n",
+    },
+    Row {
+        given: &["trailing-strings", "inf-nan", "unique"],
+        text: b"{\"a\":NaN,\"b\":\"c",
+        status: 0,
+        line: b"{\"a\":NaN,\"b\":\"c\"}\n",
+    },
+];
+
+#[test]
+fn each_word_reaches_the_reading(rt: HostRuntime) {
+    for row in ROWS {
+        assert!(rt; does(rt.alloc(), row, 1));
+    }
+}

@@ -3,8 +3,7 @@ use Rattle.jiter_c.specs.Replies.{next_reply}
 use Rattle.jiter_c.proofs.Into.{refusal-counted}
 use Rattle.jiter_c.proofs.parts.jiter_count.Goals as goal
 
-pub returns-in-Err-clause-into : goal.returns-in-Err-clause-into
-returns-in-Err-clause-into c =
-    let into = c.in-Err.ensures.into in
-    refusal-counted _ (next_reply c.args.reader.now into_read) into.0 c.in-Err.error _ c.fault_of.ensures
-    c.args.fault.now into.1
+pub returns-in_default-clause-into : goal.returns-in_default-clause-into
+returns-in_default-clause-into c =
+    let into = c.count_parts.ensures.into in
+    refusal-counted (next_reply c.args.reader.now into_read) into.0 _ c.args.fault.now _ c.report.ensures.fault into.1

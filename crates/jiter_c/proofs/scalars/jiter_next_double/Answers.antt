@@ -1,11 +1,12 @@
-use Rattle.jiter.specs.Reader.{number_bytes_read, next}
+use Rattle.jiter.specs.Reader.{next, number_bytes_read}
 use Rattle.jiter.proofs.Peeking.{scalars-stay}
 use Rattle.jiter_c.specs.Replies.{state_of}
-use Rattle.jiter_c.proofs.Staying.{stays-at}
+use Rattle.jiter_c.proofs.Staying.{answer-stays}
 use Rattle.jiter_c.proofs.scalars.jiter_next_double.Goals as goal
 
-pub returns-clause-stays : goal.returns-clause-stays
-returns-clause-stays c = λ no.
+pub returns-in_default-clause-stays : goal.returns-in_default-clause-stays
+returns-in_default-clause-stays c = λ no.
     let s = state_of c.args.reader.now in
-    stays-at s (next s (number_bytes_read s)) _ _ _ _ (scalars-stay s).4
-    (rw c.jiter_at-jiter.ensures at c.in-Err.ensures.reads.value) c.current_index-reader.ensures.value
+    answer-stays _ _ s _ (next s (number_bytes_read s)) _ c.args.reader.now _
+    (rw c.jiter_at-jiter.ensures at c.next_number_bytes-number.ensures.reads.value) (scalars-stay s).4 c.answer.ensures.given
+    c.in_default.is c.answer.ensures.place

@@ -10,7 +10,7 @@ pub returns-then-is_plain_to : goal.returns-then-is_plain_to
 returns-then-is_plain_to c =
     let bytes = c.as_bytes-bytes.result.now in
     let old = c.args.line.now in
-    let roomy = c.make_room_for.new.tape in
+    let roomy = c.make_room_for.new.buffer in
     let laid = c.put.new.line.items in
     let at = c.args.count in
     let plain = rw c.as_slice.ensures.value at (sym c.is_plain_to.ensures ∙ c.if-is_plain_to.true) in
@@ -37,7 +37,7 @@ pub returns : goal.returns
 returns c =
     let bytes = c.as_bytes-bytes.result.now in
     let old = c.args.line.now in
-    let roomy = c.make_room_for.new.tape in
+    let roomy = c.make_room_for.new.buffer in
     let laid = c.put.new.line.items in
     let at = c.args.count in
     let printed = flat_map print_byte bytes ++ 34 ∷ [] in

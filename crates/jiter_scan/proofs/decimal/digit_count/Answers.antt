@@ -4,12 +4,12 @@ use Rattle.jiter_scan.proofs.decimal.digit_count.Goals as goal
 
 pub returns-then-others-eq0 : goal.returns-then-others-eq0
 returns-then-others-eq0 c =
-    let all = prefix_len-all is_digit c.args.chunk
-    (list_all-failing-zero is_digit c.args.chunk (omega (arith, c.no_digits-others.ensures))) in
+    let all = prefix_len-all is_digit c.args.block
+    (list_all-failing-zero is_digit c.args.block (omega (arith, c.no_digits-others.ensures))) in
     omega arith
 
 pub returns-else-others-eq0 : goal.returns-else-others-eq0
 returns-else-others-eq0 c =
-    let some = prefix_len-failing is_digit c.args.chunk (omega arith) (omega (arith, c.no_digits-others.ensures))
+    let some = prefix_len-failing is_digit c.args.block (omega arith) (omega (arith, c.no_digits-others.ensures))
     ∙ ap (count_trailing_zeros 64) (sym c.no_digits-others.ensures) in
     omega arith

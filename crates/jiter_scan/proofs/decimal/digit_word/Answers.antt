@@ -33,7 +33,7 @@ below a b n few low high =
 
 pub joined-requires-clause-fits : goal.joined-requires-clause-fits
 joined-requires-clause-fits c =
-    let v = c.args.chunk in
+    let v = c.args.block in
     let zs = map less_zero v in
     let counted : c.args.count ≤ prefix_len is_digit v = omega arith in
     let digits = AllBelowBase-in_two zs c.args.count (omega arith) (decimal_of-digits v c.args.count counted).0 in
@@ -46,7 +46,7 @@ joined-requires-clause-fits c =
 
 pub returns-then-count-le8 : goal.returns-then-count-le8
 returns-then-count-le8 c =
-    let v = c.args.chunk in
+    let v = c.args.block in
     let zs = map less_zero v in
     let counted : c.args.count ≤ prefix_len is_digit v = omega arith in
     let n = c.args.count in
@@ -58,7 +58,7 @@ returns-then-count-le8 c =
 
 pub returns-else-count-le8 : goal.returns-else-count-le8
 returns-else-count-le8 c =
-    let v = c.args.chunk in
+    let v = c.args.block in
     let zs = map less_zero v in
     let counted : c.args.count ≤ prefix_len is_digit v = omega arith in
     let n = c.args.count in

@@ -1,5 +1,5 @@
 use Rattle.jiter_scan.proofs.Words.{IfSome_then}
-use Rattle.jiter_scan.proofs.NumberExtents.{tail-parts}
+use Rattle.jiter_scan.proofs.NumberSpans.{tail-parts}
 use Rattle.jiter_scan.proofs.fast_number.fast_float_end.Goals as goal
 
 pub returns-in-Some : goal.returns-in-Some

@@ -12,10 +12,9 @@ returns-then-count-gt19 c =
 pub digit_word-first-requires-clause-digits : goal.digit_word-first-requires-clause-digits
 digit_word-first-requires-clause-digits c =
     let n = c.min.result in
-    let few : n ≤ 16 = grind arith in
     let most : n ≤ c.args.end - c.args.at = grind arith in
-    digits-prefix c.args.bytes.now c.chunk_at.result c.args.at n
-    (c.chunk_at.ensures n few (omega (arith, most))) (omega (arith, most))
+    digits-prefix c.args.bytes.now c.block_at.result c.args.at n
+    (c.block_at.ensures n (grind arith) (omega (arith, most))) (omega (arith, most))
 
 pub returns-then-count-le16 : goal.returns-then-count-le16
 returns-then-count-le16 c =
@@ -25,8 +24,8 @@ returns-then-count-le16 c =
     let all : n ≡ c.args.end - at = grind arith in
     magnitude_of-short t at c.args.end (omega arith) (omega arith) (omega arith) c.digit_word-first.result (omega arith)
     (c.digit_word-first.ensures
-    ∙ digits-value t c.chunk_at.result at n c.args.end
-    (c.chunk_at.ensures n (omega (arith, all)) (omega (arith, all))) (omega (arith, all)))
+    ∙ digits-value t c.block_at.result at n c.args.end
+    (c.block_at.ensures n (omega (arith, all)) (omega (arith, all))) (omega (arith, all)))
 
 pub digit_word-back-requires-clause-digits : goal.digit_word-back-requires-clause-digits
 digit_word-back-requires-clause-digits c =
@@ -34,7 +33,7 @@ digit_word-back-requires-clause-digits c =
     let at = c.args.at in
     let n = c.args.end - at - 16 in
     let run = run_end-on is_digit t at 16 (omega arith) (omega arith) in
-    digits-prefix t c.chunk_at-2.result (at + 16) n (c.chunk_at-2.ensures n (omega arith) (omega arith)) (omega arith)
+    digits-prefix t c.block_at-2.result (at + 16) n (c.block_at-2.ensures n (omega arith) (omega arith)) (omega arith)
 
 pub joined-requires-clause-fits : goal.joined-requires-clause-fits
 joined-requires-clause-fits c =
@@ -45,11 +44,10 @@ joined-requires-clause-fits c =
     let n = end - at - 16 in
     let both = decimal_of-joined t at end _ _ (omega arith) (omega arith)
     (c.digit_word-first.ensures
-    ∙ digits-value t c.chunk_at.result at c.min.result (at + 16)
-    (c.chunk_at.ensures c.min.result (omega (arith, all)) (omega (arith, all))) (omega (arith, all)))
+    ∙ digits-value t c.block_at.result at c.min.result (at + 16)
+    (c.block_at.ensures c.min.result (omega (arith, all)) (omega (arith, all))) (omega (arith, all)))
     (c.digit_word-back.ensures
-    ∙ digits-value t c.chunk_at-2.result (at + 16) n end (c.chunk_at-2.ensures n (omega arith) (omega arith))
-    (omega arith)) in
+    ∙ digits-value t c.block_at-2.result _ n end (c.block_at-2.ensures n (omega arith) (omega arith)) (omega arith)) in
     omega (arith, both, decimal_of-few t at end (omega arith) (omega arith) (omega arith) 19 (omega arith))
 
 pub returns : goal.returns
@@ -63,8 +61,7 @@ returns c =
     (c.joined.ensures
     ∙ decimal_of-joined t at end _ _ (omega arith) (omega arith)
     (c.digit_word-first.ensures
-    ∙ digits-value t c.chunk_at.result at c.min.result (at + 16)
-    (c.chunk_at.ensures c.min.result (omega (arith, all)) (omega (arith, all))) (omega (arith, all)))
+    ∙ digits-value t c.block_at.result at c.min.result (at + 16)
+    (c.block_at.ensures c.min.result (omega (arith, all)) (omega (arith, all))) (omega (arith, all)))
     (c.digit_word-back.ensures
-    ∙ digits-value t c.chunk_at-2.result (at + 16) n end (c.chunk_at-2.ensures n (omega arith) (omega arith))
-    (omega arith)))
+    ∙ digits-value t c.block_at-2.result _ n end (c.block_at-2.ensures n (omega arith) (omega arith)) (omega arith)))

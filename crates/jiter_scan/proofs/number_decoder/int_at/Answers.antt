@@ -6,6 +6,6 @@ pub returns-in-Int-clause-value : goal.returns-in-Int-clause-value
 returns-in-Int-clause-value c =
     let end = c.in-Int.end in
     let found = c.in-Int.ensures in
-    int_at-alone c.args.bytes.now c.args.at c.minus_end-digits.result end c.requires c.minus_end-digits.ensures.end
+    int_at-alone c.args.bytes.now c.args.at c.skip_minus-digits.result end c.requires c.skip_minus-digits.ensures.end
     found.int_part found.decimal
     ∙ ap (λ n. taken (int_seen n) end) (sym c.integer_of-number.ensures)

@@ -1,6 +1,5 @@
 use Rattle.jiter_scan.proofs.Words.{◌≡◌, ◌≢◌, ◌<◌, ◌≤◌, ◌^◌, ◌-◌, ◌∙◌, ℕ, List, pos, ap, slice_range, w64, big, integer}
-use Rattle.std.proofs.Common.{of_z, to_z, ◌-ℤ◌, rules}
-use Rattle.jiter_scan.specs.Number.{positive_value, negative_value}
+use Rattle.jiter_scan.proofs.Words.{of_z, to_z, ◌-ℤ◌, rules, positive_value, negative_value}
 use Rattle.jiter_scan.proofs.NumberBytes.{IsAscii-integer}
 use Rattle.jiter_scan.proofs.NumberValues.{integer_value-positive, integer_value-negative}
 use Rattle.jiter_scan.proofs.number_decoder.integer_of.Goals as goal

@@ -1,5 +1,5 @@
 use Rattle.jiter_scan.proofs.Words.{◌∙◌, arith}
-use Rattle.jiter_scan.proofs.NumberExtents.{magnitude_of-zero, byte-got}
+use Rattle.jiter_scan.proofs.NumberSpans.{magnitude_of-zero, byte-got}
 use Rattle.jiter_scan.proofs.number_decoder.long_integer.Goals as goal
 use Rattle.jiter_scan.proofs.number_decoder.long_integer.Goals.{then-bytes-at-eq48, else-bytes-at-eq48}
 

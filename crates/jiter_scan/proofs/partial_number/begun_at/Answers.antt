@@ -4,7 +4,7 @@ use Rattle.jiter_scan.proofs.partial_number.begun_at.Goals as goal
 
 pub returns : goal.returns
 returns c =
-    let t = c.args.piece.now in
+    let t = c.args.chunk.now in
     let at = c.args.at in
     let first = c.first_stage.ensures in
     let got = c.stages_end-stage.result in

@@ -16,6 +16,5 @@ returns-in-Digits c =
     let room = c.in-Digits.room in
     let run = c.digit_run_end-in-Digits.ensures in
     let few : n ≤ c.digit_run_end-in-Digits.result - at = grind arith in
-    let most : n ≤ room = grind arith in
     subst (λ s. GoesTo s t at (stage.Digits (room - n)) (at + n)) (sym c.in-Digits.is)
-    (goes-room room n t at most (omega (arith, few, run.place)) (omega (arith, few, run.value, run.place)))
+    (goes-room room n t at (grind arith) (omega (arith, few, run.place)) (omega (arith, few, run.value, run.place)))

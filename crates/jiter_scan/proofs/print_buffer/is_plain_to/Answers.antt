@@ -1,11 +1,7 @@
-use Rattle.jiter_scan.proofs.Words.{◌≡◌, ℕ, ◌+◌, ◌-◌, ◌≤◌, sym, ap, ◌∙◌, arith, nat_le, le-leb, nat_tests}
-use Rattle.jiter_scan.proofs.Words.{count_trailing_zeros, is_plain, scan_stop}
+use Rattle.jiter_scan.proofs.Words.{◌+◌, ◌-◌, sym, ap, ◌∙◌, arith, nat_le, le-leb, nat_tests, is_plain, scan_stop}
 use Rattle.jiter_scan.proofs.Chunks.{run_end-clear, run_end-stopped}
 use Rattle.jiter_scan.proofs.Runs.{run_end-ahead}
 use Rattle.jiter_scan.proofs.print_buffer.is_plain_to.Goals as goal
-
-le-moved : (to i n : ℕ) → i ≤ to → nat_le (to - i) n ≡ nat_le to (i + n)
-le-moved to i n h = grind (arith, nat_tests, h)
 
 pub returns-then-found-ne0 : goal.returns-then-found-ne0
 returns-then-found-ne0 c =
@@ -13,7 +9,7 @@ returns-then-found-ne0 c =
     let at = c.loop-from in
     let found = c.stops-found in
     let run = run_end-stopped is_plain t at.i 16 found.result found.ensures (omega arith) (omega arith) (omega arith) in
-    le-moved c.args.to at.i (count_trailing_zeros 64 found.result) at.invariant.within
+    grind (arith, nat_tests, at.invariant.within)
     ∙ ap (nat_le c.args.to) (sym (at.invariant.same ∙ run))
 
 pub returns-then-to-i-le16 : goal.returns-then-to-i-le16

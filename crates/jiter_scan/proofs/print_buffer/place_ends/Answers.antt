@@ -1,5 +1,4 @@
-use Rattle.jiter_scan.proofs.Words.{◌-◌, length, arith}
-use Rattle.std.proofs.lemmas.List.{take_rest}
+use Rattle.jiter_scan.proofs.Words.{◌-◌, length, arith, take_rest}
 use Rattle.jiter_scan.proofs.OverlaidTexts.{ends-placed}
 use Rattle.jiter_scan.proofs.print_buffer.place_ends.Goals as goal
 

@@ -1,9 +1,7 @@
-use Rattle.jiter_scan.proofs.Words.{◌≡◌, ◌≢◌, ℕ, Bool, ◌+◌, ◌-◌, ◌<◌, ◌≤◌, ◌∙◌, ap, true, false, refl, sym, arith, subst}
-use Rattle.jiter_scan.proofs.Words.{get_or, length, List, IsTrue, Some, slice_get, slice_get-get_or}
-use Rattle.jiter_scan.proofs.Words.{count_trailing_zeros, chunk, nat_tests, is_plain, is_plain_ascii, run_end, scan_stop}
-use Rattle.jiter_scan.proofs.Words.{IsAsciiTo, failing}
-use Rattle.std.specs.Prelude.{◌↔◌}
-use Rattle.jiter_scan.specs.Scan.{IsFaultOf}
+use Rattle.jiter_scan.proofs.Words.{◌≡◌, ◌≢◌, ℕ, Bool, ◌+◌, ◌-◌, ◌<◌, ◌≤◌, ◌∙◌, ap, true, false, refl, sym, arith}
+use Rattle.jiter_scan.proofs.Words.{subst, get_or, length, List, IsTrue, Some, slice_get, slice_get-get_or}
+use Rattle.jiter_scan.proofs.Words.{count_trailing_zeros, chunk, nat_tests, is_plain, is_plain_ascii, run_end}
+use Rattle.jiter_scan.proofs.Words.{scan_stop, IsAsciiTo, failing, ◌↔◌, IsFaultOf}
 use Rattle.jiter_scan.specs.declared.errors.FaultKind.TheVariants as fault
 use Rattle.jiter_scan.proofs.AsciiRuns.{ascii-again, ascii-before, ascii-stops, ascii-through, low-stops, text-through}
 use Rattle.jiter_scan.proofs.Chunks.{run_end-near, run_end-stopped}
@@ -49,8 +47,7 @@ module _ (t : List ℕ) (i : ℕ) (inside : i ≤ length t) where
     after : {to found : ℕ × Bool} → to ≡ found → mask ≡ 0 → Scanned (i + 16) found → Stop to
     after {found} same none s =
         let clear = sym is ∙ none in
-        subst Stop (sym same)
-        (record {
+        rw same (record {
           stop = s.stop ∙ sym (text-through t i reach clear);
           within = (omega (arith, s.within.0), s.within.1);
           ascii = λ known. ascii-through t i reach clear found.0 s.stop (s.ascii.0 known);
@@ -83,8 +80,7 @@ module _ (t : List ℕ) (i : ℕ) (inside : i ≤ length t) where
       high : {to : ℕ × Bool} (e : ℕ) → to ≡ (e, false)
           → record { stop : e ≡ scan_stop t first; within : (first ≤ e) × (e ≤ length t) } → Stop to
       high e same s =
-          subst Stop (sym same)
-          (record {
+          rw same (record {
             stop = s.stop ∙ sym (ascii-again t i first inside run);
             within = (omega (arith, s.within.0), s.within.1);
             ascii = λ (no : IsTrue false). absurd (cc);

@@ -11,7 +11,7 @@ pub first_stop-stop-requires : goal.first_stop-stop-requires
 first_stop-stop-requires c =
     let t = c.args.bytes.now in
     let l = c.loop-left in
-    let p = c.put_chunk-found in
+    let p = c.put_block-found in
     let run = run_end-stopped is_plain t l.i 16 p.result.0 p.ensures.stops (omega arith) (omega arith) (omega arith) in
     omega (arith, run, run_end-within is_plain t l.i (omega (arith, l.invariant.within)))
 
@@ -20,7 +20,7 @@ returns-then-found-ne0 c =
     let t = c.args.bytes.now in
     let l = c.loop-left in
     let v = l.invariant in
-    let p = c.put_chunk-found in
+    let p = c.put_block-found in
     let f = c.first_stop-stop in
     let n = count_trailing_zeros 64 p.result.0 in
     let run = run_end-stopped is_plain t l.i 16 p.result.0 p.ensures.stops (omega arith) (omega arith) (omega arith) in
@@ -31,8 +31,8 @@ returns-then-found-ne0 c =
     let count : l.end + (f.result.0 - l.i) ≡ l.end + n = omega (arith, f.ensures.stop) in
     record {
       stop = f.ensures.stop ∙ sym stop;
-      text = ap (λ e. take e p.new.tape.items) count
-          ∙ copied-on t c.args.buffer.now.items l.buffer.items p.new.tape.items c.args.from l.i c.args.count l.end n
+      text = ap (λ e. take e p.new.buffer.items) count
+          ∙ copied-on t c.args.buffer.now.items l.buffer.items p.new.buffer.items c.args.from l.i c.args.count l.end n
           v.above (omega arith) (omega arith) v.text p.ensures.text
           ∙ ap (λ e. take c.args.count c.args.buffer.now.items ++ slice_range t c.args.from e) (sym stop);
       room = omega arith;
@@ -45,12 +45,12 @@ loop-left-preserved c =
     let t = c.args.bytes.now in
     let l = c.loop-left in
     let v = l.invariant in
-    let p = c.put_chunk-found in
+    let p = c.put_block-found in
     let run = run_end-clear is_plain t l.i 16 p.result.0 p.ensures.stops (omega arith) (omega arith) in
     let low = ascii_from-clear t l.i 16 p.result.0 p.result.1 p.ensures.stops p.ensures.highs (omega arith)
     (omega arith) in
     record {
-      text = copied-on t c.args.buffer.now.items l.buffer.items p.new.tape.items c.args.from l.i c.args.count l.end 16
+      text = copied-on t c.args.buffer.now.items l.buffer.items p.new.buffer.items c.args.from l.i c.args.count l.end 16
           v.above (omega arith) (omega arith) v.text p.ensures.text;
       stop = omega (arith, v.stop, run);
       ascii = still-ascii _ l.clean (eqb p.result.1 0) _ _ _ v.ascii low refl;
@@ -70,8 +70,7 @@ returns c =
       stop = s.ensures.stop ∙ sym v.stop;
       text = put.text
           ∙ ap (λ w. w ++ slice_range t l.i s.result.0) v.text
-          ∙ append_assoc (take c.args.count c.args.buffer.now.items) (slice_range t c.args.from l.i)
-          (slice_range t l.i s.result.0)
+          ∙ append_assoc _ (slice_range t c.args.from l.i) (slice_range t l.i s.result.0)
           ∙ ap (λ w. take c.args.count c.args.buffer.now.items ++ w)
           (sym (slice_range-split t c.args.from l.i v.above s.result.0
           (omega (arith, s.ensures.stop, run_end-ahead is_plain t l.i))))

@@ -1,14 +1,10 @@
 use Rattle.jiter_scan.proofs.Words.{◌≡◌, ◌∙◌, ℕ, ◌&&◌, Bool, true, false, ap, arith, refl, sym, nat_le, w64}
-use Rattle.std.specs.Int.{trailing_zeros}
-use Rattle.std.proofs.lemmas.Nat.{trailing_le}
-use Rattle.std.specs.Int.Count.{trailing_of_zero}
+use Rattle.jiter_scan.proofs.Words.{trailing_zeros, trailing_le, trailing_of_zero}
 use Rattle.jiter_scan.proofs.simd.first_stop.Goals as goal
 
 -- a mask without a bit is clear below any other's lowest
 clear : (found high : ℕ) → high ≡ 0 → nat_le (trailing_zeros w64 found) (trailing_zeros w64 high) ≡ true
-clear found high none =
-    let most = ap (trailing_zeros w64) none ∙ trailing_of_zero 64 in
-    grind (arith, most, trailing_le 64 found)
+clear found high none = grind (arith, ap (trailing_zeros w64) none ∙ trailing_of_zero 64, trailing_le 64 found)
 
 and-true : (a b : Bool) → b ≡ true → a ≡ (a && b)
 and-true true b h = sym h

@@ -1,6 +1,5 @@
-use Rattle.jiter_scan.proofs.Words.{◌≡◌, ◌&&◌, false, get_or, not, ap, refl, sym, ◌∙◌, arith, nat_tests, is_plain, is_ascii}
-use Rattle.jiter_scan.specs.Scan.{is_stop}
-use Rattle.std.proofs.Math.Bool.{and-true}
+use Rattle.jiter_scan.proofs.Words.{◌≡◌, ◌&&◌, false, get_or, not, ap, refl, sym, ◌∙◌, arith, nat_tests, is_plain}
+use Rattle.jiter_scan.proofs.Words.{is_ascii, is_stop, and-true}
 use Rattle.jiter_scan.proofs.Runs.{run_end-passing, run_end-past}
 use Rattle.jiter_scan.proofs.PlainRuns.{ascii_from-byte, ascii_from-stop, still-ascii}
 use Rattle.jiter_scan.proofs.simd.scan_bytes.Goals as goal

@@ -56,12 +56,11 @@ returns-then-found-eq0 c =
     let high = c.highs.result / 2 ^ (i - (length t - 16)) in
     let stops = last-bits is_plain t i c.stops.result (omega arith) (omega arith) (omega arith) c.stops.ensures in
     let highs = last-bits is_ascii t i c.highs.result (omega arith) (omega arith) (omega arith) c.highs.ensures in
-    let run = run_end-clear is_plain t i n found stops (omega arith) (omega arith) in
     let ahead = run_end-ahead is_plain t (i + n) in
     let end = run_end-within is_plain t (i + n) (omega arith) in
     let low = ascii_from-clear t i n found high stops highs (omega arith) (omega arith) in
     let after = ascii_from-stop t (i + n) (omega (arith, ahead, end)) in
     record {
-      stop = omega (arith, run, ahead, end);
+      stop = omega (arith, run_end-clear is_plain t i n found stops (omega arith) (omega arith), ahead, end);
       ascii = ap (λ b. c.args.ascii && b) (sym (low ∙ ap (λ b. eqb high 0 && b) after ∙ and-true (eqb high 0)));
     }

@@ -7,7 +7,7 @@ pub loop-i-preserved : goal.loop-i-preserved
 loop-i-preserved c =
     let t = c.args.bytes.now in
     let i = c.loop-i.i in
-    let found = c.is_plain_chunk-plain in
+    let found = c.is_plain_blocks-plain in
     let plain = sym found.ensures.plain ∙ c.if-not-plain.false in
     let run = prefix_len-through is_plain t i 64 (omega arith) plain in
     let low = ascii_from-through t i 64 (omega arith) plain

@@ -22,5 +22,4 @@ returns-in-False-clause-value c =
     let h = c.if-has_four-3.ensures in
     let first = got t i c.requires ∙ ap Some c.if-bytes-at-eq102.true in
     rw c.in-False.is (plain-letter t 102 (97 ∷ 108 ∷ 115 ∷ 101 ∷ []) i (i + 1) first refl
-    ∙ plain-four t 97 108 115 101 (i + 1) (i + 5) (h.first refl) (h.second refl) (h.third refl) (h.fourth refl)
-    (omega arith))
+    ∙ plain-four t 97 108 115 101 _ (i + 5) (h.first refl) (h.second refl) (h.third refl) (h.fourth refl) (omega arith))

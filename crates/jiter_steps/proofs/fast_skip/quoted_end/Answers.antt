@@ -10,8 +10,7 @@ bounds-bytes-to c =
     let i = c.args.at + 1 in
     let found = c.stops-found in
     let stop = run_end-stopped is_plain t i 16 found.result found.ensures (omega arith) (omega arith) (omega arith) in
-    let near = run_end-near is_plain t i 16 found.result found.ensures (omega arith) (omega arith) in
-    omega (arith, stop, near)
+    omega (arith, stop, run_end-near is_plain t i 16 found.result found.ensures (omega arith) (omega arith))
 
 pub returns-then-bytes-to-eq34-clause-value : goal.returns-then-bytes-to-eq34-clause-value
 returns-then-bytes-to-eq34-clause-value c =
@@ -26,8 +25,7 @@ returns-then-bytes-to-eq34-clause-value c =
 pub closed_end-requires-clause-plain : goal.closed_end-requires-clause-plain
 closed_end-requires-clause-plain c =
     let found = c.stops-found in
-    run_end-clear is_plain c.args.bytes.now (c.args.at + 1) 16 found.result found.ensures (omega arith)
-    c.if-found-eq0.true
+    run_end-clear is_plain c.args.bytes.now _ 16 found.result found.ensures (omega arith) c.if-found-eq0.true
 
 pub closed_end-requires-else-bytes-to-eq34-clause-within :
     goal.closed_end-requires-else-bytes-to-eq34-clause-within

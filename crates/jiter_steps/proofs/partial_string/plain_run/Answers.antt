@@ -4,11 +4,10 @@ use Rattle.jiter_steps.proofs.partial_string.plain_run.Goals as goal
 
 pub returns-clause-plain : goal.returns-clause-plain
 returns-clause-plain c =
-    let near = take (c.args.at + c.min.result) c.args.piece.now in
-    prefix_len-pass is_plain (c.string_stop.result - c.args.at) (drop c.args.at near)
-    (omega (arith, c.string_stop.ensures.stop))
+    let near = take (c.args.at + c.min.result) c.args.chunk.now in
+    prefix_len-pass is_plain _ (drop c.args.at near) (omega (arith, c.string_stop.ensures.stop))
 
 pub returns-clause-is : goal.returns-clause-is
 returns-clause-is c =
-    near-range c.args.piece.now c.args.at (c.args.at + c.min.result) c.string_stop.result (omega arith)
+    near-range c.args.chunk.now c.args.at (c.args.at + c.min.result) c.string_stop.result (omega arith)
     c.string_stop.ensures.within.0 c.string_stop.ensures.within.1

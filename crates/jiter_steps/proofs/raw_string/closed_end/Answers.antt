@@ -7,6 +7,5 @@ returns-in-Some-eq34-clause-value c =
     let t = c.args.bytes.now in
     let i = c.args.at + 1 in
     let e = c.rest_end-end in
-    let r = c.requires in
-    let over = raw-over_after t i c.args.from e.result (omega arith) (omega arith) r.plain e.ensures.over in
+    let over = raw-over_after t i c.args.from e.result (omega arith) (omega arith) c.requires.plain e.ensures.over in
     ap (seen_as (λ s k. tt {0})) (raw-closed t false i e.result over (cc))

@@ -10,14 +10,14 @@ unreachable-requires c =
 pub returns-in-End-Wrong : goal.returns-in-End-Wrong
 returns-in-End-Wrong c =
     let here = rw c.in-End-Wrong.field-0-is at c.in-End-Wrong.ensures in
-    λ i keep o h. raw-by c.args.bytes.now (raw_form keep) i c.args.at _ o here
+    λ i partial o h. raw-by c.args.bytes.now (raw_form partial) i c.args.at _ o here
 
 pub returns-in-End-Unclosed : goal.returns-in-End-Unclosed
 returns-in-End-Unclosed c =
     let here = rw c.in-End-Unclosed.field-0-is at c.in-End-Unclosed.ensures in
-    λ i keep o h. rw c.cut_short.ensures (raw-no_quote c.args.bytes.now keep i c.args.at o here h)
+    λ i partial o h. rw c.cut_short.ensures (raw-no_quote c.args.bytes.now partial i c.args.at o here h)
 
 pub returns-in-End-Cut : goal.returns-in-End-Cut
 returns-in-End-Cut c =
     let here = rw c.in-End-Cut.field-0-is at c.in-End-Cut.ensures in
-    λ i keep o h. rw c.cut_short-in-End-Cut.ensures (raw-cut c.args.bytes.now keep i c.args.at o here)
+    λ i partial o h. rw c.cut_short-in-End-Cut.ensures (raw-cut c.args.bytes.now partial i c.args.at o here)

@@ -1,4 +1,4 @@
-use Rattle.jiter_steps.proofs.Words.{◌∙◌, ap, sym, arith, inside, only_ends, value_from, done, frame_of, open_frames}
+use Rattle.jiter_steps.proofs.Words.{◌∙◌, ap, sym, arith, inside, only_ends, value_from, done}
 use Rattle.jiter_steps.proofs.Calls.Skipping.{first_inside-is, value_from-limit, length-open_frames, open_frames-opens}
 use Rattle.jiter_steps.proofs.skip.begin.Goals as goal
 
@@ -10,8 +10,7 @@ returns-then-nest-eq-NESTING_LIMIT-clause-value c = λ names.
     rw c.fault_at.ensures
     (first_inside-is names p.bytes.now c.args.shape n.kinds n.depth p.index _ (omega arith) c.requires.within
     c.requires.bracket (ap (inside c.args.shape p.bytes.now) c.first.ensures.is ∙ c.in-Ok-true.ensures.value ∙ ap (λ more. done more m) c.in-Ok-true.field-0-test)
-    ∙ value_from-limit names p.bytes.now (frame_of c.args.shape) (open_frames n.kinds n.depth) m
-    (length-open_frames n.kinds n.depth ∙ c.if-nest-eq-NESTING_LIMIT.true))
+    ∙ value_from-limit names p.bytes.now _ _ m (length-open_frames n.kinds n.depth ∙ c.if-nest-eq-NESTING_LIMIT.true))
 
 pub returns-else-nest-eq-NESTING_LIMIT-clause-value : goal.returns-else-nest-eq-NESTING_LIMIT-clause-value
 returns-else-nest-eq-NESTING_LIMIT-clause-value c = λ names.

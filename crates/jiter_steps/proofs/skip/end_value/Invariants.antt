@@ -1,9 +1,9 @@
-use Rattle.jiter_steps.proofs.Words.{◌≡◌, Bool, only_ends, resume, Moves, done, open_frames}
+use Rattle.jiter_steps.proofs.Words.{◌≡◌, Bool, only_ends, resume, NeverMovesBack, done, open_frames}
 use Rattle.jiter_steps.proofs.skip.end_value.Given as goal
 
 abbrev pub invariant-closing : goal.invariant-closing
 invariant-closing l = record {
-  moves : Moves l.fn.parser l.parser;
+  moves : NeverMovesBack l.fn.parser l.parser;
   same : (names : Bool)
       → resume (only_ends names) l.fn.parser.bytes.now (open_frames l.fn.nest.kinds l.fn.nest.depth)
       (done tt l.fn.parser.index)

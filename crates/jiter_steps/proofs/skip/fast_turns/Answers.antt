@@ -11,13 +11,12 @@ returns-then-not-more-clause-leads c = λ names.
     let t = c.args.bytes.now in
     let l = c.turns in
     let nest = c.fast_open.new.nest in
-    let fs = open_frames nest.kinds l.depth in
     let r = c.fast_after-next.result in
     let e = c.in-Some-fast_value_end in
     l.invariant.same names
     ∙ ap (λ n. value_from (only_ends names) t (open_frames n.kinds l.depth) l.at)
     (sym (c.in_default.ensures.same refl))
-    ∙ plain-passed names t fs l.at e.end
+    ∙ plain-passed names t (open_frames nest.kinds l.depth) l.at e.end
     (omega (arith, length-open_frames nest.kinds l.depth, l.invariant.few)) e.ensures.value
     ∙ continues-told names t (open_frames nest.kinds r.1) r.2 false r.0 _ c.if-not-more.true
     (c.fast_after-next.ensures.leads names)
@@ -27,11 +26,9 @@ turns-preserved c =
     let t = c.args.bytes.now in
     let l = c.turns in
     let nest = c.fast_open.new.nest in
-    let fs = open_frames nest.kinds l.depth in
     let a = c.fast_after-next in
     let e = c.in-Some-fast_value_end in
-    let gs = open_frames nest.kinds a.result.1 in
-    let told = λ (names : Bool). continues-told names t gs a.result.2 true a.result.0 _
+    let told = λ (names : Bool). continues-told names t (open_frames nest.kinds a.result.1) a.result.2 true a.result.0 _
     c.if-not-more.false (a.ensures.leads names) in
     record {
       place = (omega (arith, l.invariant.place.0, a.ensures.place.0, e.ensures.within.0), (told false).1);
@@ -39,7 +36,7 @@ turns-preserved c =
       same = λ names. l.invariant.same names
           ∙ ap (λ n. value_from (only_ends names) t (open_frames n.kinds l.depth) l.at)
           (sym (c.in_default.ensures.same refl))
-          ∙ plain-passed names t fs l.at e.end
+          ∙ plain-passed names t (open_frames nest.kinds l.depth) l.at e.end
           (omega (arith, length-open_frames nest.kinds l.depth, l.invariant.few)) e.ensures.value
           ∙ (told names).0;
     }

@@ -9,7 +9,7 @@ use Rattle.jiter_steps.proofs.string_decoder.checked_count.Goals as goal
 pub returns-then-known-clause-value : goal.returns-then-known-clause-value
 returns-then-known-clause-value c = λ i e o.
     let bs = c.args.content.now in
-    rw (take_all (length bs) bs (omega arith)) (string-checked i e o bs c.args.keep (c.requires c.if-known.true))
+    rw (take_all (length bs) bs (omega arith)) (string-checked i e o bs c.args.partial (c.requires c.if-known.true))
 
 -- what the bytes are, by their first n, which are a text, and by the rest
 module _ (d : List ℕ) (n : ℕ) (within : n ≤ length d) (utf8 : IsUtf8 (take n d)) (i e : ℕ) (o : Bool) where
@@ -19,8 +19,8 @@ module _ (d : List ℕ) (n : ℕ) (within : n ≤ length d) (utf8 : IsUtf8 (take
   index : ◌≡◌ {A = Scanned Text} (failed invalid_code_point (i + length (take n d))) (failed invalid_code_point (i + n))
   index = let count : length (take n d) ≡ n = omega (arith, length-take n d) in ap (λ k. failed invalid_code_point (i + k)) count
 
-  broken-part : IsBroken (drop n d) → (keep : Bool) → checked keep i o d e ≡ failed invalid_code_point (i + n)
-  broken-part wrong keep = broken-fails (take n d) [] d utf8 i e o (drop n d, parts, wrong) keep ∙ index
+  broken-part : IsBroken (drop n d) → (partial : Bool) → checked partial i o d e ≡ failed invalid_code_point (i + n)
+  broken-part wrong partial = broken-fails (take n d) [] d utf8 i e o (drop n d, parts, wrong) partial ∙ index
 
   kept-part : IsUnfinished (drop n d) → checked true i o d e ≡ taken (record { owned = o; bytes = take n d }) e
   kept-part rest = open-kept (take n d) (drop n d) d utf8 i e o (parts, rest)
@@ -41,22 +41,22 @@ pub returns-then-wrong-clause-value : goal.returns-then-wrong-clause-value
 returns-then-wrong-clause-value c = λ i e o.
     let v = c.valid_utf8_end-count in
     broken-part c.args.content.now v.result.0 v.ensures.within v.ensures.prefix i e o (v.ensures.wrong c.if-wrong.true)
-    c.args.keep
+    c.args.partial
 
-pub returns-then-keep-clause-value : goal.returns-then-keep-clause-value
-returns-then-keep-clause-value c = λ i e o.
+pub returns-then-partial-clause-value : goal.returns-then-partial-clause-value
+returns-then-partial-clause-value c = λ i e o.
     let v = c.valid_utf8_end-count in
-    rw c.if-keep.true (kept-part c.args.content.now v.result.0 v.ensures.within v.ensures.prefix i e o
+    rw c.if-partial.true (kept-part c.args.content.now v.result.0 v.ensures.within v.ensures.prefix i e o
     (v.ensures.open c.if-wrong.false))
 
 pub returns-then-count-content-clause-value : goal.returns-then-count-content-clause-value
 returns-then-count-content-clause-value c = λ i e o.
     let v = c.valid_utf8_end-count in
-    rw c.if-keep.false (all-part c.args.content.now v.result.0 v.ensures.within v.ensures.prefix i e o
+    rw c.if-partial.false (all-part c.args.content.now v.result.0 v.ensures.within v.ensures.prefix i e o
     (v.ensures.open c.if-wrong.false) c.if-count-content.true)
 
 pub returns-else-count-content-clause-value : goal.returns-else-count-content-clause-value
 returns-else-count-content-clause-value c = λ i e o.
     let v = c.valid_utf8_end-count in
-    rw c.if-keep.false (cut-part c.args.content.now v.result.0 v.ensures.within v.ensures.prefix i e o
+    rw c.if-partial.false (cut-part c.args.content.now v.result.0 v.ensures.within v.ensures.prefix i e o
     (v.ensures.open c.if-wrong.false) c.if-count-content.false)

@@ -1,11 +1,10 @@
-use Rattle.jiter_steps.proofs.Words.{◌+◌, ◌++◌, ◌∙◌, ap, arith, take, encode_utf8}
-use Rattle.std.proofs.lemmas.Grind.{take-set_at}
+use Rattle.jiter_steps.proofs.Words.{◌+◌, ◌++◌, ◌∙◌, ap, arith, take, encode_utf8, take-set_at}
 use Rattle.jiter_steps.proofs.Calls.DecodeSteps.{encode-sign}
 use Rattle.jiter_steps.proofs.string_decoder.put_escape.Goals as goal
 
 pub returns-then-sign-ne0-clause-put : goal.returns-then-sign-ne0-clause-put
 returns-then-sign-ne0-clause-put c =
-    let items = c.args.tape.now.items in
+    let items = c.args.buffer.now.items in
     let end = c.args.end in
     let sign = c.simple_escape_at-sign in
     record {

@@ -9,8 +9,7 @@ use Rattle.jiter_steps.proofs.string_decoder.string_from.Goals as goal
 pub utf8_text-requires : goal.utf8_text-requires
 utf8_text-requires c =
     let found = c.args.found in
-    let means = subst (IsLook c.args.bytes.now (c.args.at + 1) found.0) c.in_default-Plain.is-1 c.requires.found in
-    plain-utf8 _ means.1
+    plain-utf8 _ (subst (IsLook c.args.bytes.now (c.args.at + 1) found.0) c.in_default-Plain.is-1 c.requires.found).1
 
 pub returns-in_default-Plain-clause-value : goal.returns-in_default-Plain-clause-value
 returns-in_default-Plain-clause-value c =
@@ -18,7 +17,7 @@ returns-in_default-Plain-clause-value c =
     let at = c.args.at in
     let found = c.args.found in
     let means = subst (IsLook t (at + 1) found.0) c.in_default-Plain.is-1 c.requires.found in
-    rw c.utf8_text.ensures (look-plain t at found.0 c.requires.within c.requires.stop means c.args.keep)
+    rw c.utf8_text.ensures (look-plain t at found.0 c.requires.within c.requires.stop means c.args.partial)
 
 pub returns-in_default-Plain-clause-advances : goal.returns-in_default-Plain-clause-advances
 returns-in_default-Plain-clause-advances c =
@@ -34,31 +33,30 @@ returns-in_default-Utf8-clause-value c =
     let at = c.args.at in
     let found = c.args.found in
     let means = subst (IsLook t (at + 1) found.0) c.in_default-Utf8.is-1 c.requires.found in
-    rw (look-checked t at found.0 c.requires.within c.requires.stop means c.args.keep) c.borrow_text.ensures.value
+    rw (look-checked t at found.0 c.requires.within c.requires.stop means c.args.partial) c.borrow_text.ensures.value
 
 pub returns-in_default-Utf8-clause-advances : goal.returns-in_default-Utf8-clause-advances
 returns-in_default-Utf8-clause-advances c =
-    string-advances c.args.bytes.now c.args.at c.requires.within (text_form c.args.keep) c.borrow_text.result
+    string-advances c.args.bytes.now c.args.at c.requires.within (text_form c.args.partial) c.borrow_text.result
     (returns-in_default-Utf8-clause-value c)
 
 pub returns-in_default-Escaped-clause-advances : goal.returns-in_default-Escaped-clause-advances
 returns-in_default-Escaped-clause-advances c =
-    string-advances c.args.bytes.now c.args.at c.requires.within (text_form c.args.keep) c.decode_text.result
-    c.decode_text.ensures
+    string-advances c.args.bytes.now c.args.at c.requires.within _ c.decode_text.result c.decode_text.ensures
 
 pub returns-then-to-bytes-clause-value : goal.returns-then-to-bytes-clause-value
 returns-then-to-bytes-clause-value c =
     let found = c.args.found in
     let kept = look-ended c.args.bytes.now c.args.at found.0 c.requires.within c.requires.stop c.if-to-bytes.true in
-    rw (c.if-keep.true, kept) (rw c.if-keep.true at c.borrow_text-then-to-bytes.ensures.value)
+    rw (c.if-partial.true, kept) (rw c.if-partial.true at c.borrow_text-then-to-bytes.ensures.value)
 
-pub returns-else-keep-clause-value : goal.returns-else-keep-clause-value
-returns-else-keep-clause-value c =
+pub returns-else-partial-clause-value : goal.returns-else-partial-clause-value
+returns-else-partial-clause-value c =
     let t = c.args.bytes.now in
     let at = c.args.at in
     let found = c.args.found in
     let fault = c.in_default-Fault in
     let means = subst (IsLook t (at + 1) found.0) fault.is-1 c.requires.found in
-    let more : c.args.keep ≡ true → found.0 ≢ length t =
-    λ kept. elim c.else-keep.either [ inl unended ↦ unended.1 | inr whole ↦ absurd (false≢true (sym whole ∙ kept)) ] in
-    rw c.fault_at.ensures (look-unkept t at found.0 c.requires.within c.requires.stop c.args.keep fault.kind means more)
+    let more : c.args.partial ≡ true → found.0 ≢ length t =
+    λ kept. elim c.else-partial.either [ inl unended ↦ unended.1 | inr whole ↦ absurd (false≢true (sym whole ∙ kept)) ] in
+    rw c.fault_at.ensures (look-unkept t at found.0 c.requires.within c.requires.stop c.args.partial fault.kind means more)

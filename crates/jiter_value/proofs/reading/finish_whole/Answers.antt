@@ -12,7 +12,7 @@ returns-in_default-clause-value g c =
     let a = c.args in
     let on = active a.settings.mode c.in_default.not-Off in (
       _,
-      answer-prefix (rules_as g.T.StringStorage.made a.settings) a.settings.mode a.parser.now.bytes.now c.requires.begins
+      answer-prefix (rules_as g.T.StringStorage.policy a.settings) a.settings.mode a.parser.now.bytes.now c.requires.begins
           _ _ c.requires.value on,
     )
 
@@ -22,7 +22,7 @@ returns-clause-value g c =
     let off = ap is_active c.in-Off.is in
     let ends = c.in_ok-finish.ensures.value in (
       _,
-      answer-end (rules_as g.T.StringStorage.made a.settings) a.settings.mode a.parser.now.bytes.now c.requires.begins
+      answer-end (rules_as g.T.StringStorage.policy a.settings) a.settings.mode a.parser.now.bytes.now c.requires.begins
           _ _ c.requires.value _ off ends,
     )
 
@@ -32,6 +32,6 @@ returns-in_err-finish-clause-value g c =
     let off = ap is_active c.in-Off.is in
     let e = err_from_is_err_and c.from_residual.result c.from_residual.ensures.1 in
     rw (e.1, e.2)
-    (answer-trailing (rules_as g.T.StringStorage.made a.settings) a.settings.mode a.parser.now.bytes.now c.requires.begins
+    (answer-trailing (rules_as g.T.StringStorage.policy a.settings) a.settings.mode a.parser.now.bytes.now c.requires.begins
     _ _ c.requires.value _ _
     c.finish.new.self.index off c.in_err-finish.ensures.value)

@@ -1,4 +1,4 @@
-use Rattle.jiter_value.proofs.Words.{subst, Gives, view}
+use Rattle.jiter_value.proofs.Words.{subst, Returns, view}
 use Rattle.jiter_value.proofs.MadeTexts.{value_at-it_is}
 use Rattle.jiter_value.proofs.TurnOutcomes.{refused-weaker, grows-borrowing}
 use Rattle.jiter_value.proofs.reading.read_value.Goals as goal
@@ -6,7 +6,7 @@ use Rattle.jiter_value.proofs.reading.read_value.Goals as goal
 pub returns-clause-value : goal.returns-clause-value
 returns-clause-value c =
     let a = c.args in
-    subst (Gives view c.run.result c.run.new.parser.index)
+    subst (Returns view c.run.result c.run.new.parser.index)
     (value_at-it_is a.settings a.parser.now.bytes.now 200 a.parser.now.index) (rw c.new-reading.ensures.settings at c.run.ensures.value)
 
 pub returns-clause-memory : goal.returns-clause-memory

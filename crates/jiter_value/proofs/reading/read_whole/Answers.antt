@@ -7,7 +7,7 @@ returns-in_err-go-clause-value g c =
     let a = c.args in
     let e = err_from_is_err_and c.from_residual.result c.from_residual.ensures.1 in
     rw (e.1, e.2)
-    (answer-none (rules_as g.T.StringStorage.made a.reading.now.settings) a.reading.now.settings.mode a.parser.now.bytes.now _ _
+    (answer-none (rules_as g.T.StringStorage.policy a.reading.now.settings) a.reading.now.settings.mode a.parser.now.bytes.now _ _
     c.go.new.self.index
     (rw c.requires.begins at c.value_first.ensures.value ∙ c.in_err-go.ensures.value.0, c.in_err-go.ensures.value.1))
 
@@ -33,6 +33,6 @@ returns-in_err-value-clause-value g c =
     (rw c.requires.begins at c.value_first.ensures.value ∙ begun.value) in
     let e = err_from_is_err_and c.from_residual-in_err-value.result c.from_residual-in_err-value.ensures.1 in
     rw (e.1, e.2)
-    (answer-refused (rules_as g.T.StringStorage.made c.args.reading.now.settings) c.args.reading.now.settings.mode t
+    (answer-refused (rules_as g.T.StringStorage.policy c.args.reading.now.settings) c.args.reading.now.settings.mode t
     (rw at inside) _ c.run.new.parser.index
     (rw at (rw first at c.in_err-value.ensures.value)))

@@ -14,11 +14,11 @@ returns-in_ok-put-in-Array-clause-value c =
     let items = c.in_ok-items-in-Array in
     let below = ap (λ ys. frames o.outer (reverse c.pop.new.self.items) ys s.members.items) items.ensures.rest in
     rw c.in-Array.is
-    (λ made p t e. container-closes made p t shape.Array s.nest.items c.pop.new.self.items o s.items.items
+    (λ policy p t e. container-closes policy p t shape.Array s.nest.items c.pop.new.self.items o s.items.items
     s.members.items _ _ e
     c.in-Some.ensures.items below
     (view_array items.items ∙ ap (λ xs. array (items_of (map view xs))) items.ensures.value)
-    ∙ c.in_ok-put-in-Array.ensures.value made p t e)
+    ∙ c.in_ok-put-in-Array.ensures.value policy p t e)
 
 pub returns-in_ok-put-in-Object-clause-value : goal.returns-in_ok-put-in-Object-clause-value
 returns-in_ok-put-in-Object-clause-value c =
@@ -27,11 +27,11 @@ returns-in_ok-put-in-Object-clause-value c =
     let members = c.in_ok-members-in-Object in
     let below = ap (frames o.outer (reverse c.pop.new.self.items) s.items.items) members.ensures.rest in
     rw c.in-Object.is
-    (λ made p t e. container-closes made p t shape.Object s.nest.items c.pop.new.self.items o s.items.items
+    (λ policy p t e. container-closes policy p t shape.Object s.nest.items c.pop.new.self.items o s.items.items
     s.members.items _ _ e
     c.in-Some.ensures.items below
     (c.object_of.ensures ∙ ap (λ xs. object (members_of (map member_view xs))) members.ensures.value)
-    ∙ c.in_ok-put-in-Object.ensures.value made p t e)
+    ∙ c.in_ok-put-in-Object.ensures.value policy p t e)
 
 pub returns-in_ok-put-in-Array-clause-held : goal.returns-in_ok-put-in-Array-clause-held
 returns-in_ok-put-in-Array-clause-held c =

@@ -8,7 +8,7 @@ pub returns-in-Item-clause-value : goal.returns-in-Item-clause-value
 returns-in-Item-clause-value c =
     let s = c.args.stacks.now in
     rw (c.in-Item.is, c.push_reserved.ensures.items)
-    (λ made p t e. put-item made p t (reverse s.nest.items) s.items.items s.members.items s.root c.args.value e
+    (λ policy p t e. put-item policy p t (reverse s.nest.items) s.items.items s.members.items s.root c.args.value e
     (rw c.in-Item.is at c.requires.stands))
 
 pub returns-in-Item-clause-held : goal.returns-in-Item-clause-held
@@ -29,7 +29,7 @@ returns-in-Member c =
     let before = take (length ms - 1) ms in
     let set = c.set_last.ensures.value before last.0.0 last.0.1 last.1 in
     rw c.in-Member.is (record {
-      value = rw (last.1, set) (λ made p t e. put-value made p t os es before last.0 s.root v e last.2);
+      value = rw (last.1, set) (λ policy p t e. put-value policy p t os es before last.0 s.root v e last.2);
       stands = rw set (key-above os (length es) before (last.0.0, v) last.2);
       nest = search library_rules;
       held = rw (last.1, set) (put-value-size os es before last.0 s.root v last.2);

@@ -11,7 +11,7 @@ returns-then-input-eq0-clause-rows c = λ options t h is.
     let text : c.as_slice-then-input-eq0.result.now ≡ pretty_of 2 (view c.in-Ok.value.now) =
     c.as_slice-then-input-eq0.ensures.value ∙ c.in_ok-text.ensures.text in
     if-ok c.append-then-input-eq0.result c.append-then-input-eq0.ensures.rows (λ rows.
-    rows ∙ whole-told options input.document t h c.args.rows.now.width input.extent.depth (filled c.args.rows.now)
+    rows ∙ whole-told options input.document t h c.args.rows.now.width input.span.depth (filled c.args.rows.now)
     c.in-Ok.value.now c.in-Ok.ensures _ text c.if-input-eq0.true)
 
 pub returns-clause-rows : goal.returns-clause-rows
@@ -20,5 +20,5 @@ returns-clause-rows c = λ options t h is.
     let text : c.as_slice-2.result.now ≡ pretty_of 2 (view c.in-Ok.value.now) =
     c.as_slice-2.ensures.value ∙ c.in_ok-text.ensures.text in
     if-ok c.append_marked.result c.append_marked.ensures.rows (λ rows.
-    rows ∙ marked-told options input.document t h c.args.rows.now.width input.extent.depth (filled c.args.rows.now)
+    rows ∙ marked-told options input.document t h c.args.rows.now.width input.span.depth (filled c.args.rows.now)
     c.in-Ok.value.now c.in-Ok.ensures _ text c.if-input-eq0.false)

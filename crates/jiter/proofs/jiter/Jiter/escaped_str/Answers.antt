@@ -21,7 +21,7 @@ invariant_of-self-inside-in-Err c =
 
 pub returns-in-Some : goal.returns-in-Some
 returns-in-Some c =
-    let text : c.utf8_text.result.now ≡ take c.in-Ok.count c.decode-read.new.tape.items = cc in
+    let text : c.utf8_text.result.now ≡ take c.in-Ok.count c.decode-read.new.buffer.items = cc in
     let reads = decoded _ c.args.self.now c.args.at c.in-Ok.end _ c.utf8_text.result
     c.self.view_is c.requires.place c.requires.quote c.in-Ok.ensures.value text in
     ((refl, (λ _. tt), reads), record { reads = (_, reads); after = tt })

@@ -1,4 +1,4 @@
-use Rattle.jiter_incremental.proofs.Words.{length, None, ◌+◌, ◌-◌, ◌*◌, ◌≡◌, ◌<◌, ◌≤◌, Went, view}
+use Rattle.jiter_incremental.proofs.Words.{length, None, ◌+◌, ◌-◌, ◌*◌, ◌≡◌, ◌<◌, ◌≤◌, Advanced, view}
 use Rattle.jiter_incremental.proofs.reader.Reader.+read.Given as goal
 
 -- Each byte taken opens at most one container, and each call goes one nearer to the innermost.
@@ -10,7 +10,7 @@ decreases-parts l = 2 * (2 * (length l.chunk.now - l.self.now.at) + (l.self.now.
 
 abbrev pub invariant-parts-loop-self : goal.invariant-parts-loop-self
 invariant-parts-loop-self l = record {
-  went : Went l.level l.chunk l.initial.self (view l.initial.slot) l.self (view l.slot);
+  went : Advanced l.level l.chunk l.initial.self (view l.initial.slot) l.self (view l.slot);
   unset : l.self.at < length l.chunk → l.level < l.self.depth → l.self.fault ≡ None;
   nearer : l.self.at < length l.chunk → 2 * (length l.chunk - l.self.at) + (l.self.depth - l.level)
       ≤ 2 * (length l.chunk - l.initial.self.at) + (l.initial.self.depth - l.level);

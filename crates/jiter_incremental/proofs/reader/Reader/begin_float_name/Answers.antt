@@ -1,6 +1,6 @@
 use Rattle.jiter_incremental.proofs.Words.{◌∙◌, ap, subst, sym, ne_eqb, slice_index, view, WordBegins, Steps, refused}
 use Rattle.jiter_scan.specs.declared.errors.FaultKind.TheVariants as fault_of
-use Rattle.jiter_incremental.specs.declared.names.Name.TheVariants as name
+use Rattle.jiter_incremental.specs.declared.names.WordValue.TheVariants as name
 use Rattle.jiter_incremental.proofs.Documents.Tokens.{infinity-begins, infinity-first, nan-begins}
 use Rattle.jiter_incremental.proofs.NumberBegins.{name-of, name-refused}
 use Rattle.jiter_incremental.proofs.Placing.{word-step}

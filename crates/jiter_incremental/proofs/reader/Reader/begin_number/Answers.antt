@@ -9,7 +9,7 @@ returns-in_err-begin-clause-stays c =
     let i = c.args.self.now in
     if-refused c.from_residual.result
     (stays-so c.args.level c.args.chunk.now i (view c.args.slot.now) c.requires.here c.requires.token
-    c.requires.awaited.free c.begin.new.self i.tape)
+    c.requires.awaited.free c.begin.new.self i.buffer)
 
 pub returns-clause-steps : goal.returns-clause-steps
 returns-clause-steps c =

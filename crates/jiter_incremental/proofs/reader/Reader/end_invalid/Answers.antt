@@ -1,7 +1,7 @@
-use Rattle.jiter_incremental.proofs.Words.{◌+◌, ◌∙◌, ap, refl, subst, sym, slice_index, Leads, view, Steps, refused}
+use Rattle.jiter_incremental.proofs.Words.{◌+◌, ◌∙◌, ap, refl, subst, sym, slice_index, StepsTo, view, Steps, refused}
 use Rattle.jiter_incremental.proofs.Words.{Reader}
 use Rattle.jiter_scan.specs.declared.errors.FaultKind.TheVariants as fault_of
-use Rattle.jiter_scan.specs.declared.partial_number.Went.TheVariants as went
+use Rattle.jiter_scan.specs.declared.partial_number.NumberStep.TheVariants as went
 use Rattle.jiter_incremental.proofs.NumberSteps.{invalid-only, number-wrong}
 use Rattle.jiter_incremental.proofs.reader.Reader.end_invalid.Goals as goal
 
@@ -14,7 +14,7 @@ returns-in-TooLong c =
     let is = c.refuse.ensures ∙ ap (λ n. refused i kind (n + 1)) c.position.ensures in
     subst (λ (j : Reader). Steps c.args.level chunk i v j v 1) (sym is)
     (number-wrong c.args.level chunk i v c.requires.here c.requires.hidden c.requires.token kind went.TooLong (i.base + i.at + 1) refl
-    (subst (Leads i.number.stage (slice_index chunk i.at)) c.in-TooLong.is c.requires.leads) (λ names u. refl))
+    (subst (StepsTo i.number.stage (slice_index chunk i.at)) c.in-TooLong.is c.requires.leads) (λ names u. refl))
 
 pub returns-in_default : goal.returns-in_default
 returns-in_default c =
@@ -26,4 +26,4 @@ returns-in_default c =
     let invalid = invalid-only c.args.went c.requires.wrong c.in_default.not-TooLong in
     subst (λ (j : Reader). Steps c.args.level chunk i v j v 1) (sym is)
     (number-wrong c.args.level chunk i v c.requires.here c.requires.hidden c.requires.token kind went.Invalid (i.base + i.at) refl
-    (subst (Leads i.number.stage (slice_index chunk i.at)) invalid c.requires.leads) (λ names u. refl))
+    (subst (StepsTo i.number.stage (slice_index chunk i.at)) invalid c.requires.leads) (λ names u. refl))

@@ -11,19 +11,19 @@ returns-in_err-text-clause-stays c =
     let i = c.args.self.now in
     if-refused c.from_residual.result
     (stays-so c.args.level c.args.chunk.now i (view c.args.slot.now) c.requires.here c.requires.token
-    c.requires.awaited.free i.number c.text_within.new.tape)
+    c.requires.awaited.free i.number c.text_within.new.buffer)
 
 pub returns-then-chunk-end-eq58-clause-steps : goal.returns-then-chunk-end-eq58-clause-steps
 returns-then-chunk-end-eq58-clause-steps c =
     key-colon c.args.level c.args.chunk.now c.args.self.now (view c.args.slot.now) c.requires.here c.requires.token
     c.requires.awaited (string_bytes c.in-Some.text) c.in-Some.end (rw c.in-Some.is at c.in_ok-text.ensures)
-    (Owned c.in-Some.text) c.text_within.new.tape refl c.if-end-chunk.true c.if-chunk-end-eq58.true
+    (Owned c.in-Some.text) c.text_within.new.buffer refl c.if-end-chunk.true c.if-chunk-end-eq58.true
 
 pub returns-else-end-chunk-clause-steps : goal.returns-else-end-chunk-clause-steps
 returns-else-end-chunk-clause-steps c =
     key-whole c.args.level c.args.chunk.now c.args.self.now (view c.args.slot.now) c.requires.here c.requires.token
     c.requires.awaited (string_bytes c.in-Some.text) c.in-Some.end (rw c.in-Some.is at c.in_ok-text.ensures)
-    (Owned c.in-Some.text) c.text_within.new.tape refl
+    (Owned c.in-Some.text) c.text_within.new.buffer refl
 
 pub returns-in-None-clause-steps : goal.returns-in-None-clause-steps
 returns-in-None-clause-steps c =
@@ -34,4 +34,4 @@ returns-in-None-clause-steps c =
     let begun = λ (r : Reader). record r { awaits = awaits.Colon } in
     subst (λ r. Steps level chunk i v (begun r) v 1) (sym c.begin_string.ensures.is)
     (key-kept level chunk i v c.requires.here c.requires.token c.requires.awaited c.begin_string.new.self.string
-    c.text_within.new.tape c.begin_string.ensures.string)
+    c.text_within.new.buffer c.begin_string.ensures.string)

@@ -1,7 +1,7 @@
 use Rattle.jiter_incremental.proofs.Words.{◌-◌, subst, sym, text_view, Tree, view, Steps, IsPut, Reader, slice_index}
 use Rattle.jiter_incremental.proofs.Placing.{scalar-put, word-step}
 use Rattle.jiter_incremental.proofs.Documents.Tokens.{literal-begins}
-use Rattle.jiter_incremental.specs.declared.names.Name.TheVariants as name
+use Rattle.jiter_incremental.specs.declared.names.WordValue.TheVariants as name
 use Rattle.jiter_incremental.proofs.Documents.WholeTokens.{literal-scalar}
 use Rattle.jiter_incremental.proofs.reader.Reader.literal.Goals as goal
 

@@ -1,4 +1,4 @@
-use Rattle.jiter_incremental.proofs.Words.{false, subst, sym, view, Stays}
+use Rattle.jiter_incremental.proofs.Words.{false, subst, sym, view, ReadsAsBefore}
 use Rattle.jiter_incremental.proofs.Showing.{container-here, here-as, stays-as, stays-here, steps-as}
 use Rattle.jiter_incremental.proofs.reader.Reader.move_on.Goals as goal
 use Rattle.jiter_incremental.proofs.Documents.Blanks.{if-refused}
@@ -49,5 +49,5 @@ returns-in_err-hide-clause-stays c =
     let stays = stays-here c.args.level c.args.chunk.now i v (ahead-scalar i c.args.chunk.now i.at c.requires.token) c.requires.complete in
     let same = c.in_err-hide.ensures.refused in
     if-refused c.from_residual.result
-    (subst (λ j. Stays c.args.level c.args.chunk.now i v j (view c.hide.new.slot)) (sym same.0)
-    (subst (λ w. Stays c.args.level c.args.chunk.now i v i w) (sym same.1) stays))
+    (subst (λ j. ReadsAsBefore c.args.level c.args.chunk.now i v j (view c.hide.new.slot)) (sym same.0)
+    (subst (λ w. ReadsAsBefore c.args.level c.args.chunk.now i v i w) (sym same.1) stays))

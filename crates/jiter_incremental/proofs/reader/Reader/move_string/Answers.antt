@@ -1,6 +1,6 @@
-use Rattle.jiter_incremental.proofs.Words.{List, ℕ, subst, sym, ◌-◌, ◌≡◌, arith, Goes, HasTaken, Steps, refused, Reader}
+use Rattle.jiter_incremental.proofs.Words.{List, ℕ, subst, sym, ◌-◌, ◌≡◌, arith, GoesOnWith, HasTaken, Steps, refused, Reader}
 use Rattle.jiter_incremental.proofs.Words.{view}
-use Rattle.jiter_steps.specs.declared.partial_string.Went.{Went}
+use Rattle.jiter_steps.specs.declared.partial_string.StringStep.{StringStep}
 use Rattle.jiter_incremental.proofs.StringSteps.{quote-here, quote-is, quote-steps, taken-steps, wrong-before, wrong-steps}
 use Rattle.jiter_incremental.proofs.reader.Reader.move_string.Goals as goal
 
@@ -10,7 +10,7 @@ close_string-requires-clause-here c =
     let r = c.requires in
     let s = c.next.new.self in
     let g =
-    subst (λ (x : Went). (u : List ℕ) → HasTaken i.string u → Goes s u c.args.chunk.now i.at x) c.in-Ok-Quote.field-0-is
+    subst (λ (x : StringStep). (u : List ℕ) → HasTaken i.string u → GoesOnWith s u c.args.chunk.now i.at x) c.in-Ok-Quote.field-0-is
     c.in-Ok-Quote.ensures.goes in
     quote-here c.args.level c.args.chunk.now i (view c.args.slot.now) r.here r.hidden r.token s g
 
@@ -20,7 +20,7 @@ close_string-requires-clause-quote c =
     let r = c.requires in
     let s = c.next.new.self in
     let g =
-    subst (λ (x : Went). (u : List ℕ) → HasTaken i.string u → Goes s u c.args.chunk.now i.at x) c.in-Ok-Quote.field-0-is
+    subst (λ (x : StringStep). (u : List ℕ) → HasTaken i.string u → GoesOnWith s u c.args.chunk.now i.at x) c.in-Ok-Quote.field-0-is
     c.in-Ok-Quote.ensures.goes in
     (quote-is c.args.level c.args.chunk.now i (view c.args.slot.now) r.here r.hidden r.token s g).1
 
@@ -30,7 +30,7 @@ close_string-requires-clause-whole c =
     let r = c.requires in
     let s = c.next.new.self in
     let g =
-    subst (λ (x : Went). (u : List ℕ) → HasTaken i.string u → Goes s u c.args.chunk.now i.at x) c.in-Ok-Quote.field-0-is
+    subst (λ (x : StringStep). (u : List ℕ) → HasTaken i.string u → GoesOnWith s u c.args.chunk.now i.at x) c.in-Ok-Quote.field-0-is
     c.in-Ok-Quote.ensures.goes in
     (quote-is c.args.level c.args.chunk.now i (view c.args.slot.now) r.here r.hidden r.token s g).0
 
@@ -40,7 +40,7 @@ overflow_sub-position c =
     let r = c.requires in
     let s = c.next.new.self in
     let g =
-    subst (λ (x : Went). (u : List ℕ) → HasTaken i.string u → Goes s u c.args.chunk.now i.at x) c.in-Ok-Wrong.field-0-is
+    subst (λ (x : StringStep). (u : List ℕ) → HasTaken i.string u → GoesOnWith s u c.args.chunk.now i.at x) c.in-Ok-Wrong.field-0-is
     c.in-Ok-Wrong.ensures.goes in
     let low = wrong-before c.args.level c.args.chunk.now i (view c.args.slot.now) r.here r.hidden r.token s c.in-Ok-Wrong.kind c.in-Ok-Wrong.back g in
     omega (arith, low, c.position.ensures)
@@ -51,7 +51,7 @@ returns-in-Ok-Taken-clause-steps c =
     let r = c.requires in
     let s = c.next.new.self in
     let g =
-    subst (λ (x : Went). (u : List ℕ) → HasTaken i.string u → Goes s u c.args.chunk.now i.at x) c.in-Ok-Taken.field-0-is
+    subst (λ (x : StringStep). (u : List ℕ) → HasTaken i.string u → GoesOnWith s u c.args.chunk.now i.at x) c.in-Ok-Taken.field-0-is
     c.in-Ok-Taken.ensures.goes in
     taken-steps c.args.level c.args.chunk.now i (view c.args.slot.now) r.here r.hidden r.token s c.in-Ok-Taken.count g
     (rw c.in-Ok-Taken.field-0-is at c.in-Ok-Taken.ensures.part) c.show.new.self (view c.show.new.slot)
@@ -63,7 +63,7 @@ returns-in-Ok-Quote-clause-steps c =
     let r = c.requires in
     let s = c.next.new.self in
     let g =
-    subst (λ (x : Went). (u : List ℕ) → HasTaken i.string u → Goes s u c.args.chunk.now i.at x) c.in-Ok-Quote.field-0-is
+    subst (λ (x : StringStep). (u : List ℕ) → HasTaken i.string u → GoesOnWith s u c.args.chunk.now i.at x) c.in-Ok-Quote.field-0-is
     c.in-Ok-Quote.ensures.goes in
     quote-steps c.args.level c.args.chunk.now i (view c.args.slot.now) r.here r.hidden r.token s g c.close_string.new.self (view c.close_string.new.slot) c.close_string.result
     c.close_string.ensures
@@ -74,7 +74,7 @@ returns-in-Ok-Wrong-clause-steps c =
     let r = c.requires in
     let s = c.next.new.self in
     let g =
-    subst (λ (x : Went). (u : List ℕ) → HasTaken i.string u → Goes s u c.args.chunk.now i.at x) c.in-Ok-Wrong.field-0-is
+    subst (λ (x : StringStep). (u : List ℕ) → HasTaken i.string u → GoesOnWith s u c.args.chunk.now i.at x) c.in-Ok-Wrong.field-0-is
     c.in-Ok-Wrong.ensures.goes in
     let v = view c.args.slot.now in
     subst (λ (x : Reader). Steps c.args.level c.args.chunk.now i v x v 1)

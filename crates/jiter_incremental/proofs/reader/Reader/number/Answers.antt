@@ -8,7 +8,7 @@ returns-in_err-value-in-Some-clause-stays c =
     let i = c.args.self.now in
     if-refused c.from_residual.result
     (stays-so c.args.level c.args.chunk.now i (view c.args.slot.now) c.requires.here c.requires.token
-    c.requires.awaited.free i.number i.tape)
+    c.requires.awaited.free i.number i.buffer)
 
 pub returns-in_ok-value-in-Some-clause-steps : goal.returns-in_ok-value-in-Some-clause-steps
 returns-in_ok-value-in-Some-clause-steps c =

@@ -5,7 +5,7 @@ use Rattle.jiter_incremental.proofs.Documents.Blanks.{if-refused}
 use Rattle.jiter_incremental.proofs.Documents.WholeTokens.{text-scalar}
 use Rattle.jiter_incremental.proofs.NumberBegins.{stays-so}
 use Rattle.jiter_incremental.proofs.Placing.{scalar-put}
-use Rattle.jiter_incremental.proofs.TextBegins.{tape-steps, text-kept}
+use Rattle.jiter_incremental.proofs.TextBegins.{buffer-steps, text-kept}
 use Rattle.jiter_incremental.proofs.reader.Reader.text.Goals as goal
 
 pub returns-in_err-text-clause-stays : goal.returns-in_err-text-clause-stays
@@ -13,7 +13,7 @@ returns-in_err-text-clause-stays c =
     let i = c.args.self.now in
     if-refused c.from_residual.result
     (stays-so c.args.level c.args.chunk.now i (view c.args.slot.now) c.requires.here c.requires.token
-    c.requires.awaited.free i.number c.text_within.new.tape)
+    c.requires.awaited.free i.number c.text_within.new.buffer)
 
 pub returns-in-Some-clause-steps : goal.returns-in-Some-clause-steps
 returns-in-Some-clause-steps c =
@@ -26,7 +26,7 @@ returns-in-Some-clause-steps c =
     let within = rw c.in-Some.is at c.in_ok-text.ensures in
     let put = subst (λ (x : Tree). IsPut level v (text_view i.key) x w) c.text_value.ensures c.put.ensures.put in
     subst (λ (j : Reader). Steps level chunk i v j w (e - j.at)) (sym c.put.ensures.is)
-    (tape-steps level chunk i v _ w (e - i.at) c.text_within.new.tape
+    (buffer-steps level chunk i v _ w (e - i.at) c.text_within.new.buffer
     (scalar-put level chunk i v c.requires.here c.requires.token c.requires.awaited c.requires.other c.put.new.self.key
     _ w e c.requires.low put (text-scalar chunk i.at (string_bytes c.in-Some.text) e within)))
 
@@ -43,4 +43,4 @@ returns-in-None-clause-steps c =
     let same = c.show.ensures.same ∙ ap (λ r. with_shown (begun r) j.shown j.number j.string j.key) is in
     let shows = subst (λ r. AsRead level (begun r) v j w) is c.show.ensures.shows in
     text-kept level chunk i v c.requires.here c.requires.token c.requires.awaited c.requires.other c.requires.low
-    c.requires.quote c.begin_string.new.self.string c.text_within.new.tape c.begin_string.ensures.string j w shows c.show.ensures.complete same
+    c.requires.quote c.begin_string.new.self.string c.text_within.new.buffer c.begin_string.ensures.string j w shows c.show.ensures.complete same

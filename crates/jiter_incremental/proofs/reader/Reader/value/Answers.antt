@@ -1,4 +1,4 @@
-use Rattle.jiter_incremental.proofs.Words.{◌≡◌, ◌∙◌, ap, arith, subst, sym, false≢true, view, Stays, Steps, refused}
+use Rattle.jiter_incremental.proofs.Words.{◌≡◌, ◌∙◌, ap, arith, subst, sym, false≢true, view, ReadsAsBefore, Steps, refused}
 use Rattle.jiter_scan.specs.declared.errors.FaultKind.TheVariants as fault_of
 use Rattle.jiter_steps.specs.declared.parse.Start.TheVariants as start
 use Rattle.jiter_incremental.proofs.Documents.Blanks.{if-refused}
@@ -42,8 +42,8 @@ returns-in_err-reserve_in-clause-stays c =
     let chunk = c.args.chunk.now in
     let v = view c.args.slot.now in
     if-refused c.from_residual.result
-    (subst (λ w. Stays level chunk i v i w) (sym c.reserve_in.ensures.same)
-    (stays-so level chunk i v c.requires.here c.requires.token c.requires.awaited.free i.number i.tape))
+    (subst (λ w. ReadsAsBefore level chunk i v i w) (sym c.reserve_in.ensures.same)
+    (stays-so level chunk i v c.requires.here c.requires.token c.requires.awaited.free i.number i.buffer))
 
 pub text-requires-clause-space : goal.text-requires-clause-space
 text-requires-clause-space c =

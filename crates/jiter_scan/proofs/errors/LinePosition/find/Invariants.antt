@@ -1,5 +1,4 @@
-use Rattle.jiter_scan.proofs.Words.{◌≡◌, ◌≤◌, ◌+◌, take}
-use Rattle.jiter_scan.specs.Position.{line_of, column_of}
+use Rattle.jiter_scan.proofs.Words.{◌≡◌, ◌≤◌, ◌+◌, take, line_of, column_of}
 use Rattle.jiter_scan.proofs.errors.LinePosition.find.Given as goal
 
 abbrev pub invariant-loop-byte : goal.invariant-loop-byte

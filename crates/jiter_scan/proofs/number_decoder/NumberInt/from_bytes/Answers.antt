@@ -1,5 +1,4 @@
-use Rattle.jiter_scan.proofs.Words.{int_alone}
-use Rattle.jiter_scan.specs.NumberDecoder.{int_view}
+use Rattle.jiter_scan.proofs.Words.{int_alone, int_view}
 use Rattle.jiter_scan.proofs.NumberBounds.{int_alone-within}
 use Rattle.jiter_scan.proofs.Scanning.{AnswersAlone-fault}
 use Rattle.jiter_scan.proofs.number_decoder.NumberInt.from_bytes.Goals as goal

@@ -1,5 +1,4 @@
-use Rattle.jiter_scan.proofs.Words.{◌++◌, ◌∙◌, ap, arith, slice_range}
-use Rattle.std.proofs.lemmas.Result.{on_ok_weaker}
+use Rattle.jiter_scan.proofs.Words.{◌++◌, ◌∙◌, ap, arith, slice_range, on_ok_weaker}
 use Rattle.jiter_scan.proofs.NumberParts.{held-first}
 use Rattle.jiter_scan.proofs.partial_number.PartialNumber.begin.Goals as goal
 
@@ -11,7 +10,7 @@ take-requires-clause-ascii c = c.requires.begun.ascii
 
 pub returns-clause-held : goal.returns-clause-held
 returns-clause-held c =
-    let t = c.args.piece.now in
+    let t = c.args.chunk.now in
     let at = c.args.at in
     let e = c.args.end in
     let m = c.take.new.self in

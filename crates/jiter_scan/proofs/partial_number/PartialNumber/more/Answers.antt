@@ -1,10 +1,10 @@
-use Rattle.jiter_scan.proofs.Words.{◌≡◌, ◌+◌, ◌-◌, ◌++◌, arith, subst, sym, slice_range, GoesTo, HoldsNumber}
+use Rattle.jiter_scan.proofs.Words.{◌≡◌, ◌+◌, ◌-◌, arith}
 use Rattle.jiter_scan.proofs.NumberParts.{goes-none, goes_next, held-on}
 use Rattle.jiter_scan.proofs.partial_number.PartialNumber.more.Goals as goal
 
 pub take-requires-clause-ascii : goal.take-requires-clause-ascii
 take-requires-clause-ascii c =
-    let t = c.args.piece.now in
+    let t = c.args.chunk.now in
     let at = c.args.at in
     let s = c.args.self.now.stage in
     let got = c.stages_end-after.result in
@@ -14,7 +14,7 @@ take-requires-clause-ascii c =
 
 pub returns-clause-held : goal.returns-clause-held
 returns-clause-held c = λ w held.
-    let t = c.args.piece.now in
+    let t = c.args.chunk.now in
     let at = c.args.at in
     let d = c.args.self.now in
     let m = c.take.new.self in
@@ -25,5 +25,4 @@ returns-clause-held c = λ w held.
     (goes-none d.stage t at (omega (arith, c.requires.within))) c.requires.within c.requires.leads c.requires.fits
     c.stages_end-after.ensures.goes in
     let end : e ≡ at + (e - at) = omega (arith, went.ahead) in
-    subst (λ j. HoldsNumber m (w ++ slice_range t at j)) end
-    (held-on d m w t at e held (subst (λ s. GoesTo d.stage t at s e) (sym taken.0) went) taken.1)
+    rw (← end) (held-on d m w t at e held (rw taken.0 went) taken.1)

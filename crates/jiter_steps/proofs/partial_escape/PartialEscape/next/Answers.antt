@@ -1,7 +1,7 @@
-use Rattle.jiter_steps.proofs.Words.{◌≡◌, ◌∙◌, ◌∷◌, ◌++◌, [], List, ℕ, ap, arith, length-append, refl, subst, sym, true}
-use Rattle.jiter_steps.proofs.Words.{IfSome, Some, slice_get, fault_kind, is_stop, stop_view, cut, over, event_at}
-use Rattle.jiter_steps.proofs.Words.{wrong}
-use Rattle.jiter_steps.proofs.OpenEscapes.{begins-after, cut_begins, cut_short, no-close, no-end, spelled-next, spelled-wrong, wrong-within}
+use Rattle.jiter_steps.proofs.Words.{◌≡◌, ◌∙◌, ◌∷◌, ◌++◌, [], List, ℕ, ap, arith, length-append, refl, subst, sym, Some}
+use Rattle.jiter_steps.proofs.Words.{slice_get, fault_kind, stop_view, cut, over, event_at, wrong}
+use Rattle.jiter_steps.proofs.OpenEscapes.{begins-after, cut_begins, cut_short, no-close, no-end, spelled-next}
+use Rattle.jiter_steps.proofs.OpenEscapes.{spelled-wrong, wrong-within}
 use Rattle.jiter_steps.proofs.partial_escape.PartialEscape.next.Goals as goal
 
 -- the bytes that are looked at
@@ -19,9 +19,7 @@ pub with-longer-requires : goal.with-longer-requires
 with-longer-requires c = omega (arith, cut_short c.self.inside.held c.self.invariant)
 
 pub event_at-requires : goal.event_at-requires
-event_at-requires c =
-    subst (λ o. IfSome o (λ b. is_stop b ≡ true))
-    (sym (first _ _ _ _ c.as_slice.ensures.value c.with-longer.ensures c.self.invariant)) refl
+event_at-requires c = rw (first _ _ _ _ c.as_slice.ensures.value c.with-longer.ensures c.self.invariant) refl
 
 pub unreachable-requires : goal.unreachable-requires
 unreachable-requires c =

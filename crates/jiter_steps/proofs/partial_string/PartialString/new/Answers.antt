@@ -1,5 +1,4 @@
-use Rattle.jiter_steps.proofs.Words.{[], sym, subst, refl, HoldsText}
-use Rattle.jiter_steps.specs.PartialText.{nothing}
+use Rattle.jiter_steps.proofs.Words.{[], sym, subst, refl, HoldsText, nothing}
 use Rattle.jiter_steps.proofs.OpenStrings.{nothing-taken}
 use Rattle.jiter_steps.proofs.OpenTexts.{nil-unfinished}
 use Rattle.jiter_steps.proofs.partial_string.PartialString.new.Goals as goal

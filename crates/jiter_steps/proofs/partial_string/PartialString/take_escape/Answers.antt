@@ -7,6 +7,6 @@ returns-clause-taken c =
     λ w h.
     let s = c.args.self.now in
     let at = c.args.at in
-    escape-whole s w h c.args.piece.now at (at + 2) c.simple_escape_at-sign.result 2 c.add_char.new.self s.escape c.requires.none
+    escape-whole s w h c.args.chunk.now at (at + 2) c.simple_escape_at-sign.result 2 c.add_char.new.self s.escape c.requires.none
     c.requires.none (c.simple_escape_at-sign.ensures.value c.if-sign-eq0.false) (omega arith)
     (c.in_ok-add_char.ensures.taken h.decoded h.holds)

@@ -8,7 +8,7 @@ use Rattle.jiter_value.proofs.turns.Reading.go.Goals as goal
 pub turning-preserved : goal.turning-preserved
 turning-preserved g c =
     let t = c.args.bytes.now in
-    let made = g.T.StringStorage.made in
+    let policy = g.T.StringStorage.policy in
     let l = c.turning in
     let v = l.invariant in
     let s = l.self.stacks in
@@ -17,7 +17,7 @@ turning-preserved g c =
           let e = w.key_turn-turned.ensures in
           let going = sym w.has_stopped.ensures ∙ w.if-has_stopped.false in
           rw (w.self-is, w.keys-is, w.next-is) (
-            λ i h. rw e.settings (come-on made g.T.StringStorage.wants t i l.self.settings s l.at state.Key
+            λ i h. rw e.settings (come-on policy g.T.StringStorage.wants t i l.self.settings s l.at state.Key
                 (rw w.in-Key.is at (v.0 i h)) tt _ _ _ _ (e.turned.leads going) (λ root. absurd (cc))),
             e.settings ∙ v.1,
             e.serves,
@@ -30,7 +30,7 @@ turning-preserved g c =
           let more = goes-on l.state w.in_default.not-Done w.in_default.not-GivenUp in
           let known = v.4 more in
           rw (w.self-is, w.keys-is, w.next-is) (
-            λ i h. rw e.settings (value-on made g.T.StringStorage.wants t i l.self.settings s l.at l.state (v.0 i h) more
+            λ i h. rw e.settings (value-on policy g.T.StringStorage.wants t i l.self.settings s l.at l.state (v.0 i h) more
                 w.in_default.not-Key w.slot_of.result w.slot_of.ensures _ _ _ e.leads e.memory),
             e.settings ∙ v.1,
             v.2,
@@ -48,7 +48,7 @@ turning-preserved g c =
 pub returns-clause-gone : goal.returns-clause-gone
 returns-clause-gone g c = λ i h.
     let t = c.args.bytes.now in
-    let made = g.T.StringStorage.made in
+    let policy = g.T.StringStorage.policy in
     let l = c.turning in
     let v = l.invariant in
     let s = l.self.stacks in
@@ -64,12 +64,12 @@ returns-clause-gone g c = λ i h.
             | in-Key+else-has_stopped k ↦
                 let e = k.key_turn-turned.ensures in
                 let going = sym k.has_stopped.ensures ∙ k.if-has_stopped.false in
-                rw (k.self-is, k.next-is, e.settings) (come-on made g.T.StringStorage.wants t i l.self.settings s l.at state.Key
+                rw (k.self-is, k.next-is, e.settings) (come-on policy g.T.StringStorage.wants t i l.self.settings s l.at state.Key
                 (rw k.in-Key.is at (v.0 i h)) tt _ _ _ _ (e.turned.leads going) (λ root. absurd (cc)))
             | in_default k ↦
                 let e = k.value_turn.ensures in
                 let more = goes-on l.state k.in_default.not-Done k.in_default.not-GivenUp in
-                rw (k.self-is, k.next-is, e.settings) (value-on made g.T.StringStorage.wants t i l.self.settings s l.at l.state
+                rw (k.self-is, k.next-is, e.settings) (value-on policy g.T.StringStorage.wants t i l.self.settings s l.at l.state
                 (v.0 i h) more k.in_default.not-Key k.slot_of.result k.slot_of.ensures _ _ _ e.leads e.memory)
           ])
     ]

@@ -1,4 +1,4 @@
-use Rattle.jiter_value.proofs.Words.{◌∙◌, [], ap, refl, subst, sym, done, HasCome, view}
+use Rattle.jiter_value.proofs.Words.{◌∙◌, [], ap, refl, subst, sym, done, HasReached, view}
 use Rattle.jiter_value.proofs.Ended.{come-first, failed-memory, failed-value, given-up, no-keys, whole-holds, whole-value}
 use Rattle.jiter_value.proofs.turns.Reading.run.Goals as goal
 
@@ -16,7 +16,7 @@ go-state-requires g c κs =
           (
             refl,
             (
-              (i, come-first g.T.StringStorage.made g.T.StringStorage.wants c.args.self.now.settings t s i h c.requires.within),
+              (i, come-first g.T.StringStorage.policy g.T.StringStorage.wants c.args.self.now.settings t s i h c.requires.within),
               (tt, ([], tt, no-keys s h)),
             ),
           ),
@@ -28,7 +28,7 @@ pub invariant_of-parser : goal.invariant_of-parser
 invariant_of-parser g c =
     let t = c.args.parser.now.bytes.now in
     let i = c.args.parser.now.index in
-    let first = come-first g.T.StringStorage.made g.T.StringStorage.wants c.args.self.now.settings t c.args.self.now.stacks i
+    let first = come-first g.T.StringStorage.policy g.T.StringStorage.wants c.args.self.now.settings t c.args.self.now.stacks i
     c.requires.holds c.requires.within in
     record { within = (c.go-state.ensures.gone i first).within.1 }
 
@@ -36,56 +36,56 @@ pub returns-in-Done-clause-moves : goal.returns-in-Done-clause-moves
 returns-in-Done-clause-moves g c =
     let t = c.args.parser.now.bytes.now in
     let i = c.args.parser.now.index in
-    let first = come-first g.T.StringStorage.made g.T.StringStorage.wants c.args.self.now.settings t c.args.self.now.stacks i
+    let first = come-first g.T.StringStorage.policy g.T.StringStorage.wants c.args.self.now.settings t c.args.self.now.stacks i
     c.requires.holds c.requires.within in
     record { same = refl; forward = (c.go-state.ensures.gone i first).within.0 }
 
 pub returns-in-Done-clause-value : goal.returns-in-Done-clause-value
 returns-in-Done-clause-value g c =
-    let made = g.T.StringStorage.made in
+    let policy = g.T.StringStorage.policy in
     let W = g.T.StringStorage.wants in
     let t = c.args.parser.now.bytes.now in
     let i = c.args.parser.now.index in
     let r = c.go-state.new.self in
     let e = c.go-state.ensures in
-    let first = come-first made W c.args.self.now.settings t c.args.self.now.stacks i c.requires.holds
+    let first = come-first policy W c.args.self.now.settings t c.args.self.now.stacks i c.requires.holds
     c.requires.within in
-    let come = subst (λ p. HasCome made W t i p r.stacks r.at r.state) e.settings (e.gone i first) in
-    whole-value made W t i c.args.self.now.settings r.stacks r.at r.state come (sym e.state ∙ c.in-Done.is)
+    let come = subst (λ p. HasReached policy W t i p r.stacks r.at r.state) e.settings (e.gone i first) in
+    whole-value policy W t i c.args.self.now.settings r.stacks r.at r.state come (sym e.state ∙ c.in-Done.is)
     ∙ ap (λ v. done (view v) r.at) (sym c.take_root.ensures.value)
 
 pub returns-in-Done-clause-cleared : goal.returns-in-Done-clause-cleared
 returns-in-Done-clause-cleared g c =
-    let made = g.T.StringStorage.made in
+    let policy = g.T.StringStorage.policy in
     let W = g.T.StringStorage.wants in
     let t = c.args.parser.now.bytes.now in
     let i = c.args.parser.now.index in
     let r = c.go-state.new.self in
     let e = c.go-state.ensures in
-    let first = come-first made W c.args.self.now.settings t c.args.self.now.stacks i c.requires.holds
+    let first = come-first policy W c.args.self.now.settings t c.args.self.now.stacks i c.requires.holds
     c.requires.within in
-    c.take_root.ensures.cleared (whole-holds made W t i r.settings r.stacks r.at r.state (e.gone i first)
+    c.take_root.ensures.cleared (whole-holds policy W t i r.settings r.stacks r.at r.state (e.gone i first)
     (sym e.state ∙ c.in-Done.is))
 
 pub returns-in_default : goal.returns-in_default
 returns-in_default g c =
-    let made = g.T.StringStorage.made in
+    let policy = g.T.StringStorage.policy in
     let W = g.T.StringStorage.wants in
     let t = c.args.parser.now.bytes.now in
     let i = c.args.parser.now.index in
     let r = c.go-state.new.self in
     let e = c.go-state.ensures in
-    let first = come-first made W c.args.self.now.settings t c.args.self.now.stacks i c.requires.holds
+    let first = come-first policy W c.args.self.now.settings t c.args.self.now.stacks i c.requires.holds
     c.requires.within in
     let gone = e.gone i first in
-    let come = subst (λ p. HasCome made W t i p r.stacks r.at r.state) e.settings gone in
+    let come = subst (λ p. HasReached policy W t i p r.stacks r.at r.state) e.settings gone in
     let over = given-up r.state (λ h. c.in_default.not-Done (e.state ∙ h)) (λ on. (e.ended refl on).1) in
     record {
       moves = record { same = refl; forward = gone.within.0 };
       value = rw c.take_error.ensures
-          (failed-value made W t i c.args.self.now.settings r.stacks r.at r.state come over);
+          (failed-value policy W t i c.args.self.now.settings r.stacks r.at r.state come over);
       memory = rw c.take_error.ensures
-          (failed-memory made W t i c.args.self.now.settings r.stacks r.at r.state come over);
+          (failed-memory policy W t i c.args.self.now.settings r.stacks r.at r.state come over);
       cleared = tt;
       settings = e.settings;
     }

@@ -23,9 +23,9 @@ returns-in-Part g c =
     let new = c.to_part.new.stacks in
     let r = c.to_part.result in
     record {
-      leads = ready-proceeds g.T.StringStorage.made p t c.args.from _ _ _ h s new j r c.to_part.ensures
+      leads = ready-proceeds g.T.StringStorage.policy p t c.args.from _ _ _ h s new j r c.to_part.ensures
           (so_far.2
-          ∙ after-more g.T.StringStorage.made p t h s.items.items s.members.items s.root l.at (reverse s.nest.items) j
+          ∙ after-more g.T.StringStorage.policy p t h s.items.items s.members.items s.root l.at (reverse s.nest.items) j
           so_far.3 found lt)
           (inside-stands s h so_far.3) (λ array. so_far.4) (omega (arith, so_far.4)) (omega (arith, so_far.0, forward))
           lt (omega (arith, so_far.5, forward)) (omega (arith, so_far.6, size));
@@ -46,11 +46,11 @@ returns-then-not-ends g c =
       leads = record {
         within = (omega (arith, so_far.0, c.next-end.ensures.within.0), c.next-end.ensures.within.1);
         reaches = rw so_far.2
-            (after-fails g.T.StringStorage.made c.args.reading.now.settings c.args.bytes.now c.in-Some.shape s.items.items s.members.items
+            (after-fails g.T.StringStorage.policy c.args.reading.now.settings c.args.bytes.now c.in-Some.shape s.items.items s.members.items
             s.root l.at
             (reverse s.nest.items) j c.ends.new.stacks.error so_far.3 (subst (IsResolved c.args.reading.now.settings false c.ends.new.stacks.error j) (sym c.next-end.ensures.is)
             (rw so_far.9 at c.if-not-ends.ensures.resolved)));
-        left = tt;
+        work_left = tt;
         held = tt;
       };
       memory = refused-inside (Err c.ends.new.stacks.error) c.args.slot (λ root. not-root h (so_far.7 root));
@@ -74,10 +74,10 @@ closing-preserved g c =
       omega (arith, so_far.0, forward),
       c.next-end.ensures.within.1,
       so_far.2
-          ∙ after-closed g.T.StringStorage.made p t h s.items.items s.members.items s.root l.at (reverse s.nest.items) j
+          ∙ after-closed g.T.StringStorage.policy p t h s.items.items s.members.items s.root l.at (reverse s.nest.items) j
           so_far.3
           (ap (resolve_step (forgives p.mode)) c.next-end.ensures.is ∙ (rw so_far.9 at c.if-not-ends.ensures.resolved))
-          ∙ (rw same at c.in-Ok.ensures.value g.T.StringStorage.made p t j),
+          ∙ (rw same at c.in-Ok.ensures.value g.T.StringStorage.policy p t j),
       c.in-Ok.ensures.stands,
       omega (arith, so_far.4, fewer),
       omega (arith, so_far.5, forward, fewer),

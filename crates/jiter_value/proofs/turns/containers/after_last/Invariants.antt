@@ -1,4 +1,4 @@
-use Rattle.jiter_value.proofs.Words.{◌≡◌, ◌≤◌, length, after_size, after, Stands, LeavesKeys, left}
+use Rattle.jiter_value.proofs.Words.{◌≡◌, ◌≤◌, length, after_size, after, Stands, LeavesKeys, work_left}
 use Rattle.jiter_value.specs.declared.stacks.Slot.TheVariants as slot
 use Rattle.jiter_value.proofs.turns.containers.after_last.Given as goal
 
@@ -6,11 +6,11 @@ abbrev pub invariant-closing : goal.invariant-closing
 invariant-closing g l =
     (l.fn.from ≤ l.at) × (l.at ≤ length l.fn.bytes)
     ×
-    (after g.T.StringStorage.made l.fn.reading.settings l.fn.bytes l.fn.reading.stacks l.fn.slot l.fn.from ≡ after g.T.StringStorage.made l.fn.reading.settings
+    (after g.T.StringStorage.policy l.fn.reading.settings l.fn.bytes l.fn.reading.stacks l.fn.slot l.fn.from ≡ after g.T.StringStorage.policy l.fn.reading.settings
     l.fn.bytes l.reading.stacks l.inside
     l.at)
     × Stands l.reading.stacks l.inside × (length l.reading.stacks.nest.items ≤ 200)
-    × (left l.fn.bytes l.reading.stacks l.at ≤ left l.fn.bytes l.fn.reading.stacks l.fn.from)
+    × (work_left l.fn.bytes l.reading.stacks l.at ≤ work_left l.fn.bytes l.fn.reading.stacks l.fn.from)
     × (after_size l.reading.stacks l.inside ≡ after_size l.fn.reading.stacks l.fn.slot)
     × (l.fn.slot ≡ slot.Root → l.inside ≡ slot.Root)
     × LeavesKeys l.fn.reading.stacks.members.items l.reading.stacks.members.items

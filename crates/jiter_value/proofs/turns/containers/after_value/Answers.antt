@@ -24,8 +24,8 @@ returns-in-Part g c =
     let r = c.to_part.result in
     record {
       leads = rw some
-          (ready-proceeds g.T.StringStorage.made p t a.from _ _ _ h s new j r c.to_part.ensures
-          (after-more g.T.StringStorage.made p t h s.items.items s.members.items s.root a.from (reverse s.nest.items) j
+          (ready-proceeds g.T.StringStorage.policy p t a.from _ _ _ h s new j r c.to_part.ensures
+          (after-more g.T.StringStorage.policy p t h s.items.items s.members.items s.root a.from (reverse s.nest.items) j
           stands found lt)
           (inside-stands s h stands) (λ array. c.requires.levels) (omega (arith, c.requires.levels))
           (omega (arith, forward)) lt (omega (arith, forward)) (omega (arith, size)));
@@ -51,7 +51,7 @@ returns-in-End g c =
     record {
       leads = leads-weaker c.close_and_go_on.ensures.leads forward (omega (arith, forward))
           (rw c.in-Some.ensures.some (omega (arith, size)))
-          (rw c.in-Some.ensures.some (after-closed g.T.StringStorage.made p t h s.items.items s.members.items s.root a.from
+          (rw c.in-Some.ensures.some (after-closed g.T.StringStorage.policy p t h s.items.items s.members.items s.root a.from
           (reverse s.nest.items) j stands (ap (resolve_step (forgives p.mode)) found)));
       memory = refused-inside _ c.args.slot (λ root. not-root h (sym some ∙ root));
       root = λ root. absurd (not-root h (sym some ∙ root));
@@ -76,7 +76,7 @@ returns-in-Fault g c =
     record {
       leads = leads-weaker c.fault_inside.ensures.leads forward (omega (arith, forward))
           (rw c.in-Some.ensures.some (omega (arith, size)))
-          (rw c.in-Some.ensures.some (after-stuck g.T.StringStorage.made p t h s.items.items s.members.items s.root a.from
+          (rw c.in-Some.ensures.some (after-stuck g.T.StringStorage.policy p t h s.items.items s.members.items s.root a.from
           (reverse s.nest.items) k j stands found));
       memory = refused-inside _ c.args.slot (λ root. not-root h (sym some ∙ root));
       root = λ root. absurd (not-root h (sym some ∙ root));

@@ -12,11 +12,11 @@ returns-then-not-ends g c =
     record {
       leads = record {
         within = (omega (arith, c.first-end.ensures.within.0), c.first-end.ensures.within.1);
-        reaches = begins-fails g.T.StringStorage.made a.reading.now.settings a.bytes.now a.reading.now.stacks a.slot c.requires.at_value.0
+        reaches = begins-fails g.T.StringStorage.policy a.reading.now.settings a.bytes.now a.reading.now.stacks a.slot c.requires.at_value.0
             c.requires.at_value.1
             a.at
             a.shape c.first-end.result.0 c.ends.new.stacks.error c.requires.bracket r;
-        left = tt;
+        work_left = tt;
         held = tt;
       };
       memory = λ e. fault-grows c.ends.new.stacks.error r.0 _ r.1;
@@ -34,7 +34,7 @@ returns g c =
     let forward = c.first-end.ensures.within.0 in
     record {
       leads = leads-weaker (rw same at empty.leads) (omega (arith, forward)) (omega (arith, forward)) (omega arith)
-          (begins-closed g.T.StringStorage.made a.reading.now.settings a.bytes.now a.reading.now.stacks a.slot c.requires.at_value.0
+          (begins-closed g.T.StringStorage.policy a.reading.now.settings a.bytes.now a.reading.now.stacks a.slot c.requires.at_value.0
           c.requires.at_value.1 a.at
           a.shape
           c.first-end.result.0 c.requires.bracket

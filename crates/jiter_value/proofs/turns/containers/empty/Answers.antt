@@ -11,7 +11,7 @@ returns g c =
     let deep = ap (λ n. length n.items) put.nest in
     record {
       leads = leads-weaker then.leads (omega arith) (omega (arith, deep)) (omega (arith, put.held))
-          (put.value g.T.StringStorage.made a.reading.now.settings a.bytes.now a.end);
+          (put.value g.T.StringStorage.policy a.reading.now.settings a.bytes.now a.end);
       memory = then.memory;
       root = then.root;
       keys = leaves-on c.after_value.new.reading.stacks c.after_value.result.1 a.reading.now.stacks.members.items

@@ -12,9 +12,9 @@ returns-then-not-is_forgiven g c =
       leads = record {
         within = (omega arith, c.requires.within);
         reaches = rw (asked.ensures.error refl)
-            (fault-kept g.T.StringStorage.made a.reading.now.settings a.bytes.now a.shape (reverse s.nest.items)
+            (fault-kept g.T.StringStorage.policy a.reading.now.settings a.bytes.now a.shape (reverse s.nest.items)
             s.items.items s.members.items (fault_kind a.kind) a.index a.at (sym asked.ensures.value));
-        left = tt;
+        work_left = tt;
         held = tt;
       };
       keys = tt;
@@ -28,5 +28,5 @@ returns-clause-leads g c =
     let asked = c.if-not-is_forgiven in
     leads-weaker (rw (asked.ensures.same refl) at c.close_and_go_on.ensures.leads) (omega arith) (omega arith)
     (omega arith)
-    (fault-forgiven g.T.StringStorage.made a.reading.now.settings a.bytes.now a.shape (reverse s.nest.items)
+    (fault-forgiven g.T.StringStorage.policy a.reading.now.settings a.bytes.now a.shape (reverse s.nest.items)
     s.items.items s.members.items (fault_kind a.kind) a.index a.at c.requires.stands (sym asked.ensures.value))

@@ -18,10 +18,10 @@ returns-in-Array g c =
       leads = record {
         within = (omega (arith, c.requires.within.0), omega (arith, c.requires.within.1));
         reaches = rw c.too_deep.ensures.error
-            (array-too-deep g.T.StringStorage.made a.reading.now.settings a.bytes.now a.reading.now.stacks a.slot c.requires.stands
+            (array-too-deep g.T.StringStorage.policy a.reading.now.settings a.bytes.now a.reading.now.stacks a.slot c.requires.stands
             c.requires.levels a.at a.next
             full c.requires.within.1 (rw array at c.requires.bracket) (rw array at c.requires.part));
-        left = tt;
+        work_left = tt;
         held = tt;
       };
       memory = λ root. fault-grows c.too_deep.new.stacks.error _ _ c.too_deep.ensures.error;
@@ -45,7 +45,7 @@ returns-in-Ok g c =
       | in-Object w ↦ λ array full. cc
     ] in
     record {
-      leads = shape-opens g.T.StringStorage.made a.reading.now.settings a.bytes.now s a.slot c.requires.stands
+      leads = shape-opens g.T.StringStorage.policy a.reading.now.settings a.bytes.now s a.slot c.requires.stands
           c.requires.levels a.at a.shape a.next c.push_small.new.items
           (rw base at c.in-Ok.ensures.ok) c.requires.within.0 c.requires.within.1
           c.requires.bracket c.requires.part few new r c.to_part.ensures;
@@ -57,7 +57,7 @@ returns-in-Ok g c =
 pub returns-in-Err : goal.returns-in-Err
 returns-in-Err g c =
     let a = c.args in
-    refused-turned g.T.StringStorage.made g.T.StringStorage.wants a.bytes.now a.at a.slot a.reading.now _ a.next _
+    refused-turned g.T.StringStorage.policy g.T.StringStorage.wants a.bytes.now a.at a.slot a.reading.now _ a.next _
     c.in-Err.refused c.no_memory.ensures.place c.no_memory.ensures.error (omega (arith, c.requires.within.0))
     (omega (arith, c.requires.within.1))
     (inl (begins-grows a.bytes.now a.at a.shape a.next c.requires.bracket c.requires.part)) refl

@@ -5,9 +5,9 @@ use Rattle.jiter_value.proofs.turns.duplicate_keys.hash_of.Goals as goal
 pub loop-i-preserved : goal.loop-i-preserved
 loop-i-preserved c =
     let l = c.loop-i in
-    sym (mark-more l.mark c.as_bytes-bytes.result.now l.i c.loop-i-test.true) ∙ l.invariant
+    sym (mark-more l.hash c.as_bytes-bytes.result.now l.i c.loop-i-test.true) ∙ l.invariant
 
 pub returns : goal.returns
 returns c =
     let l = c.loop-i in
-    sym (mark-all l.mark c.as_bytes-bytes.result.now l.i (omega (arith, c.loop-i-test.false))) ∙ l.invariant
+    sym (mark-all l.hash c.as_bytes-bytes.result.now l.i (omega (arith, c.loop-i-test.false))) ∙ l.invariant

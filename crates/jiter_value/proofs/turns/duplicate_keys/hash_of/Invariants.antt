@@ -4,4 +4,4 @@ use Rattle.jiter_value.proofs.turns.duplicate_keys.hash_of.Given as goal
 
 abbrev pub invariant-loop-i : goal.invariant-loop-i
 invariant-loop-i l =
-    mark_on l.mark (drop l.i l.bytes) ≡ hash_of l.key
+    mark_on l.hash (drop l.i l.bytes) ≡ hash_of l.key

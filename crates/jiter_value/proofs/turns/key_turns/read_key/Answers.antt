@@ -7,7 +7,7 @@ use Rattle.jiter_value.proofs.turns.key_turns.read_key.Goals as goal
 
 pub returns-in-Some-clause-turned : goal.returns-in-Some-clause-turned
 returns-in-Some-clause-turned g c =
-    let made = g.T.StringStorage.made in
+    let policy = g.T.StringStorage.policy in
     let a = c.args in
     let p = a.reading.now.settings in
     let t = a.bytes.now in
@@ -24,10 +24,10 @@ returns-in-Some-clause-turned g c =
     let e = c.fault_inside.ensures in
     let known = c.requires.known in
     let here = c.requires.at_key in
-    taken-on made p t a.at s _ _ _ _ _ c.requires.going
+    taken-on policy p t a.at s _ _ _ _ _ c.requires.going
     (leads-weaker e.leads (omega (arith, forward, onward)) (omega (arith, forward, onward)) (omega arith)
-    (colon-fails made p t os es ms a.at key a.end j j k here.0
-    (no-colon made t os (length es) ms a.at here.0 key a.end k j c.requires.read value)
+    (colon-fails policy p t os es ms a.at key a.end j j k here.0
+    (no-colon policy t os (length es) ms a.at here.0 key a.end k j c.requires.read value)
     here.2 (ap (scalar_at a.at) c.requires.read) (at-colon t a.end j k value, refl)))
-    (left-known known.0 ms c.fault_inside.new.reading.stacks c.fault_inside.result.1 (g.K.Keys.knows a.keys.now) known.1
+    (left-known known.0 ms c.fault_inside.new.reading.stacks c.fault_inside.result.1 (g.K.KeyPolicy.knows a.keys.now) known.1
     known.2 e.keys)

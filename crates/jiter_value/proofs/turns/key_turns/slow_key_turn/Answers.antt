@@ -38,7 +38,7 @@ read_key-requires g c κs =
 
 pub returns-in-Err-Fault-clause-turned : goal.returns-in-Err-Fault-clause-turned
 returns-in-Err-Fault-clause-turned g c =
-    let made = g.T.StringStorage.made in
+    let policy = g.T.StringStorage.policy in
     let a = c.args in
     let p = a.reading.now.settings in
     let t = a.bytes.now in
@@ -52,9 +52,9 @@ returns-in-Err-Fault-clause-turned g c =
     let e = c.fault_inside.ensures in
     let known = c.requires.known in
     let here = c.requires.at_key in
-    taken-on made p t a.at s _ _ _ _ _ c.requires.going
+    taken-on policy p t a.at s _ _ _ _ _ c.requires.going
     (leads-weaker (rw c.in-Err-Fault.field-0-is at e.leads) (omega arith) (omega arith) (omega arith)
-    (key-fails made p t os es ms a.at k f.index a.at here.0 (no-key made t os (length es) ms a.at here.0 k f.index failed)
+    (key-fails policy p t os es ms a.at k f.index a.at here.0 (no-key policy t os (length es) ms a.at here.0 k f.index failed)
     here.2 (ap (scalar_at a.at) failed)))
-    (left-known known.0 ms c.fault_inside.new.reading.stacks c.fault_inside.result.1 (g.K.Keys.knows a.keys.now)
+    (left-known known.0 ms c.fault_inside.new.reading.stacks c.fault_inside.result.1 (g.K.KeyPolicy.knows a.keys.now)
     known.1 known.2 e.keys)

@@ -11,7 +11,7 @@ use Rattle.jiter_value.proofs.turns.scalars.fault_in_value.Goals as goal
 
 pub returns-in-Item : goal.returns-in-Item
 returns-in-Item g c =
-    let made = g.T.StringStorage.made in
+    let policy = g.T.StringStorage.policy in
     let a = c.args in
     let p = a.reading.now.settings in
     let t = a.bytes.now in
@@ -26,8 +26,8 @@ returns-in-Item g c =
     let size = item-size os es ms stands in
     record {
       leads = leads-weaker e.leads (omega arith) (omega arith) (rw c.in-Item.is (omega (arith, size)))
-          (value-read made p t s a.slot here.0 here.1 a.at (fault k a.index a.at) c.requires.value
-          ∙ (rw c.in-Item.is (fault-item made p t os es ms (length es) (length ms) k a.index a.at stands)));
+          (value-read policy p t s a.slot here.0 here.1 a.at (fault k a.index a.at) c.requires.value
+          ∙ (rw c.in-Item.is (fault-item policy p t os es ms (length es) (length ms) k a.index a.at stands)));
       memory = λ root. absurd (not-root shape.Array (sym c.in-Item.is ∙ root));
       keys = e.keys;
       settings = e.settings;
@@ -35,7 +35,7 @@ returns-in-Item g c =
 
 pub returns-in-Member : goal.returns-in-Member
 returns-in-Member g c =
-    let made = g.T.StringStorage.made in
+    let policy = g.T.StringStorage.policy in
     let a = c.args in
     let p = a.reading.now.settings in
     let t = a.bytes.now in
@@ -55,11 +55,11 @@ returns-in-Member g c =
     record {
       leads = leads-weaker closed.ensures.leads (omega arith) (omega arith)
           (rw c.in-Member.is (omega (arith, outer, was)))
-          (value-read made p t s a.slot here.0 here.1 a.at (fault k a.index a.at) c.requires.value
-          ∙ (rw c.in-Member.is (ap (λ ys. resume (rules_as made p) t (frames slot.Member os es ys) (fault k a.index a.at))
+          (value-read policy p t s a.slot here.0 here.1 a.at (fault k a.index a.at) c.requires.value
+          ∙ (rw c.in-Member.is (ap (λ ys. resume (rules_as policy p) t (frames slot.Member os es ys) (fault k a.index a.at))
           last.1
-          ∙ fault-value made p t os es before last.0 k a.index a.at last.2
-          ∙ ap (λ ys. container_fault_in made p t shape.Object os es ys k a.index a.at) (sym popped))));
+          ∙ fault-value policy p t os es before last.0 k a.index a.at last.2
+          ∙ ap (λ ys. container_fault_in policy p t shape.Object os es ys k a.index a.at) (sym popped))));
       memory = λ root. absurd (not-root shape.Object (sym c.in-Member.is ∙ root));
       keys = leaves-on closed.new.reading.stacks closed.result.1 ms c.pop.new.self.items _
           (leaves-taken _ _ _ c.pop.ensures.rest) closed.ensures.keys;
@@ -68,7 +68,7 @@ returns-in-Member g c =
 
 pub returns-in-Root : goal.returns-in-Root
 returns-in-Root g c =
-    let made = g.T.StringStorage.made in
+    let policy = g.T.StringStorage.policy in
     let a = c.args in
     let p = a.reading.now.settings in
     let t = a.bytes.now in
@@ -84,10 +84,10 @@ returns-in-Root g c =
       leads = record {
         within = (omega arith, omega (arith, here.2));
         reaches = rw (why, c.fault_at.ensures)
-            (value-read made p t s a.slot here.0 here.1 a.at (fault k a.index a.at) c.requires.value
-            ∙ (rw c.in-Root.is (fault-root made p t os es ms (length es) (length ms) k a.index a.at
+            (value-read policy p t s a.slot here.0 here.1 a.at (fault k a.index a.at) c.requires.value
+            ∙ (rw c.in-Root.is (fault-root policy p t os es ms (length es) (length ms) k a.index a.at
             (rw c.in-Root.is at here.0))));
-        left = tt;
+        work_left = tt;
         held = tt;
       };
       memory = λ root. fault-grows c.give_up.new.stacks.error _ _ why;

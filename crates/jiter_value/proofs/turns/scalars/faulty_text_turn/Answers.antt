@@ -6,8 +6,8 @@ use Rattle.jiter_value.proofs.TurnOutcomes.{grows-decoded, grows-kept, refused-t
 use Rattle.jiter_value.proofs.Views.{view_str}
 use Rattle.jiter_value.proofs.turns.scalars.faulty_text_turn.Goals as goal
 
-pub keep-requires : goal.keep-requires
-keep-requires g c κs =
+pub store-requires : goal.store-requires
+store-requires g c κs =
     let a = c.args in
     let read = c.in-Ok in (
       (refl, tt),
@@ -20,18 +20,18 @@ keep-requires g c κs =
 
 pub put_and_go_on-requires : goal.put_and_go_on-requires
 put_and_go_on-requires g c κs =
-    let made = g.T.StringStorage.made in
+    let policy = g.T.StringStorage.policy in
     let a = c.args in
     let read = c.in-Ok in
-    let seen = view_str c.in-Ok-keep.kept ∙ ap string c.in-Ok-keep.ensures.value in (
+    let seen = view_str c.in-Ok-store.kept ∙ ap string c.in-Ok-store.ensures.value in (
       (refl, tt),
       (
         c.requires.at_value,
         (
-          λ levels. text-taken made a.reading.now.settings a.bytes.now a.at read.end levels (text_view read.text)
+          λ levels. text-taken policy a.reading.now.settings a.bytes.now a.at read.end levels (text_view read.text)
               c.requires.begins (rw c.allow_trailing_str-keep.ensures at read.ensures.value)
               ∙ ap (λ x. done x read.end) (sym seen),
-          (ap size (view_str c.in-Ok-keep.kept), read.ensures.advances),
+          (ap size (view_str c.in-Ok-store.kept), read.ensures.advances),
         ),
       ),
     )
@@ -40,7 +40,7 @@ pub returns-in-Err : goal.returns-in-Err
 returns-in-Err g c =
     let a = c.args in
     let read = c.in-Ok in
-    refused-turned g.T.StringStorage.made g.T.StringStorage.wants a.bytes.now a.at a.slot a.reading.now _ read.end _
+    refused-turned g.T.StringStorage.policy g.T.StringStorage.wants a.bytes.now a.at a.slot a.reading.now _ read.end _
     c.in-Err.refused c.no_memory.ensures.place c.no_memory.ensures.error
     (omega (arith, read.ensures.advances.0)) read.ensures.advances.1
     (grows-kept a.bytes.now a.at g.T.StringStorage.wants start.String c.requires.begins (λ h. cc) (λ h. cc)
@@ -57,7 +57,7 @@ fault_in_value-requires g c κs =
       (refl, tt),
       (
         c.requires.at_value,
-        λ levels. text-failed g.T.StringStorage.made a.reading.now.settings a.bytes.now a.at f.index levels
+        λ levels. text-failed g.T.StringStorage.policy a.reading.now.settings a.bytes.now a.at f.index levels
             (fault_kind f.kind) c.requires.begins (rw c.allow_trailing_str-keep.ensures at value),
       ),
     )
@@ -66,7 +66,7 @@ pub returns-in-Err-Memory : goal.returns-in-Err-Memory
 returns-in-Err-Memory g c =
     let a = c.args in
     let bad = c.in-Err-Memory in
-    refused-turned g.T.StringStorage.made g.T.StringStorage.wants a.bytes.now a.at a.slot a.reading.now _ a.at _
+    refused-turned g.T.StringStorage.policy g.T.StringStorage.wants a.bytes.now a.at a.slot a.reading.now _ a.at _
     bad.refused c.no_memory-in-Err-Memory.ensures.place c.no_memory-in-Err-Memory.ensures.error
     (omega arith) (omega (arith, c.requires.at_value.2))
     (grows-decoded a.bytes.now a.at g.T.StringStorage.wants c.requires.begins (rw bad.field-0-is at bad.ensures.memory))

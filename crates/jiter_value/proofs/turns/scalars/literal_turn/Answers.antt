@@ -10,7 +10,7 @@ put_and_go_on-requires g c κs =
       (
         c.requires.at_value,
         (
-          λ levels. literal-read g.T.StringStorage.made a.reading.now.settings a.bytes.now a.at c.in-Some.end levels a.literal
+          λ levels. literal-read g.T.StringStorage.policy a.reading.now.settings a.bytes.now a.at c.in-Some.end levels a.literal
               c.requires.begins c.in-Some.ensures.value
               ∙ ap (λ x. done x c.in-Some.end) (sym v.value),
           (v.one, c.in-Some.ensures.within),

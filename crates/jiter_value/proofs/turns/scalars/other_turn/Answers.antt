@@ -7,7 +7,7 @@ fault_in_value-requires g c κs = (
   (refl, tt),
   (
     c.requires.at_value,
-    λ levels. nothing-read g.T.StringStorage.made c.args.reading.now.settings c.args.bytes.now c.args.at c.args.at levels
+    λ levels. nothing-read g.T.StringStorage.policy c.args.reading.now.settings c.args.bytes.now c.args.at c.args.at levels
         (sym c.start_of.ensures ∙ c.in-Nothing.is),
   ),
 )

@@ -12,12 +12,12 @@ use Rattle.jiter_value.proofs.turns.scalars.put_number.Goals as goal
 
 pub ascii_text-requires : goal.ascii_text-requires
 ascii_text-requires g c =
-    IsAscii-decimal c.args.bytes.now c.args.at c.minus_end-from.result c.in-Float.end
-    c.minus_end-from.ensures.minus
+    IsAscii-decimal c.args.bytes.now c.args.at c.skip_minus-from.result c.in-Float.end
+    c.skip_minus-from.ensures.minus
     c.in-Float.ensures.decimal
 
-pub keep_lent-requires : goal.keep_lent-requires
-keep_lent-requires g c =
+pub store_borrowed-requires : goal.store_borrowed-requires
+store_borrowed-requires g c =
     let a = c.args in
     let found = c.in-Float.ensures in
     λ k. (
@@ -28,8 +28,8 @@ keep_lent-requires g c =
             (omega (
               arith,
               found.some,
-              IsMinusTo-le a.bytes.now a.at c.minus_end-from.result
-                  c.minus_end-from.ensures.minus,
+              IsMinusTo-le a.bytes.now a.at c.skip_minus-from.result
+                  c.skip_minus-from.ensures.minus,
             ))
             found.within c.ascii_text.ensures,
       ),
@@ -39,15 +39,15 @@ pub returns-in-Int-clause-put : goal.returns-in-Int-clause-put
 returns-in-Int-clause-put g c = λ _.
     let a = c.args in
     let t = a.bytes.now in
-    let from = c.minus_end-from.result in
-    let minus = c.minus_end-from.ensures.minus in
+    let from = c.skip_minus-from.result in
+    let minus = c.skip_minus-from.ensures.minus in
     let found = c.in-Int.ensures in
     let n = c.put_reserved.ensures in
     let z = if nat_lt a.at from then minus_of c.in-Int.magnitude else pos c.in-Int.magnitude in
     let kept : to_z w64 (of_z w64 c.signed.result) ≡ c.signed.result = grind (arith, to_z-of_z) in
     put-at _ (int z) (view_int _ ∙ ap int (kept ∙ c.signed.ensures)) c.requires.at_value.0 c.requires.at_value.1 n.value n.stands n.nest n.held refl
     (omega (arith, found.some, IsMinusTo-le t a.at from minus)) found.within
-    (λ p levels. number-read g.T.StringStorage.made p t a.at c.in-Int.end levels (integer z) c.requires.begins
+    (λ p levels. number-read g.T.StringStorage.policy p t a.at c.in-Int.end levels (integer z) c.requires.begins
     (short-signed t p.allow_inf_nan a.at c.in-Int.end from c.in-Int.magnitude minus found))
 
 pub returns-in-Ok-clause-put : goal.returns-in-Ok-clause-put
@@ -55,16 +55,16 @@ returns-in-Ok-clause-put g c = λ _.
     let a = c.args in
     let t = a.bytes.now in
     let e = c.in-Float.end in
-    let from = c.minus_end-from.result in
-    let minus = c.minus_end-from.ensures.minus in
+    let from = c.skip_minus-from.result in
+    let minus = c.skip_minus-from.ensures.minus in
     let found = c.in-Float.ensures in
     let n = c.put_reserved-in-Ok.ensures in
-    let made = g.T.StringStorage.made in
-    put-at _ (float (made.text (record { owned = false; bytes = slice_range t a.at e })))
+    let policy = g.T.StringStorage.policy in
+    put-at _ (float (policy.text (record { owned = false; bytes = slice_range t a.at e })))
     (view_float _
-    ∙ ap float (c.in-Ok.ensures.value ∙ ap (λ w. made.text (record { owned = false; bytes = w }))
+    ∙ ap float (c.in-Ok.ensures.value ∙ ap (λ w. policy.text (record { owned = false; bytes = w }))
     c.ascii_text.ensures))
     c.requires.at_value.0 c.requires.at_value.1 n.value n.stands n.nest n.held refl
     (omega (arith, found.some, IsMinusTo-le t a.at from minus)) found.within
-    (λ p levels. number-read g.T.StringStorage.made p t a.at e levels (number.float (slice_range t a.at e)) c.requires.begins
+    (λ p levels. number-read g.T.StringStorage.policy p t a.at e levels (number.float (slice_range t a.at e)) c.requires.begins
     (short-signed_float t p.allow_inf_nan a.at e from minus found))

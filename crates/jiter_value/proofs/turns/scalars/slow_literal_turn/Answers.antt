@@ -10,7 +10,7 @@ put_and_go_on-requires g c κs =
       (
         c.requires.at_value,
         (
-          λ levels. literal-read g.T.StringStorage.made a.reading.now.settings a.bytes.now a.at c.in-Ok.end levels a.literal
+          λ levels. literal-read g.T.StringStorage.policy a.reading.now.settings a.bytes.now a.at c.in-Ok.end levels a.literal
               c.requires.begins c.in-Ok.ensures.value
               ∙ ap (λ x. done x c.in-Ok.end) (sym v.value),
           (v.one, c.in-Ok.ensures.end),
@@ -25,7 +25,7 @@ fault_in_value-requires g c κs =
       (refl, tt),
       (
         c.requires.at_value,
-        λ levels. literal-failed g.T.StringStorage.made a.reading.now.settings a.bytes.now a.at f.index levels a.literal
+        λ levels. literal-failed g.T.StringStorage.policy a.reading.now.settings a.bytes.now a.at f.index levels a.literal
             (fault_kind f.kind) c.requires.begins c.in-Err.ensures.value,
       ),
     )

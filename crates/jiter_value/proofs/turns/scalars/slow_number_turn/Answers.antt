@@ -27,7 +27,7 @@ put_and_go_on-requires g c κs =
       (
         c.requires.at_value,
         (
-          λ levels. number-read g.T.StringStorage.made a.reading.now.settings a.bytes.now a.at n.end levels
+          λ levels. number-read g.T.StringStorage.policy a.reading.now.settings a.bytes.now a.at n.end levels
               (number_view n.number) c.requires.begins n.ensures.value
               ∙ ap (λ x. done x n.end) (sym v.value),
           (v.one, n.ensures.place),
@@ -39,7 +39,7 @@ pub returns-in-Err-number_value : goal.returns-in-Err-number_value
 returns-in-Err-number_value g c =
     let a = c.args in
     let n = c.in-Ok in
-    refused-turned g.T.StringStorage.made g.T.StringStorage.wants a.bytes.now a.at a.slot a.reading.now _ n.end _
+    refused-turned g.T.StringStorage.policy g.T.StringStorage.wants a.bytes.now a.at a.slot a.reading.now _ n.end _
     c.in-Err-number_value.refused c.no_memory.ensures.place c.no_memory.ensures.error
     (omega (arith, n.ensures.place.0)) n.ensures.place.1
     (grows-kept a.bytes.now a.at g.T.StringStorage.wants start.Number c.requires.begins (λ h. cc) (λ h. cc)
@@ -53,7 +53,7 @@ fault_in_value-requires g c κs =
       (refl, tt),
       (
         c.requires.at_value,
-        λ levels. number-failed g.T.StringStorage.made a.reading.now.settings a.bytes.now a.at f.index levels
+        λ levels. number-failed g.T.StringStorage.policy a.reading.now.settings a.bytes.now a.at f.index levels
             (fault_kind f.kind) c.requires.begins c.in-Err.ensures.value,
       ),
     )

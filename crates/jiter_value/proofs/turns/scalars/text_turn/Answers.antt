@@ -8,8 +8,8 @@ use Rattle.jiter_value.proofs.TurnOutcomes.{grows-kept, refused-turned}
 use Rattle.jiter_value.proofs.Views.{view_str}
 use Rattle.jiter_value.proofs.turns.scalars.text_turn.Goals as goal
 
-pub keep_lent-requires : goal.keep_lent-requires
-keep_lent-requires g c κs =
+pub store_borrowed-requires : goal.store_borrowed-requires
+store_borrowed-requires g c κs =
     let a = c.args in
     let to = c.look_at-to.result.0 in
     let found = rw c.in-Plain.is at c.look_at-to.ensures.means in
@@ -24,7 +24,7 @@ keep_lent-requires g c κs =
 
 pub put_and_go_on-requires : goal.put_and_go_on-requires
 put_and_go_on-requires g c κs =
-    let made = g.T.StringStorage.made in
+    let policy = g.T.StringStorage.policy in
     let a = c.args in
     let t = a.bytes.now in
     let to = c.look_at-to.result.0 in
@@ -33,12 +33,12 @@ put_and_go_on-requires g c κs =
     let inside = slice_get_within a.bytes.now to 34 found.0 in
     let kept = c.in-Ok.text in
     let seen = view_str kept
-    ∙ ap string (c.in-Ok.ensures.value ∙ ap (λ w. made.text (record { owned = false; bytes = w })) c.utf8_text.ensures) in (
+    ∙ ap string (c.in-Ok.ensures.value ∙ ap (λ w. policy.text (record { owned = false; bytes = w })) c.utf8_text.ensures) in (
       (refl, tt),
       (
         c.requires.at_value,
         (
-          λ levels. text-read made a.reading.now.settings t a.at (to + 1) levels (between t (a.at + 1) to)
+          λ levels. text-read policy a.reading.now.settings t a.at (to + 1) levels (between t (a.at + 1) to)
               c.requires.begins (λ keep. look-plain t a.at to c.requires.at_value.2 c.look_at-to.ensures.stop found keep)
               ∙ ap (λ x. done x (to + 1)) (sym seen),
           (ap size (view_str kept), (omega (arith, before), omega (arith, inside))),
@@ -53,7 +53,7 @@ returns-in-Err g c =
     let found = rw c.in-Plain.is at c.look_at-to.ensures.means in
     let before = c.look_at-to.ensures.within.0 in
     let inside = slice_get_within a.bytes.now to 34 found.0 in
-    refused-turned g.T.StringStorage.made g.T.StringStorage.wants a.bytes.now a.at a.slot a.reading.now _ (to + 1) _
+    refused-turned g.T.StringStorage.policy g.T.StringStorage.wants a.bytes.now a.at a.slot a.reading.now _ (to + 1) _
     c.in-Err.refused c.no_memory.ensures.place c.no_memory.ensures.error
     (omega (arith, before)) (omega (arith, inside))
     (grows-kept a.bytes.now a.at g.T.StringStorage.wants start.String c.requires.begins (λ h. cc) (λ h. cc)

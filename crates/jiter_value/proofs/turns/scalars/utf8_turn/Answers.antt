@@ -7,8 +7,8 @@ use Rattle.jiter_value.proofs.TurnOutcomes.{grows-kept, refused-turned}
 use Rattle.jiter_value.proofs.Views.{view_str}
 use Rattle.jiter_value.proofs.turns.scalars.utf8_turn.Goals as goal
 
-pub keep_lent-requires : goal.keep_lent-requires
-keep_lent-requires g c κs =
+pub store_borrowed-requires : goal.store_borrowed-requires
+store_borrowed-requires g c κs =
     let a = c.args in
     let t = a.bytes.now in
     let keep = c.allow_trailing_str-keep.result in
@@ -20,19 +20,19 @@ keep_lent-requires g c κs =
 
 pub put_and_go_on-requires : goal.put_and_go_on-requires
 put_and_go_on-requires g c κs =
-    let made = g.T.StringStorage.made in
+    let policy = g.T.StringStorage.policy in
     let a = c.args in
     let t = a.bytes.now in
     let keep = c.allow_trailing_str-keep.result in
     let read = look-checked t a.at a.to c.requires.at_value.2 c.requires.stop c.requires.quote keep
     ∙ c.in-Ok.ensures.value (a.to + 1) in
-    let kept = c.in-Ok-keep_lent.text in
-    let seen = view_str kept ∙ ap string c.in-Ok-keep_lent.ensures.value in (
+    let kept = c.in-Ok-store_borrowed.text in
+    let seen = view_str kept ∙ ap string c.in-Ok-store_borrowed.ensures.value in (
       (refl, tt),
       (
         c.requires.at_value,
         (
-          λ levels. text-taken made a.reading.now.settings t a.at (a.to + 1) levels _ c.requires.begins
+          λ levels. text-taken policy a.reading.now.settings t a.at (a.to + 1) levels _ c.requires.begins
               (rw c.allow_trailing_str-keep.ensures at read)
               ∙ ap (λ x. done x (a.to + 1)) (sym seen),
           (
@@ -43,14 +43,14 @@ put_and_go_on-requires g c κs =
       ),
     )
 
-pub returns-in-Err-keep_lent : goal.returns-in-Err-keep_lent
-returns-in-Err-keep_lent g c =
+pub returns-in-Err-store_borrowed : goal.returns-in-Err-store_borrowed
+returns-in-Err-store_borrowed g c =
     let a = c.args in
-    refused-turned g.T.StringStorage.made g.T.StringStorage.wants a.bytes.now a.at a.slot a.reading.now _ (a.to + 1) _
-    c.in-Err-keep_lent.refused c.no_memory.ensures.place c.no_memory.ensures.error
+    refused-turned g.T.StringStorage.policy g.T.StringStorage.wants a.bytes.now a.at a.slot a.reading.now _ (a.to + 1) _
+    c.in-Err-store_borrowed.refused c.no_memory.ensures.place c.no_memory.ensures.error
     (omega (arith, c.requires.within.0)) (omega (arith, c.requires.within.1))
     (grows-kept a.bytes.now a.at g.T.StringStorage.wants start.String c.requires.begins (λ h. cc) (λ h. cc)
-    c.in-Err-keep_lent.ensures.memory)
+    c.in-Err-store_borrowed.ensures.memory)
     refl
 
 pub fault_in_value-requires : goal.fault_in_value-requires
@@ -64,7 +64,7 @@ fault_in_value-requires g c κs =
       (refl, tt),
       (
         c.requires.at_value,
-        λ levels. text-failed g.T.StringStorage.made a.reading.now.settings t a.at wrong.index levels
+        λ levels. text-failed g.T.StringStorage.policy a.reading.now.settings t a.at wrong.index levels
             invalid_code_point c.requires.begins (rw c.allow_trailing_str-keep.ensures at read),
       ),
     )

@@ -1,4 +1,4 @@
-use Rattle.jiter_value.proofs.Words.{◌∙◌, [], ap, arith, refl, subst, sym, done, HasKeys, lent_unique, HasCome, view}
+use Rattle.jiter_value.proofs.Words.{◌∙◌, [], ap, arith, refl, subst, sym, done, HasKeys, lent_unique, HasReached, view}
 use Rattle.std.proofs.lemmas.List.Elements.{All-nil}
 use Rattle.jiter_value.specs.declared.stacks.State.TheVariants as state
 use Rattle.jiter_value.proofs.Ended.{come-first, failed-memory, failed-value, key-grows, no-keys, whole-value}
@@ -52,7 +52,7 @@ returns-in-Done-clause-value c =
     let r = c.go-state.new.self in
     let e = c.go-state.ensures in
     let first = come-first lent_unique ⊥ p t c.args.reading.now.stacks i c.requires.holds c.requires.within in
-    let come = subst (λ p. HasCome lent_unique ⊥ t i p r.stacks r.at r.state) e.settings (e.gone i first) in
+    let come = subst (λ p. HasReached lent_unique ⊥ t i p r.stacks r.at r.state) e.settings (e.gone i first) in
     whole-value lent_unique ⊥ t i p r.stacks r.at r.state come (sym e.state ∙ c.in-Done.is)
     ∙ ap (λ v. done (view v) r.at) (sym c.take_root.ensures.value)
 
@@ -80,7 +80,7 @@ returns-in-GivenUp-clause-value c =
     let r = c.go-state.new.self in
     let e = c.go-state.ensures in
     let first = come-first lent_unique ⊥ p t c.args.reading.now.stacks i c.requires.holds c.requires.within in
-    let come = subst (λ p. HasCome lent_unique ⊥ t i p r.stacks r.at r.state) e.settings (e.gone i first) in
+    let come = subst (λ p. HasReached lent_unique ⊥ t i p r.stacks r.at r.state) e.settings (e.gone i first) in
     rw c.take_error.ensures (failed-value lent_unique ⊥ t i p r.stacks r.at r.state come (sym e.state ∙ c.in-GivenUp.is))
 
 pub returns-in-GivenUp-clause-memory : goal.returns-in-GivenUp-clause-memory
@@ -106,8 +106,8 @@ returns-in-Some c =
     let ended = e.ended refl on in
     let stopped = rw c.in-Some.is at ended.1 in
     let gone = e.gone i first in
-    let come = subst (HasCome lent_unique ⊥ t i p r.stacks r.at) ended.0
-    (subst (λ p. HasCome lent_unique ⊥ t i p r.stacks r.at r.state) e.settings gone) in
+    let come = subst (HasReached lent_unique ⊥ t i p r.stacks r.at) ended.0
+    (subst (λ p. HasReached lent_unique ⊥ t i p r.stacks r.at r.state) e.settings gone) in
     let key = awaited lent_unique ⊥ t i p r.stacks r.at state.Key come tt in
     record {
       moves = record { same = refl; forward = omega (arith, gone.within.0, stopped.1) };

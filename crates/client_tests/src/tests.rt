@@ -1,5 +1,0 @@
-//! Examples of the documents.
-mod examples;
-mod logs;
-mod printed;
-mod progress;

@@ -1,0 +1,5 @@
+//! Access to values, copies, equality, and damaged documents.
+mod access;
+mod copies;
+mod damage;
+mod unique_errors;
