@@ -86,7 +86,11 @@ pub extern "C" fn jiter_parse(
     }
 }
 
-/// Returns the compact text of a value, or out of memory at this index.
+/// Returns the compact text of a value.
+///
+/// # Errors
+///
+/// - out of memory, at `index`, if an allocation fails
 pub fn print_text(alloc: Global, value: &JsonValue<'_>, index: usize) -> Result<Vec<u8>, JiterFault>
     ensures text { IfOk result (λ text. text.items ≡ print_of (view value.now)) }
     ensures memory { IfErr result (λ f. f ≡ fault_of (json_error out_of_memory) index) }

@@ -24,6 +24,10 @@ pub fn write_prefix(out: &mut [u8], text: &[u8]) -> usize
 }
 
 /// Writes a text after the first `count` bytes of a longer one, as much of it as fits, and returns the new count.
+///
+/// # Requires
+///
+/// - the new count fits in 64 bits
 pub fn append(out: &mut [u8], count: usize, text: &[u8]) -> usize
     requires { count + length text.now < 2 ^ 64 }
     ensures text { Appends count text.now out.old out.new }
@@ -37,6 +41,10 @@ pub fn append(out: &mut [u8], count: usize, text: &[u8]) -> usize
 }
 
 /// Appends a number in decimal digits.
+///
+/// # Requires
+///
+/// - `count` is less than 2 to the power 32
 pub fn append_number(out: &mut [u8], count: usize, number: usize) -> usize
     requires { count < 2 ^ 32 }
     ensures text { Appends count (decimal number) out.old out.new }

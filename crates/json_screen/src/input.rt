@@ -102,6 +102,10 @@ impl Input {
     }
 
     /// Takes the next bytes of the input.
+    ///
+    /// # Errors
+    ///
+    /// - `AllocError` if an allocation fails; some of the bytes are taken then
     pub fn take(&mut self, piece: &[u8]) -> Result<(), AllocError>
         ensures { (options : Options) → (t : List ℕ) → HasArrived options self.old t
             → OnOk result (HasArrived options self.new (t ++ piece.now)) }
@@ -114,6 +118,10 @@ impl Input {
     }
 
     /// Returns all bytes of the input.
+    ///
+    /// # Errors
+    ///
+    /// - `AllocError` if an allocation fails
     pub fn bytes(&self, alloc: Global) -> Result<Vec<u8>, AllocError>
         ensures { IfOk result (λ bytes. bytes.items
             ≡ (self.now.before.items ++ self.now.inside.items) ++ self.now.after.items) }

@@ -82,6 +82,10 @@ impl Rows {
     }
 
     /// Appends the characters of some bytes.
+    ///
+    /// # Errors
+    ///
+    /// - `AllocError` if an allocation fails; some of them are appended then
     pub fn append(&mut self, alloc: Global, bytes: &[u8]) -> Result<(), AllocError>
         ensures rows { OnOk result
             (filled self.new ≡ put_bytes self.old.width (filled self.old) bytes.now) }
@@ -124,6 +128,10 @@ impl Rows {
     }
 
     /// Ends the last row if it is not empty.
+    ///
+    /// # Errors
+    ///
+    /// - `AllocError` if an allocation fails
     pub fn end(&mut self) -> Result<(), AllocError>
         ensures { OnOk result (filled self.new ≡ ended self.old.width (filled self.old)) }
     {
@@ -134,6 +142,10 @@ impl Rows {
     }
 
     /// Appends the text of a value, with the mark before its last `depth` closing brackets.
+    ///
+    /// # Errors
+    ///
+    /// - `AllocError` if an allocation fails; some of the text is appended then
     pub fn append_marked(
         &mut self,
         alloc: Global,
@@ -196,6 +208,10 @@ impl Shown {
 /// Returns what to write so that a screen that ends with `old` ends with `new`.
 ///
 /// It begins with the first row that changes, or that is dim in one of them. While it is drawn, lines don't wrap.
+///
+/// # Errors
+///
+/// - `AllocError` if an allocation fails
 pub fn redraw(alloc: Global, old: &Shown, new: &Shown) -> Result<Vec<u8>, AllocError>
     ensures { IsPlain old.now.text.items → IsPlain new.now.text.items
         → IfOk result (λ drawn. Redraws (dimmed old.now.text.items old.now.mark)
