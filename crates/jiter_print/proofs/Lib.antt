@@ -1,5 +1,6 @@
 pub mod GivenValues
 pub mod Laying
+pub mod OverlaidTexts
 pub mod PrintLaw
 pub mod PrintLawNumbers
 pub mod PrintLawParts

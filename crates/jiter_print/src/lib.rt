@@ -1,6 +1,7 @@
 //! Prints values and strings as JSON text, and writes complete lines.
 #![tactic(auto)]
 
+mod buffer;
 mod lines;
 mod strings;
 mod values;

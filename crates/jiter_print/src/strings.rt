@@ -5,8 +5,8 @@ ghost use Rattle.jiter_print.specs.Print.{print_of, print_text, print_byte, esca
 ghost use Rattle.jiter_print.specs.Print.{with_line_feed, Appends};
 ghost use Rattle.jiter_print.specs.Printed.{IsLineOf, string_from};
 
+use crate::buffer::{is_plain_to, make_room_for, place_text};
 use jiter_scan::memory::AllocFailed;
-use jiter_scan::print_buffer::{is_plain_to, make_room_for, place_text};
 use jiter_scan::simd::string_stop;
 use std::alloc::AllocError;
 

@@ -28,5 +28,4 @@ pub mod Magnitudes
 pub mod FastNumbers
 pub mod Tapes
 pub mod FastNumberValues
-pub mod OverlaidTexts
 pub mod Words

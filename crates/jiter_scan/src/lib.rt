@@ -12,7 +12,6 @@ pub mod number_within;
 pub mod partial_mode;
 pub mod partial_number;
 pub mod partial_word;
-pub mod print_buffer;
 pub mod short_scan;
 pub mod simd;
 pub mod text;

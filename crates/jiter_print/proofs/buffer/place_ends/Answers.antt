@@ -1,6 +1,6 @@
 use Rattle.jiter_scan.proofs.Words.{◌-◌, length, arith, take_rest}
-use Rattle.jiter_scan.proofs.OverlaidTexts.{ends-placed}
-use Rattle.jiter_scan.proofs.print_buffer.place_ends.Goals as goal
+use Rattle.jiter_print.proofs.OverlaidTexts.{ends-placed}
+use Rattle.jiter_print.proofs.buffer.place_ends.Goals as goal
 
 pub returns-clause-text : goal.returns-clause-text
 returns-clause-text g c =

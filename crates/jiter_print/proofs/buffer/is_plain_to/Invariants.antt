@@ -1,5 +1,5 @@
 use Rattle.jiter_scan.proofs.Words.{◌≡◌, ◌-◌, ◌≤◌, scan_stop}
-use Rattle.jiter_scan.proofs.print_buffer.is_plain_to.Given as goal
+use Rattle.jiter_print.proofs.buffer.is_plain_to.Given as goal
 
 abbrev pub invariant-loop-from : goal.invariant-loop-from
 invariant-loop-from l = record {

@@ -1,5 +1,5 @@
 use Rattle.jiter_scan.proofs.Words.{◌≡◌, length, take, arith, length-take-le, take_more_put_chunk}
-use Rattle.jiter_scan.proofs.print_buffer.place_prefix.Goals as goal
+use Rattle.jiter_print.proofs.buffer.place_prefix.Goals as goal
 
 pub returns-clause-text : goal.returns-clause-text
 returns-clause-text g c =
