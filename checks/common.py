@@ -6,6 +6,7 @@ import functools
 import glob
 import importlib
 import os
+import pathlib
 import re
 import shutil
 import subprocess
@@ -25,9 +26,12 @@ def read(path, default=""):
         return file.read()
 
 
-def write(path, text):
-    with open(path, "w", encoding="utf-8") as file:
-        file.write(text)
+def held(path):
+    return pathlib.Path(path).read_bytes()
+
+
+def write(path, data):
+    pathlib.Path(path).write_bytes(data.encode() if isinstance(data, str) else data)
 
 
 def processors():
@@ -43,6 +47,27 @@ def side_by_side(call, some):
     """Returns what a call returns for each of these, in order; as many run at once as there are processors."""
     with concurrent.futures.ThreadPoolExecutor(processors()) as pool:
         return list(pool.map(call, some))
+
+
+# ---- Rows ----
+
+
+def decoded(text):
+    """Returns the bytes that a row spells: `%0A` is a byte, `%(300:[)` is 300 brackets."""
+    found = re.sub(r"%\((\d+):(.*?)\)", lambda it: it[2] * int(it[1]), text).encode()
+    return re.sub(rb"%([0-9A-Fa-f]{2})", lambda it: bytes([int(it[1], 16)]), found)
+
+
+def lines(name):
+    """Returns the lines of checks/rows/NAME."""
+    return re.findall("^[^#\n].*", read(f"{TOP}/checks/rows/{name}"), re.M)
+
+
+def rows(name):
+    """Yields the words, the document and the answer of each row `WORDS < DOCUMENT => ANSWER` of checks/rows/NAME."""
+    for line in lines(name):
+        words, rest = line.split(" < ", 1)
+        yield words, *(decoded(it).decode(errors="surrogateescape") for it in rest.split(" => ", 1))
 
 
 # ---- Counts ----

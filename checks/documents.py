@@ -1,7 +1,8 @@
 """Makes documents for the script beside: random ones, edits of them, and the inputs of the tables crates/test_*."""
 
 import glob
-import re
+
+import common
 
 SPACES = ("", "", "", " ", "\n", "\t", "\r\n", "  \n\n", " " * 17)
 ESCAPES = (*(f"\\{it}" for it in '"\\/bfnrt'), "\\u0000", "\\u001F", "\\u0041", "\\u00e9", "\\u20ac", "\\uFFFF", "\\ud83d\\ude00", "\\uDBFF\\uDFFF")
@@ -92,19 +93,12 @@ def documents(any_of):
             yield made if kind < 0.6 else edited(any_of, made)
 
 
-def spelled(text):
-    """Returns the bytes of a row's input: `%0A` is a byte, `%(300:[)` is 300 brackets, and `|` marks a place."""
-    text = re.sub(r"%\((\d+):(.*?)\)", lambda it: it[2] * int(it[1]), text.replace("|", "", 1))
-    found = text.encode()
-    return re.sub(rb"%([0-9A-Fa-f]{2})", lambda it: bytes([int(it[1], 16)]), found)
-
-
-def rows(top):
+def inputs():
     """Returns the inputs of all tables, and each document that is named above, bare and in an array."""
-    found = {spelled(it) for it in NAMED.split()}
+    found = {it.encode() for it in NAMED.split()}
     found |= {b"[" + it + b"]" for it in found} | {b'{"k":' + it + b"}" for it in found} | {b" \n" + it + b"\t " for it in found}
-    for path in glob.glob(f"{top}/crates/test_*/stdin"):
-        with open(path, encoding="utf-8") as file:
-            lines = [it.rstrip("\n").split(" ", 2) for it in file if it.strip() and it[0] != "#"]
-        found |= {spelled(it[2]) for it in lines if len(it) == 3}
+    for path in glob.glob(f"{common.TOP}/crates/test_*/stdin"):
+        lines = [it.split(" ", 2) for it in common.read(path).split("\n") if it.strip() and it[0] != "#"]
+        # (`|` marks a place)
+        found |= {common.decoded(it[2].replace("|", "", 1)) for it in lines if len(it) == 3}
     return sorted(found)

@@ -3,11 +3,12 @@
 from collections import namedtuple
 from itertools import product
 
+import common
 from common import Section
 
 MODES = ("off", "on", "trailing-strings")
-# The bytes of a value, of a key and its value, of a string of its own, and of a list.
-VALUE, MEMBER, STRING, LIST = 40, 72, 24, 24
+# The bytes of a value, and of a key and its value.
+VALUE, MEMBER = 40, 72
 
 # A run, what is wanted of it, and why. If the answer or the sections are None, they are not looked at.
 Row = namedtuple("Row", "claim call mode document answer sections", defaults=(None, None))
@@ -132,66 +133,18 @@ def tapes():
     yield Row(claim, "tapes", "off", LONG, "20001", [grown, *[NOTHING] * 5])
 
 
-# A walk over these reads a document three times: by a reader, by `read_document`, by a reader. What each allocates, and why.
-WALKS = {
-    "a walk copies a string into one block": (
-        ("walk-config", '{"host": "abc", "port": 80}', "'abc' 80 false", blocks(3)),
-        ("walk-config", '{"debug": true, "port": 80, "host": "é"}', "'é' 80 true", blocks(2)),
-    ),
-    "the second of two members frees the first one": (
-        ("walk-config", '{"host": "abc", "port": 80, "host": "de"}', "'de' 80 false", Section(2, 5, 1)),
-    ),
-    "the first key or string with an escape makes the reader's tape; each such key is then copied; all this is freed": (
-        ("walk-config", r'{"h\u006fst": "abc", "port": 80}', "'abc' 80 false", Section(3, None, 1)),
-        ("walk-sample", r'{"\u006fn": true, "count": 7, "price": 1, "s\u006furce": [], "\n": 1}', "true 7 1 []", Section(4, None, 0)),
-        ("walk-config", r'{"host": "a\n", "port": 80}', "'a\n' 80 false", Section(2, None, 1)),
-    ),
-    "a list is one block, which may grow": (
-        ("walk-lists", "[[]]", "[[] ]", blocks(4 * LIST)),
-        ("walk-lists", '[["a"], ["bc", "d"]]', "[['a' ] ['bc' 'd' ] ]", blocks(4 * LIST, 4 * STRING, 4 * STRING, 1, 2, 1)),
-        ("walk-lists", "[[], [], [], [], []]", "[[] [] [] [] [] ]", Section(2, 12 * LIST, 1)),
-    ),
-    "a struct in a struct has the blocks of its fields": (
-        ("walk-message", '{"user": {"name": "ab", "tags": ["c", "d"]}, "copies": [{"name": "e"}, {"name": ""}], "price": 1.50}',
-         "'ab'['c' 'd' ] ['e'[] ''[] ] 1.50", blocks(2, 4 * STRING, 1, 1, 4 * (STRING + LIST), 1)),
-    ),
-    "a name is copied into one block, which is freed": (
-        ("walk-event", '{"state": "open", "data": 7}', "open 7 null", Section(1, 4, 0)),
-        ("walk-event", '{"state": "closed", "data": {}, "note": null}', "closed {} null", Section(1, 6, 0)),
-        ("walk-event", '{"state": "open", "data": "a", "note": "abc"}', "open 'a' 'abc'", Section(2, 7, 1)),
-    ),
-    "a tree in a struct has the blocks of its containers and of its strings with an escape": (
-        ("walk-event", r'{"data": [1, {"k\n": ["a\n", 2.5]}], "state": "open"}',
-         "open [1,{owned 'k\n':[owned 'a\n',float '2.5']}] null", Section(None, None, 5)),
-    ),
-    "a walk keeps nothing after an error": tuple((*it, Section(None, None, 0)) for it in (
-        ("walk-config", r'{"host": "a\n", "port": 0}', "out of range at 24"),
-        ("walk-config", r'{"h\u006fst": "a" }', "missing field at 18"),
-        ("walk-message", r'{"user": {"name": "a", "n\u0061me": "b"}}', "duplicate key at 23"),
-        ("walk-message", r'{"copies": [{"tags": ["a\n"], "name": "b", "\n": 0}]}', "unknown key at 43"),
-        ("walk-lists", '[["a"], ["b", 7]]', "expected string but found int at 14"),
-        ("walk-lists", '[["a"], ["b"]] x', "trailing characters at 15"),
-        ("walk-lists", r'[["a"], ["b\n", ', "EOF while parsing a value at 16"),
-        ("walk-event", r'{"data": ["a\n"], "state": "x"}', "no state at 27"),
-        ("walk-event", r'{"note": "a", "data": {"k\n": ["b"', "EOF while parsing a list at 34"),
-    )),
-}
-
-
 def walks():
-    return (Row(claim, call, "off", document, answer, [section] * 3) for claim, some in WALKS.items() for call, document, answer, section in some)
+    """Yields rows of walks, each of which reads its document three times."""
+    for words, document, answer in common.rows("walks"):
+        call, numbers = words.split()
+        section = Section(*(None if it == "?" else int(it) for it in numbers.split("/")))
+        yield Row(f"a walk allocates {numbers}", call, "off", document, answer, [section] * 3)
 
 
 def walks_that_do_not_allocate():
     claim = "a walk over flags, integers, sources, skips, empty strings and lists does not allocate"
     document = r'{"on": true, "count": 7, "x": {"k\n": "\n"}, "price": -1.50, "source": ["a\nb", {"k\n": 1}], "": "\u0061"} '
     yield from prefixes(claim, "walk-sample", document, r'true 7 -1.50 ["a\nb", {"k\n": 1}]', [NOTHING] * 3)
-    for call, document, answer in (
-        ("walk-config", '{"host": "", "port": 80}', "'' 80 false"),
-        ("walk-lists", "[ ]", "[]"),
-        ("walk-message", '{"user": {"name": ""}, "copies": [], "price": 1}', "''[] [] 1"),
-    ):
-        yield Row(claim, call, "off", document, answer, [NOTHING] * 3)
 
 
 def calls_in_a_row():
