@@ -174,6 +174,16 @@ def counted(words, given, refuse=0):
     return Counted(ran.returncode, out, err, sections, end[1], end[2], marks)
 
 
+def refusals(words, given):
+    """Yields the run in which the first request is refused, the second, and so on, and last the one in which none is."""
+    for number in range(1, 5000):
+        ran = counted(words, given, number)
+        yield ran
+        if ran.marks is None:
+            return
+    raise RuntimeError(f"{words} has no last run")
+
+
 def each_counted(call, rows):
     """Yields what a call returns for each row, in processes of their own."""
     # So that no pipe of the pool has that descriptor.
