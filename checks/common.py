@@ -59,8 +59,8 @@ def decoded(text):
 
 
 def lines(name):
-    """Returns the lines of checks/rows/NAME."""
-    return re.findall("^[^#\n].*", read(f"{TOP}/checks/rows/{name}"), re.M)
+    """Returns the lines of checks/rows/NAME. One that ends with a backslash goes on in the next."""
+    return re.findall("^[^#\n].*", read(f"{TOP}/checks/rows/{name}").replace("\\\n", ""), re.M)
 
 
 def rows(name):
