@@ -1,4 +1,8 @@
-"""What the scripts of checks/ share: built programs, counts, runs in which a request for memory fails, and words of `rt`."""
+"""What the scripts of checks/ share: tables of rows, built programs, counts, runs in which a request for memory fails, and words of `rt`.
+
+A script runs from the top of the repository, once `rt ci` or `rt run` has built the programs. With a folder as its word, it takes
+them from there. Its last line is `NAME: N passed, M failed`.
+"""
 
 import collections
 import concurrent.futures
