@@ -1,4 +1,4 @@
-"""What the scripts of checks/ share: tables of rows, built programs, counts, runs in which a request for memory fails, and words of `rt`.
+"""What the scripts of checks/ share: tables, built programs, counts, runs in which a request for memory fails, and words of `rt`.
 
 A script runs from the top of the repository, once `rt ci` or `rt run` has built the programs. With a folder as its word, it takes
 them from there. Its last line is `NAME: N passed, M failed`.
@@ -121,7 +121,8 @@ def install(**packages):
 
 def builds(name):
     """Returns the builds of a program: two where `rt ci` built it, one in a folder that was named."""
-    places = [f"{FOLDER}/{name}", f"{FOLDER}/{name}-unproved"] if FOLDER else [f"{TOP}/crates/{name}/out/{name}{it}" for it in ("", ".by-rattle")]
+    of_rt_ci = [f"{TOP}/crates/{name}/out/{name}{it}" for it in ("", ".by-rattle")]
+    places = [f"{FOLDER}/{name}", f"{FOLDER}/{name}-unproved"] if FOLDER else of_rt_ci
     return [it for it in places if os.access(it, os.X_OK)] or give_up(f"there is no {places[0]}: run rt ci first")
 
 
