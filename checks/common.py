@@ -1,4 +1,8 @@
-"""What the scripts of checks/ share: built programs, counts, runs in which a request for memory fails, and words of `rt`."""
+"""What the scripts of checks/ share: tables, built programs, counts, runs in which a request for memory fails, and words of `rt`.
+
+A script runs from the top of the repository, once `rt ci` or `rt run` has built the programs. With a folder as its word, it takes
+them from there. Its last line is `NAME: N passed, M failed`.
+"""
 
 import collections
 import concurrent.futures
@@ -6,6 +10,7 @@ import functools
 import glob
 import importlib
 import os
+import pathlib
 import re
 import shutil
 import subprocess
@@ -25,9 +30,12 @@ def read(path, default=""):
         return file.read()
 
 
-def write(path, text):
-    with open(path, "w", encoding="utf-8") as file:
-        file.write(text)
+def held(path):
+    return pathlib.Path(path).read_bytes()
+
+
+def write(path, data):
+    pathlib.Path(path).write_bytes(data.encode() if isinstance(data, str) else data)
 
 
 def processors():
@@ -43,6 +51,27 @@ def side_by_side(call, some):
     """Returns what a call returns for each of these, in order; as many run at once as there are processors."""
     with concurrent.futures.ThreadPoolExecutor(processors()) as pool:
         return list(pool.map(call, some))
+
+
+# ---- Rows ----
+
+
+def decoded(text):
+    """Returns the bytes that a row spells: `%0A` is a byte, `%(300:[)` is 300 brackets."""
+    found = re.sub(r"%\((\d+):(.*?)\)", lambda it: it[2] * int(it[1]), text).encode()
+    return re.sub(rb"%([0-9A-Fa-f]{2})", lambda it: bytes([int(it[1], 16)]), found)
+
+
+def lines(name):
+    """Returns the lines of checks/rows/NAME. One that ends with a backslash goes on in the next."""
+    return re.findall("^[^#\n].*", read(f"{TOP}/checks/rows/{name}").replace("\\\n", ""), re.M)
+
+
+def rows(name):
+    """Yields the words, the document and the answer of each row `WORDS < DOCUMENT => ANSWER` of checks/rows/NAME."""
+    for line in lines(name):
+        words, rest = line.split(" < ", 1)
+        yield words, *(decoded(it).decode(errors="surrogateescape") for it in rest.split(" => ", 1))
 
 
 # ---- Counts ----
@@ -92,7 +121,8 @@ def install(**packages):
 
 def builds(name):
     """Returns the builds of a program: two where `rt ci` built it, one in a folder that was named."""
-    places = [f"{FOLDER}/{name}", f"{FOLDER}/{name}-unproved"] if FOLDER else [f"{TOP}/crates/{name}/out/{name}{it}" for it in ("", ".by-rattle")]
+    of_rt_ci = [f"{TOP}/crates/{name}/out/{name}{it}" for it in ("", ".by-rattle")]
+    places = [f"{FOLDER}/{name}", f"{FOLDER}/{name}-unproved"] if FOLDER else of_rt_ci
     return [it for it in places if os.access(it, os.X_OK)] or give_up(f"there is no {places[0]}: run rt ci first")
 
 
@@ -147,6 +177,16 @@ def counted(words, given, refuse=0):
     sections = [Section(*(after - before for before, after in zip(*ends))) for ends in zip(counts[::2], counts[1::2])]
     out, err = (it.decode(errors="surrogateescape").rstrip("\n") for it in (ran.stdout, ran.stderr))
     return Counted(ran.returncode, out, err, sections, end[1], end[2], marks)
+
+
+def refusals(words, given):
+    """Yields the run in which the first request is refused, the second, and so on, and last the one in which none is."""
+    for number in range(1, 5000):
+        ran = counted(words, given, number)
+        yield ran
+        if ran.marks is None:
+            return
+    raise RuntimeError(f"{words} has no last run")
 
 
 def each_counted(call, rows):

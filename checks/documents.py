@@ -1,7 +1,8 @@
 """Makes documents for the script beside: random ones, edits of them, and the inputs of the tables crates/test_*."""
 
 import glob
-import re
+
+import common
 
 SPACES = ("", "", "", " ", "\n", "\t", "\r\n", "  \n\n", " " * 17)
 ESCAPES = (*(f"\\{it}" for it in '"\\/bfnrt'), "\\u0000", "\\u001F", "\\u0041", "\\u00e9", "\\u20ac", "\\uFFFF", "\\ud83d\\ude00", "\\uDBFF\\uDFFF")
@@ -10,13 +11,7 @@ LETTERS = ("a", "b", "key", " ", "/", "\x7f", "\x80", "é", "\u07ff", "\u0800", 
 SPECIAL = ("NaN", "Infinity", "-Infinity", "true", "false", "null")
 BROKEN = (b"\xff", b"\xc3", b"\xe2\x82", b"\xed\xa0\x80", b"\xf0\x9f\x98", b"\xf4\x90\x80\x80", b"\xc0\x80", b"\x80")
 BYTES = b'[]{}:,"\\0123456789eE+-. \n\t\r\x00\x0b\x1f\x7f\xc3\xa9aNItfnu/'
-NAMED = r"""
-01 -01 00 -0 +1 - -- .5 1. 1.e5 1e 1e+ 1e+-1 1E-0 0e0 -0e-0 0x10 1_000 1,2 0.0.0 1e1.5 9223372036854775807 9223372036854775808 -9223372036854775808
--9223372036854775809 18446744073709551616 1e400 1e-400 -1e99999 123456789012345678901234567890 tru True nul NULL nan NaNs -NaN inf Infinit --Infinity
-[ ] { } [] {} [,] {,} [1,] [,1] [1,,2] {"a":} {"a"} {:1} {"a":1,} {,"a":1} {"a":1,,"b":2} [1:2] {"a",1} {1:2} {a:1} {'a':1} [}{] [} {] ]] }} [[] {"a":{}
-"" "a" 'a' "a "a" " "\" "\\" "\"" "\u" "\u00" "\u00e9" "\u00E9" "\ud800" "\udfff" "\ud83d\ude00" "\ud83d\u0041" "\x41" "\'" "\0"
-/**/1 1//x [1]/**/ #1 1# [1][2] {}{} nulltrue null,null ""x "a""b" 1true []0 {"a":1}x {"a":1,"a":2} {"a":1,"\u0061":2} {"":1,"":2} {"a":{"a":1},"b":{"a":1}}
-"""
+NAMED = [it.encode() for line in common.lines("documents") for it in line.split()]
 
 
 def text(any_of):
@@ -92,19 +87,12 @@ def documents(any_of):
             yield made if kind < 0.6 else edited(any_of, made)
 
 
-def spelled(text):
-    """Returns the bytes of a row's input: `%0A` is a byte, `%(300:[)` is 300 brackets, and `|` marks a place."""
-    text = re.sub(r"%\((\d+):(.*?)\)", lambda it: it[2] * int(it[1]), text.replace("|", "", 1))
-    found = text.encode()
-    return re.sub(rb"%([0-9A-Fa-f]{2})", lambda it: bytes([int(it[1], 16)]), found)
-
-
-def rows(top):
+def inputs():
     """Returns the inputs of all tables, and each document that is named above, bare and in an array."""
-    found = {spelled(it) for it in NAMED.split()}
+    found = {*NAMED}
     found |= {b"[" + it + b"]" for it in found} | {b'{"k":' + it + b"}" for it in found} | {b" \n" + it + b"\t " for it in found}
-    for path in glob.glob(f"{top}/crates/test_*/stdin"):
-        with open(path, encoding="utf-8") as file:
-            lines = [it.rstrip("\n").split(" ", 2) for it in file if it.strip() and it[0] != "#"]
-        found |= {spelled(it[2]) for it in lines if len(it) == 3}
+    for path in glob.glob(f"{common.TOP}/crates/test_*/stdin"):
+        lines = [it.split(" ", 2) for it in common.read(path).split("\n") if it.strip() and it[0] != "#"]
+        # (`|` marks a place)
+        found |= {common.decoded(it[2].replace("|", "", 1)) for it in lines if len(it) == 3}
     return sorted(found)

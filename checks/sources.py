@@ -66,16 +66,10 @@ class Item:
     tokens: tuple
 
     @property
-    def is_use(self):
-        return bool(re.match(r"(pub\S*\s+)?use\b", self.head))
-
-    @property
-    def is_import(self):
-        return bool(re.match(r"ghost\s+use\b", self.head))
-
-    @property
-    def is_ghost(self):
-        return bool(re.match(r"ghost\s+(?!use\b)", self.head))
+    def kind(self):
+        """Returns `use`, `import` for a `ghost use`, `ghost`, or `item`."""
+        found = re.match(r"(?:pub\S*\s+)?(use)\b|ghost\s+(use\b)?", self.head)
+        return "item" if not found else found[1] or ("import" if found[2] else "ghost")
 
 
 def imported(text):
@@ -169,7 +163,7 @@ class Source:
     def interface(self):
         """Returns what other crates see: the heads of functions, all other items but imports, and what their names are."""
         heads = [it.head for it in self.functions if self.is_seen(it)]
-        items = [it.tokens for it in self.items if not it.is_use and not it.is_import]
+        items = [it.tokens for it in self.items if it.kind not in ("use", "import")]
         words = set(re.split(r"[\s(){}\[\],;.:|&]+", " ".join(word for it in heads + items for word in it)))
-        imports = [one for it in self.items if it.is_import for one in imported(" ".join(it.tokens))]
+        imports = [one for it in self.items if it.kind == "import" for one in imported(" ".join(it.tokens))]
         return heads, items, sorted(it for it in imports if words & {it[0], *it[0].split("◌")} - {""})

@@ -2,7 +2,7 @@
 
     python3 test_beside.py LIBRARY [--count N] [--seed N]
 
-LIBRARY is libjiter.so.0, which is called through ctypes. The documents are those of checks/documents.py: its rows, and N
+LIBRARY is libjiter.so.0, which is called through ctypes. The documents are those of checks/documents.py: its inputs, and N
 random ones. Shown are:
 
 - `loads` accepts what `json.loads` accepts, except for what `meant` lists, and returns an equal value of equal types
@@ -208,7 +208,7 @@ def main():
     asked.add_argument("--seed", type=int, default=1)
     asked = asked.parse_args()
     library, dice, log, wrong, done = Library(asked.library), random.Random(asked.seed), [], 0, 0
-    rows = documents.rows(os.path.dirname(os.path.dirname(HERE)))
+    rows = documents.inputs()
     for document in itertools.chain(rows, itertools.islice(documents.documents(dice), asked.count)):
         settings = {"unique": dice.random() < 0.3, "non_finite": dice.random() < 0.6}
         log.append(document)

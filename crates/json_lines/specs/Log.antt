@@ -31,7 +31,7 @@ pub record Answer : Type 0 where
   pub line : List ℕ
   pub outcome : Option Seen
 
--- Blank lines are passed over, and no others.
+-- Lines of whitespace are passed over, and no others.
 abbrev pub IsRight : (List ℕ → Seen → Type 0) → List ℕ → Option Seen → Type 0
 IsRight becomes line None = IsBlankLine line
 IsRight becomes line (Some o) = (IsBlankLine line → ⊥) × becomes line o

@@ -84,7 +84,7 @@ fn convert_item<C: Convert, O: Write, E: Write, B: Write>(
     }
 }
 
-// Returns why a piece isn't an item. The blank piece of `[]` isn't one either, but has no error.
+// Returns why a piece isn't an item. The whitespace in `[]` isn't one either, but has no error.
 fn error_of(ended: Ended, is_first: bool, is_blank: bool) -> Option<&'static str>
     ensures { option_map (λ c. c.now) result ≡ piece_error ended is_first is_blank }
 {

@@ -73,7 +73,7 @@ impl Outcome {
         }
     }
 
-    /// What a reading of a whole value replies, of a reader that then stands at this index.
+    /// What a reading of a whole value replies, of a reader that is then at this index.
     pub fn of_value(
         alloc: Global,
         bytes: &[u8],
@@ -96,7 +96,7 @@ impl Outcome {
     }
 }
 
-/// The index of the first byte that is no blank, or the length.
+/// The index of the first byte that isn't whitespace, or the length.
 pub fn first_of(bytes: &[u8]) -> usize {
     for index in 0..bytes.len() {
         match bytes[index] {

@@ -71,7 +71,7 @@ pub enum Repeated {
     LineIndex,
 }
 
-/// A call that copies a value, or tells of a fault or a place.
+/// A call that copies a value, or describes an error or a position.
 #[derive(Clone, Copy)]
 pub enum Copying {
     /// `JsonValue::clone`

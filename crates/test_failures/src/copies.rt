@@ -1,4 +1,4 @@
-//! Copies of a value, and what is told of a fault and of a place.
+//! Copies of a value, and descriptions of an error and of a position.
 use crate::asking::Copying;
 use crate::mark::mark;
 use crate::outcome::Outcome;
@@ -6,7 +6,7 @@ use jiter::{Jiter, JsonError, JsonErrorType as Kind, JsonValue, PartialMode, Uni
 use std::alloc::{AllocError, Global};
 use test_support::told::text_of;
 
-/// What a copy of the text's value comes to, or a pointer into it, or of its fault a description, or the place's text.
+/// What a copy of the text's value comes to, or a pointer into it, or a description of its error or of its position.
 pub fn outcome(
     alloc: Global,
     bytes: &[u8],
@@ -36,7 +36,7 @@ fn of_answer(
     }
 }
 
-// An error at the end of a text, for one that has no fault.
+// An error at the end of a text, for one that has none.
 fn end_of(bytes: &[u8]) -> JsonError {
     JsonError {
         error_type: Kind::TrailingCharacters,
@@ -108,7 +108,7 @@ fn copy_told(
     }
 }
 
-// What is told of a fault.
+// What is said of an error.
 fn told(
     alloc: Global,
     bytes: &[u8],
@@ -122,7 +122,7 @@ fn told(
     told_line(alloc, line)
 }
 
-// The same of the fault where repeated keys are refused.
+// The same of the error of a duplicate key.
 fn of_unique(
     alloc: Global,
     bytes: &[u8],
@@ -139,7 +139,7 @@ fn of_unique(
     }
 }
 
-// A copy of a fault, which is like it, or refused.
+// A copy of an error, which equals it, or out of memory.
 fn error_copied(alloc: Global, error: &UniqueError) -> Result<Outcome, AllocError> {
     let _ = mark(alloc);
     let copy = error.clone(alloc);
@@ -151,7 +151,7 @@ fn error_copied(alloc: Global, error: &UniqueError) -> Result<Outcome, AllocErro
     }
 }
 
-// What is told of a refusal of the pull reader.
+// What is said of an error of the pull reader.
 fn refusal_told(alloc: Global, bytes: &[u8]) -> Result<Outcome, AllocError> {
     let mut jiter = Jiter::new(bytes).with_allow_inf_nan();
     match jiter.next_null() {

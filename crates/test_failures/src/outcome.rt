@@ -5,7 +5,7 @@ ghost use Rattle.test_failures.specs.Outcome.{status_of};
 /// What a call came to, and the line that tells it.
 #[derive(Drop)]
 pub enum Outcome {
-    /// It answered: a value, or a fault of the bytes.
+    /// It returned a value, or an error of the bytes.
     Answered(String),
     /// Memory was refused, and all that is promised of it holds.
     AllocFailed(String),

@@ -25,7 +25,7 @@ struct Walk<'j> {
 }
 
 /// What a walk through a document comes to: its texts and keys on one line. Where memory is refused for one the reader
-/// stands at its first byte; a text is then read again, and the walk goes on.
+/// is at its first byte; a text is then read again, and the walk goes on.
 pub fn outcome(
     alloc: Global,
     bytes: &[u8],
@@ -209,7 +209,7 @@ impl<'j> Walk<'j> {
         }
     }
 
-    // A key's reply: where memory was refused the reader stands at the key's first byte.
+    // A key's reply: after an allocation failed the reader is at the key's first byte.
     fn kept(
         &self,
         key: Result<Option<String>, Stop>,
@@ -224,7 +224,7 @@ impl<'j> Walk<'j> {
         }
     }
 
-    // A refusal's index and the reader's place are this index.
+    // The error's index and the reader's position are this index.
     fn expect_at(&self, error: &JiterError, index: usize) -> Result<(), Stop> {
         if error.index == index && self.jiter.current_index() == index {
             Ok(())

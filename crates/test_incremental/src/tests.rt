@@ -39,7 +39,7 @@ fn a_document_that_comes_in_pieces_is_shown_and_whole(rt: HostRuntime) -> Result
     Ok(())
 }
 
-// The example of docs/CALLING.md: the fault of a document that comes in pieces, if it is none.
+// The example of docs/CALLING.md: the error of a document in chunks, if it has one.
 fn fault(alloc: Global, pieces: &[&[u8]]) -> Result<Option<String>, AllocError> {
     let mut incremental_parser = IncrementalParser::new(alloc, false, PartialMode::Off);
     let mut lines = LineIndex::new(alloc);

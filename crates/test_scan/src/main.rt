@@ -55,7 +55,7 @@ fn answer(rt: &HostRuntime, alloc: Global, row: &Row<'_>) -> io::Result<()> {
     }
 }
 
-// Prints the value, or the kind and the index of the fault.
+// Prints the value, or the kind and the index of the error.
 fn tell<T: Debug + Drop>(rt: &HostRuntime, answer: Result<T, Fault>) -> io::Result<()> {
     match answer {
         Ok(value) => println!(rt; "{value:?}"),

@@ -36,7 +36,7 @@ fn form(number: NumberAny<'_>) -> (&'static str, usize) {
     }
 }
 
-// The number at a place and the index after it, where `number_end` finds the same end or fault.
+// The number at a place and the index after it, where `number_end` finds the same end or error.
 fn told_at(alloc: Global, bytes: &[u8], at: usize, names: bool) -> Result<String, AllocError>
     requires { at < length bytes.now }
 {
@@ -73,7 +73,7 @@ pub fn answer_end_at(rt: &HostRuntime, bytes: &[u8], at: usize, names: bool) -> 
     tell(rt, end)
 }
 
-// How many blanks stand after the number, and after the comma after it.
+// How many spaces are after the number, and after the comma after it.
 const FOLLOWERS: [(usize, bool); 10] = [
     (1, false),
     (15, false),
@@ -87,7 +87,7 @@ const FOLLOWERS: [(usize, bool); 10] = [
     (64, true),
 ];
 
-// The text, perhaps a comma, and so many blanks.
+// The text, perhaps a comma, and so many spaces.
 fn followed(alloc: Global, text: &[u8], comma: bool, blanks: usize) -> Result<Vec<u8>, AllocError> {
     let mut bytes = Vec::new(alloc);
     bytes.extend_from_slice(text)?;

@@ -9,7 +9,7 @@ use std::alloc::{AllocError, Global};
 use std::io;
 use test_rows::bytes_of;
 
-/// How many bytes after a backslash are taken before one is the last, or shows a fault, and what is told then.
+/// How many bytes after a backslash are taken before one is the last, or shows an error, and what is said then.
 pub fn answer_escape(rt: &HostRuntime, bytes: &[u8]) -> io::Result<()> {
     let mut escape = PartialEscape::new();
     for (count, byte) in bytes.iter().enumerate() {

@@ -1,4 +1,4 @@
-//! Blanks, the steps between the parts of arrays and objects, literals, and what the reader passes.
+//! Whitespace, the steps between the parts of arrays and objects, literals, and what the reader passes.
 ghost use Rattle.std.specs.Prelude.{◌<◌, ◌≤◌, length};
 
 use jiter_scan::errors::Fault;
@@ -13,7 +13,7 @@ use std::borrow::CowStr;
 use std::fmt::Debug;
 use std::io;
 
-// Prints the kind and the index of a fault, and where the reader is if not there.
+// Prints the kind and the index of an error, and where the reader is if not there.
 fn tell_fault(rt: &HostRuntime, fault: Fault, index: usize) -> io::Result<()> {
     if fault.index == index {
         return println!(rt; "{:?} at {index}", fault.kind);
@@ -55,7 +55,7 @@ pub fn answer_start(rt: &HostRuntime, bytes: &[u8]) -> io::Result<()> {
     println!(rt; "{first:?}")
 }
 
-/// The index after the blanks.
+/// The index after the whitespace.
 pub fn answer_blanks(rt: &HostRuntime, bytes: &[u8], at: usize) -> io::Result<()>
     requires { at ≤ length bytes.now }
 {

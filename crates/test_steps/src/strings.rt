@@ -20,7 +20,7 @@ fn told_text(alloc: Global, text: &CowStr<'_>, end: usize) -> Result<String, All
     format!(in alloc; "{form} {text:?} to {end}")
 }
 
-// The text of a string and the index after it, or its fault.
+// The text of a string and the index after it, or its error.
 fn told_string(
     alloc: Global,
     tape: &mut Vec<u8>,
@@ -56,7 +56,7 @@ pub fn answer_string(
     println!(rt; "{told}")
 }
 
-// Where a raw string ends, closed or open, or its fault.
+// Where a raw string ends, closed or open, or its error.
 fn told_raw(alloc: Global, bytes: &[u8], at: usize, keep: bool) -> Result<String, AllocError>
     requires { at < length bytes.now }
 {

@@ -1,4 +1,4 @@
-//! Blanks and strings of each length, with damage at each place; strings cut at every byte.
+//! Whitespace and strings of each length, with damage at each index; strings cut at every byte.
 mod blanks;
 mod open_strings;
 mod open_texts;

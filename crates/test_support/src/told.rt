@@ -77,7 +77,7 @@ pub fn text_of(alloc: Global, value: &JsonValue<'_>) -> Result<String, AllocErro
     Ok(out)
 }
 
-/// The kind and the index of the fault that a parse answers, if it answers one.
+/// The kind and the index of the error that a parse returns, if it returns one.
 pub fn fault_of(alloc: Global, bytes: &[u8], allow_inf_nan: bool) -> Option<(Kind, usize)> {
     match JsonValue::parse(alloc, bytes, allow_inf_nan) {
         Ok(_) => None,
@@ -85,7 +85,7 @@ pub fn fault_of(alloc: Global, bytes: &[u8], allow_inf_nan: bool) -> Option<(Kin
     }
 }
 
-/// The value on one line, or the kind and the index of the fault.
+/// The value on one line, or the kind and the index of the error.
 pub fn outcome_text(
     alloc: Global,
     outcome: &Result<JsonValue<'_>, JsonError>,

@@ -14,7 +14,7 @@ pub fn mode_of(row: &Row<'_>) -> PartialMode {
     }
 }
 
-/// What the row's call answers, if it is one of these: the value, or the kind and the index of the fault.
+/// What the row's call answers, if it is one of these: the value, or the kind and the index of the error.
 pub fn answer(alloc: Global, row: &Row<'_>, bytes: &[u8]) -> Result<Option<String>, AllocError> {
     let names = row.allow_inf_nan;
     let mode = mode_of(row);

@@ -150,7 +150,7 @@ fn read_host(alloc: Global, jiter: &mut Jiter<'_>) -> JiterResult<String> {
     }
 }
 
-// The values of the lines that are documents; each owns its texts, and the scratch serves all lines. Want of memory ends
+// The values of the lines that are documents; each owns its texts, and the scratch serves all lines. Out of memory ends
 // it.
 fn values_of(alloc: Global, lines: &[&[u8]]) -> Result<Vec<JsonValue<'static>>, AllocError> {
     let mut scratch = JsonValueScratch::new(alloc);

@@ -16,7 +16,7 @@ const TYPES: [JsonType; 7] = [
     JsonType::Object,
 ];
 
-// Every kind of fault.
+// Every kind of error.
 const KINDS: [Kind; 22] = [
     Kind::FloatExpectingInt,
     Kind::EofWhileParsingList,
@@ -42,7 +42,7 @@ const KINDS: [Kind; 22] = [
     Kind::OutOfMemory,
 ];
 
-// Why the pull reader may refuse: each pair of types, and then each kind of fault.
+// The errors of the pull reader: each pair of types, and then each kind of error.
 fn causes(alloc: Global) -> Result<Vec<JiterErrorType>, AllocError> {
     let mut causes = Vec::new(alloc);
     for pair in 0..49usize {
@@ -95,7 +95,7 @@ fn count_equals(
     Ok(counts)
 }
 
-// The place of the first cause whose error at this index is not described, in blanks and in lines, or prints otherwise.
+// The place of the first cause whose error at this index is not described, in spaces and in lines, or prints otherwise.
 fn first_missed(
     alloc: Global,
     causes: &[JiterErrorType],

@@ -13,7 +13,7 @@ enum Place {
     AfterEscape,
 }
 
-// A string's place, what stands there before its letters and after the damage, the string's first byte, and how many
+// A string's index, what is there before its letters and after the damage, the string's first byte, and how many
 // bytes fewer the decoded prefix has.
 #[derive(Clone, Copy)]
 struct Form {
@@ -55,7 +55,7 @@ const FORMS: [Form; 4] = [
     },
 ];
 
-// Damage, the kind of its fault, and how many bytes after the letters that stands.
+// Damage, the kind of its error, and how many bytes after the letters that is.
 const DAMAGES: [(&[u8], Kind, usize); 5] = [
     (b"\xff", Kind::InvalidUnicodeCodePoint, 0),
     (b"\x1f", Kind::ControlCharacterWhileParsingString, 0),

@@ -26,7 +26,7 @@ fn skip_document(bytes: &[u8], names: bool) -> JiterResult<()> {
     }
 }
 
-// Whether the skip meets what reading meets; a fault of UTF-8 it does not.
+// Whether the skip has the error that reading has; it has none for UTF-8.
 fn agree(alloc: Global, bytes: &[u8], names: bool) -> bool {
     match (
         JsonValue::parse(alloc, bytes, names),

@@ -141,7 +141,7 @@ const KINDS: [Kind; 22] = [
     Kind::OutOfMemory,
 ];
 
-// Every kind of fault of the bytes.
+// Every kind of error of the bytes.
 const FAULTS: [FaultKind; 20] = [
     FaultKind::EofWhileParsingList,
     FaultKind::EofWhileParsingObject,
@@ -189,7 +189,7 @@ fn count_errors(kind: &Kind, index: usize) -> Result<(usize, usize, usize), Allo
     Ok(counts)
 }
 
-// The same of a kind of fault.
+// The same of a kind of error.
 fn count_faults(kind: FaultKind, index: usize) -> Result<(usize, usize, usize), AllocError> {
     let fault = Fault {
         kind: kind.clone()?,
@@ -210,7 +210,7 @@ fn count_faults(kind: FaultKind, index: usize) -> Result<(usize, usize, usize), 
     Ok(counts)
 }
 
-// The first kind whose error at this index is not described, in blanks and in lines, or prints otherwise, or is like
+// The first kind whose error at this index is not described, in spaces and in lines, or prints otherwise, or is like
 // another one.
 fn first_missed(
     alloc: Global,

@@ -1,10 +1,10 @@
-//! Runs of each blank: each length, each byte after, and the end of the input.
+//! Runs of each whitespace byte: each length, each byte after, and the end of the input.
 ghost use Rattle.std.specs.Prelude.{◌<◌, ◌≤◌};
 
 use jiter_steps::whitespace::past_blanks;
 use std::test::*;
 
-// The same blank throughout, but for one byte at a place.
+// The same byte throughout, except one at an index.
 fn text_of(blank: u8, place: usize, other: u8) -> [u8; 64]
     requires { place < 64 }
 {
@@ -13,7 +13,7 @@ fn text_of(blank: u8, place: usize, other: u8) -> [u8; 64]
     text
 }
 
-// The blanks from a place on end at another, whether a byte that is none stands there, with or without more
+// The whitespace from an index on ends at another, whether another byte is there, with or without more
 // after it, or the input ends there.
 fn is_passed(blank: u8, from: usize, end: usize, other: u8) -> bool
     requires { (from ≤ end) × (end < 64) }

@@ -10,7 +10,7 @@ use std::alloc::Global;
 use std::borrow::CowStr;
 use std::test::*;
 
-// How far a string was read: to its closing quote at an index, to a fault, or to the end of the input.
+// How far a string was read: to its closing quote at an index, to an error, or to the end of the input.
 #[derive(Clone, Copy, Debug, PartialEq, Eq)]
 enum Reached {
     Quote(usize),
@@ -79,7 +79,7 @@ fn read_cut(
     read_pieces(string, &content[cut..], cut.wrapping_add(1), size)
 }
 
-// The place after the string's text, or the fault that it has.
+// The index after the string's text, or the error that it has.
 fn ended(string: &PartialString, keep: bool, end: usize) -> Result<usize, (FaultKind, usize)> {
     if string.is_text(keep) {
         Ok(end)

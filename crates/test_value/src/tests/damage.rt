@@ -1,4 +1,4 @@
-//! Damage at each place of a string, and the fault that a parse answers.
+//! Damage at each index of a string, and the error that a parse returns.
 use jiter_scan::JsonErrorType as Kind;
 use std::alloc::{AllocError, Global};
 use std::test::*;
