@@ -14,17 +14,18 @@ use Rattle.jiter_steps.proofs.Fault.SameSpelling.{SameBefore, index-same}
 use Rattle.jiter_steps.proofs.Reading.Bounds.{both}
 use Rattle.jiter_steps.proofs.Fault.SameRuns.{within-too}
 use Rattle.jiter_steps.proofs.Fault.SameNumbers.{Shown}
-use Rattle.jiter_steps.proofs.Reading.Bodies.{part-ahead, body_at-is, body_at-event_by, event_by-end}
+use Rattle.jiter_steps.proofs.Reading.Bodies.{StopWithin, body_at-is, body_at-event_by, body_at-within, event_by-end}
+use Rattle.jiter_steps.proofs.Reading.Bodies.{part-ahead}
 use Rattle.jiter_steps.proofs.Grammar.Places.{Explains, event_at-explains}
 
--- a part or a quote that ends before m, or an error of a place there
+-- a part or a quote that ends by m, or an error of a place before it
 abbrev ShownStop : ℕ → Stop → Type 0
-ShownStop m (closed e) = e < m
+ShownStop m (closed e) = e ≤ m
 ShownStop m (wrong k j) = j < m
 ShownStop m s = ⊥
 
 abbrev ShownFound : ℕ → Event → Type 0
-ShownFound m (part bytes owned e) = e < m
+ShownFound m (part bytes owned e) = e ≤ m
 ShownFound m (over s) = ShownStop m s
 
 abbrev IsWrong : Stop → Type 0
@@ -208,7 +209,7 @@ module _ (t u : List ℕ) (m : ℕ) (same : SameBefore t u m) where
   body-join n i go le (part bytes owned j) x h shown =
       let ahead = part-ahead t i j bytes owned x in
       let rest = go j (omega arith) shown in
-      let here = h rest.0 in
+      let here = h (omega (arith, rest.0)) in
       let is = body_at-event_by u i (part bytes owned j) here.1 in
       let ends = join-ends bytes owned (body_at t j) (body_at u j) rest.1 in
       (omega (arith, here.0), subst (Ends (before bytes owned (body_at t j))) (sym is) ends)
@@ -246,19 +247,21 @@ module _ (t u : List ℕ) (m : ℕ) (same : SameBefore t u m) where
     by s w = absurd w
 
   -- what is shown of a string with this body
-  body-shown : (i : ℕ) (b : Body) (s : Stop) → b.stop ≡ s
+  body-shown : (i : ℕ) (b : Body) (s : Stop) → b.stop ≡ s → StopWithin t i s
       → (ShownStop m s → (i < m) × Ends t u m same b (body_at u i))
       → SameScalar t m i (text_in_form whole t i b.bytes b.owned s) (content_at whole u i)
   unfolding content_at
-  body-shown i b unclosed e ends = λ shown. absurd (true≢false shown.1.0)
-  body-shown i b cut e ends = λ shown. absurd (true≢false shown.1.0)
-  body-shown i b (wrong k j) e ends = λ shown.
+  body-shown i b unclosed e within ends = λ shown. absurd (true≢false shown.1.0)
+  body-shown i b cut e within ends = λ shown. absurd (true≢false shown.1.0)
+  body-shown i b (wrong k j) e within ends = λ shown.
       let r = ends shown.0 in
       (r.0, wrong-ends i b (body_at u i) (subst IsWrong (sym e) tt) r.1)
-  body-shown i b (closed e) is ends =
+  body-shown i b (closed e) is within ends =
       if_case (λ x. SameScalar t m i x (content_at whole u i)) (utf8_valid_len b.bytes == length b.bytes) _ _
-      (λ valid shown. let r = ends shown.0 in (r.0, again r.1 ∙ if-true _ _ _ valid))
-      (λ other shown. absurd (shown.1.1 refl)) where
+      (λ valid shown. let r = ends (omega (arith, shown.0)) in (r.0, again r.1 ∙ if-true _ _ _ valid))
+      (λ other shown.
+      let r = ends (omega (arith, shown.1.1 refl, within.1)) in
+      (r.0, subst IsRefused (sym (again r.1 ∙ if-false _ _ _ other)) tt)) where
         again : Ends t u m same b (body_at u i)
             → content_at whole u i ≡ text_in_form whole u i b.bytes b.owned (closed e)
         again (inl h) =
@@ -270,5 +273,5 @@ module _ (t u : List ℕ) (m : ℕ) (same : SameBefore t u m) where
   unfolding content_at
   string-same i shown =
       let b = body_at t (i + 1) in
-      let r = body-shown (i + 1) b b.stop refl (body-same t u m same (i + 1)) shown in
+      let r = body-shown (i + 1) b b.stop refl (body_at-within t (i + 1)) (body-same t u m same (i + 1)) shown in
       (omega (arith, r.0), r.1)

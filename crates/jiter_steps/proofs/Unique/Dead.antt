@@ -122,4 +122,4 @@ unique-dead names t k i stop is byte utf8 rest n d =
     (whole_answer-stays t u (i + 1) same (rules names) (λ k. refl)
     (repeats-advance t own_bytes (whole_trees names) (trees-advances t nothing_forgiven whole names))
     (repeats-advance u own_bytes (whole_trees names) (trees-advances u nothing_forgiven whole names))
-    (keys-keep t u (i + 1) same names) (subst (ShownFault (i + 1)) (sym is) (omega arith, (byte, utf8))))
+    (keys-keep t u (i + 1) same names) (subst (ShownFault t (i + 1)) (sym is) (omega arith, (byte, λ is. absurd (utf8 is)))))
