@@ -38,7 +38,7 @@ module _ (t u : List ℕ) (m : ℕ) (same : SameBefore t u m) where
   }
 
 -- An error of a byte before m is an error of the other text.
-answer-stays : (names : Bool) (t u : List ℕ) (m : ℕ) → SameBefore t u m → ShownFault t m (answer names t)
+pub answer-stays : (names : Bool) (t u : List ℕ) (m : ℕ) → SameBefore t u m → ShownFault t m (answer names t)
     → IsFault (answer names u)
 answer-stays names t u m same =
     whole_answer-stays t u m same (whole_trees names) (λ k. refl) (trees-advances t nothing_forgiven whole names)

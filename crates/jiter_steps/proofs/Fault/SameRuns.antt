@@ -1,5 +1,5 @@
 -- Runs and whitespace in two texts with the same bytes before a place.
-use Rattle.jiter_steps.proofs.Words.{◌≡◌, ◌≢◌, ◌⊎◌, inl, inr, ℕ, ◌+◌, ◌-◌, ◌<◌, ◌≤◌, Bool, false, List, length, sym, ap}
+use Rattle.jiter_steps.proofs.Words.{◌≡◌, ◌⊎◌, inl, inr, ℕ, ◌+◌, ◌-◌, ◌<◌, ◌≤◌, Bool, false, List, length, sym, ap}
 use Rattle.jiter_steps.proofs.Words.{◌∙◌, subst, arith, slice_get, slice_index, Some, cases_lt, true≢false}
 use Rattle.jiter_steps.proofs.Words.{slice_get_within, slice_get-get_or, Kind, is_end_kind, invalid_code_point}
 use Rattle.jiter_steps.proofs.Words.{run_end-ahead, run_end-within, run_end-passes, run_end-stops, past_blanks, IsBlank}

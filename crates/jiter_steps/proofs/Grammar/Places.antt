@@ -8,7 +8,7 @@ use Rattle.jiter_steps.proofs.Words.{unit_of, is_high, is_low, pair_of, Stands, 
 use Rattle.jiter_steps.proofs.Words.{unclosed, cut, wrong, Event, part, over, bad_digit, unit_at, hex_digits_or}
 use Rattle.jiter_steps.proofs.Words.{hex_digits_at, after, surrogate_pair, after_high_backslash, after_high}
 use Rattle.jiter_steps.proofs.Words.{unicode_escape, short, after_backslash, event_by, event_at, if_case, stands-append}
-use Rattle.jiter_steps.proofs.Words.{stands-within, stands-length, ◌*◌, digit_value, eqb-false, length-encode}
+use Rattle.jiter_steps.proofs.Words.{stands-within, stands-length, ◌*◌, eqb-false, length-encode}
 use Rattle.jiter_steps.proofs.Words.{len_utf8_bounds, len_utf8_ascii}
 use Rattle.jiter_steps.specs.StringReading.{closed}
 
