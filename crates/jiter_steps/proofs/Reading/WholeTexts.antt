@@ -1,6 +1,6 @@
 -- The equations of a whole text's reading, and its bounds.
 use Rattle.jiter_steps.proofs.Words.{◌≡◌, ℕ, ◌<◌, ◌≤◌, List, length, refl, ap, ◌∙◌, arith, slice_get, Option, Some}
-use Rattle.jiter_steps.proofs.Words.{None, slice_get-get_or, slice_get_past, slice_get_within, Kind, eof_value}
+use Rattle.jiter_steps.proofs.Words.{None, slice_get-get_or, slice_get_within, Kind, eof_value}
 use Rattle.jiter_steps.proofs.Words.{get-none, past_blanks, nesting_limit, Reading, done, fault, Rules, value_at}
 use Rattle.jiter_steps.proofs.Words.{if_last, to_end, if_begun, prefix_answer, whole_answer, trailing_characters}
 use Rattle.jiter_steps.proofs.Grammar.Blanks.{past_blanks-bound}
