@@ -1,8 +1,8 @@
 -- A prefix of an array or an object that lacks its last bracket is refused: the input ends too early.
-use Rattle.jiter_steps.proofs.Words.{◌≡◌, ℕ, ◌+◌, ◌<◌, ◌≤◌, Bool, true, false, List, length, take, sym, ◌∙◌, subst, arith}
-use Rattle.jiter_steps.proofs.Words.{is_end_kind, answer, Node, begin, end, nesting_limit, IsContainer, IsDocument}
-use Rattle.jiter_steps.proofs.Words.{Reading, done, fault, slice_get_within, Tree, past_blanks, IsBlank, Spells}
-use Rattle.jiter_steps.proofs.Words.{start_of, slice_index, value_at, ap, refl}
+use Rattle.jiter_steps.proofs.Words.{◌≡◌, ℕ, ◌+◌, ◌<◌, ◌≤◌, Bool, true, false, List, length, take, sym, ◌∙◌, subst}
+use Rattle.jiter_steps.proofs.Words.{arith, is_end_kind, answer, Node, begin, end, nesting_limit, IsContainer}
+use Rattle.jiter_steps.proofs.Words.{IsDocument, Reading, done, fault, slice_get_within, Tree, past_blanks, IsBlank}
+use Rattle.jiter_steps.proofs.Words.{Spells, start_of, slice_index, value_at, ap, refl}
 use Rattle.jiter_steps.specs.Node as grammar
 use Rattle.jiter_steps.proofs.Cut.DocumentPrefixes.{prefix-length, prefix-same}
 use Rattle.jiter_steps.proofs.Cut.PrefixNodes.{node-read}
