@@ -97,8 +97,3 @@ left-of false y h g = sym g ∙ h
 -- a first byte that is no minus
 pub begins-digit : (b : ℕ) → begins_decimal b ≡ true → (b == 45) ≡ false → is_digit b ≡ true
 begins-digit b h g = left-of (is_digit b) (b == 45) h g
-
--- the byte after others
-pub get-after : (w u : List ℕ) (b : ℕ) → slice_get (w ++ b ∷ u) (length w) ≡ Some b
-get-after [] u b = refl
-get-after (c ∷ w) u b = get-after w u b

@@ -1,21 +1,17 @@
 -- The value of a number that was read byte by byte.
 use Rattle.jiter_scan.proofs.Words.{◌≡◌, inl, inr, ℕ, ◌-◌, ◌^◌, ◌<◌, ◌≤◌, ◌==◌, Bool, true, false, List, [], ◌∷◌, ◌++◌}
-use Rattle.jiter_scan.proofs.Words.{append-nil, length, length-append, refl, sym, ap, subst, ◌∙◌, arith, nat_le, nat_lt}
-use Rattle.jiter_scan.proofs.Words.{codes, slice_get, slice_range, None, IfSome, if◌then◌else◌, take_all, cases_lt}
-use Rattle.jiter_scan.proofs.Words.{decimal_of, big, float, is_integral, integral_value, number_value, IsName}
-use Rattle.jiter_scan.proofs.Words.{IsNumberText, invalid_number, after_minus, skip_minus, decimal_at, int_part_at}
+use Rattle.jiter_scan.proofs.Words.{append-nil, length, refl, sym, ap, subst, ◌∙◌, arith, nat_le, nat_lt, slice_get}
+use Rattle.jiter_scan.proofs.Words.{slice_range, None, take_all, cases_lt, decimal_of, big, float, is_integral}
+use Rattle.jiter_scan.proofs.Words.{integral_value, number_value, IsNumberText, skip_minus, decimal_at, int_part_at}
 use Rattle.jiter_scan.proofs.Words.{number_span, number_from, tail_at, is_whole, is_int_stage, at_end, IsBegun, taken}
-use Rattle.jiter_scan.proofs.Words.{failed, Stands, word_at, Stage, continues_number}
-use Rattle.jiter_scan.specs.declared.partial_number.Stage.TheVariants as stage
-use Rattle.jiter_scan.proofs.Choices.{if-true, if-false, if_case, if_gives, failed-taken, span_then-taken}
+use Rattle.jiter_scan.proofs.Words.{Stands, Stage}
+use Rattle.jiter_scan.proofs.Choices.{if-true, if-false, if_case, if_gives, span_then-taken}
 use Rattle.jiter_scan.proofs.NumberBytes.{number-not_empty}
-use Rattle.jiter_scan.proofs.NumberComplete.{number_span-complete}
 use Rattle.jiter_scan.proofs.NumberSpans.{span-digits}
 use Rattle.jiter_scan.proofs.NumberSound.{number_span-sound, int_part_at-sound, fraction_at-sound, exponent_at-sound}
 use Rattle.jiter_scan.proofs.NumberValues.{number_value-tail}
 use Rattle.jiter_scan.proofs.Standing.{stands-length, stands-slice, stands-split}
-use Rattle.jiter_scan.proofs.WordLaws.{word_at-complete}
-use Rattle.jiter_scan.proofs.OpenNumbers.{get-after, ended}
+use Rattle.jiter_scan.proofs.OpenNumbers.{ended}
 
 -- ---- a number that is whole
 nothing-after : (w : List ℕ) → slice_get w (length w) ≡ None
@@ -112,44 +108,3 @@ stands-last w u =
     let r = stands-split t 0 (length t) w u all in
     let place : r.0 ≡ length w = omega (arith, stands-length t 0 r.0 w r.1) in
     subst (λ j. Stands t j (length t) u) place r.2
-
--- a minus alone is before `Infinity`
-minus-alone : (w : List ℕ) → 0 < length w → IsName (w ++ codes "Infinity") → w ≡ 45 ∷ []
-minus-alone w some (inl e) = absurd (omega (arith, ap length e, length-append w (codes "Infinity")))
-minus-alone w some (inr (inl e)) = absurd (omega (arith, ap length e, length-append w (codes "Infinity")))
-minus-alone [] some (inr (inr e)) = absurd (omega (arith, some))
-minus-alone (c ∷ []) some (inr (inr e)) = let same : c ≡ 45 = cc in ap (λ x. x ∷ []) same
-minus-alone (c ∷ d ∷ w) some (inr (inr e)) = absurd (omega (arith, ap length e, length-append w (codes "Infinity")))
-
-module _ (w : List ℕ) (begun : IsBegun w stage.Minus) where
-  abbrev named : List ℕ
-  named = w ++ codes "Infinity"
-
-  named-span : (names : Bool)
-      → number_span names named 0
-      ≡ (if names then word_at named (codes "Infinity") (length w) else failed invalid_number (length w))
-  named-span names =
-      begun.goes names (codes "Infinity")
-      ∙ ap (after_minus names named (length w)) (get-after w (codes "nfinity") 73)
-
-  -- `Infinity` after it is no decimal number
-  no-decimal : IsNumberText false named → ⊥
-  no-decimal text =
-      let all : Stands named 0 (length named) named =
-      subst (Stands named 0 (length named)) (whole-range named)
-      (stands-slice named 0 (length named) (omega arith) (omega arith)) in
-      let end : IfSome (slice_get named (length named)) (λ c. continues_number c ≡ false) =
-      subst (λ o. IfSome o (λ c. continues_number c ≡ false)) (sym (nothing-after named)) tt in
-      failed-taken invalid_number (length w) tt (length named)
-      (sym (named-span false) ∙ number_span-complete named false 0 (length named) named all text end)
-
-  minus-by : 0 < length w → IsNumberText true named → w ≡ 45 ∷ []
-  minus-by some (inl d) = absurd (no-decimal (inl d))
-  minus-by some (inr h) = minus-alone w some h.1
-
-  -- a number that has come no further than after its minus has that one byte
-  pub begun-minus : 0 < length w → w ≡ 45 ∷ []
-  begun-minus some =
-      minus-by some (rw (← whole-range named) (number_span-sound named true 0 (length named)
-      (named-span true ∙ word_at-complete named (codes "Infinity") (length w) (length named)
-      (stands-last w (codes "Infinity")))))

@@ -20,6 +20,23 @@ pub enum Look {
     Fault(FaultKind),
 }
 
+/// Returns what is at `to`, the first byte of a string that isn't plain, or the length.
+///
+/// `ascii` is true only if all bytes of the string before it are below 80 hex.
+#[inline(always)]
+fn look_there(bytes: &[u8], to: usize, ascii: bool) -> Look
+    ensures { (from : ℕ) → to ≡ scan_stop bytes.now from → (IsTrue ascii → IsAsciiTo bytes.now from to)
+        → IsLook bytes.now from to result }
+{
+    match byte_at(bytes, to) {
+        None => Look::Fault(FaultKind::EofWhileParsingString),
+        Some(b'"') if ascii => Look::Plain,
+        Some(b'"') => Look::Utf8,
+        Some(b'\\') => Look::Escaped(ascii),
+        Some(_) => Look::Fault(FaultKind::ControlCharacterWhileParsingString),
+    }
+}
+
 /// Looks at the string whose first byte after the opening quote is at `from` (RFC 8259, 7).
 ///
 /// Returns the index of the first byte that is not plain, or the length, and what is there. Fastest if that is a quote
@@ -54,12 +71,5 @@ pub fn look_at(bytes: &[u8], from: usize) -> (usize, Look)
             }
         }
     };
-    let look = match byte_at(bytes, to) {
-        None => Look::Fault(FaultKind::EofWhileParsingString),
-        Some(b'"') if ascii => Look::Plain,
-        Some(b'"') => Look::Utf8,
-        Some(b'\\') => Look::Escaped(ascii),
-        Some(_) => Look::Fault(FaultKind::ControlCharacterWhileParsingString),
-    };
-    (to, look)
+    (to, look_there(bytes, to, ascii))
 }

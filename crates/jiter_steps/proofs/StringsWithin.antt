@@ -9,8 +9,7 @@ use Rattle.jiter_steps.proofs.Calls.StringAnswers.{string-checked, string_closed
 use Rattle.jiter_steps.proofs.Grammar.Places.{Explains}
 use Rattle.jiter_steps.proofs.Grammar.StringComplete.{event_by-byte, event_by-escape, event_by-quote}
 use Rattle.jiter_steps.proofs.Grammar.StringSound.{closed-text}
-use Rattle.jiter_steps.proofs.Reading.Bodies.{StopWithin, body_at-event_by, body_at-within, each-body}
-use Rattle.jiter_steps.proofs.Reading.Bodies.{part-ahead}
+use Rattle.jiter_steps.proofs.Reading.Bodies.{StopWithin, body_at-event_by, body_at-within, each-body, part-ahead}
 
 module _ (chunk : List ℕ) where
   -- the bytes of a part are the same part, wherever they are

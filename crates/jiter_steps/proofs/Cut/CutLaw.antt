@@ -31,7 +31,7 @@ use Rattle.jiter_steps.proofs.Cut.Halting.{container-halts}
 use Rattle.jiter_steps.proofs.Reading.Instances.{trees-advances}
 use Rattle.jiter_steps.proofs.Grammar.Blanks.{blank-passed}
 use Rattle.jiter_steps.proofs.Cut.NumberCutLaws.{CutNumber, number_at-before, number_at-cuts}
-use Rattle.jiter_steps.proofs.Cut.ReadPrefixes.{IsCutMember, CutRules, value_at-prefix}
+use Rattle.jiter_steps.proofs.Cut.ReadPrefixes.{IsCutMember, CutRules, node-quiet, value_at-prefix}
 use Rattle.jiter_steps.proofs.Grammar.ScalarLaws.{EndsNumber}
 use Rattle.jiter_steps.proofs.Grammar.SpelledParts.{begins-value, begin-within, node-within, ends-end, nodes_list}
 use Rattle.jiter_steps.proofs.Grammar.SpelledParts.{InOrder, items-order, members-order}
@@ -269,7 +269,7 @@ module _ (names : Bool) (t : List ℕ) (k : ℕ) (within : k ≤ length t) (mode
       let begins = prefix-begins rules prefix (begin n) at (omega (arith, prefix-length t k within)) in
       rw begins (value_at-prefix rules names t k within (key_text t) (value_of t) IsCut
       (trees-advances prefix is_forgiven (value_form mode) names) cut-rules n nesting_limit d.spelled d.limit
-      (ends-end t (end n) d.after) lt)
+      (node-quiet t n (ends-end t (end n) d.after)) lt)
 
   container-cut : (n : Node) → IsContainer n → begin n < k → (v : Tree) × (cut names t n k mode ≡ Some v)
   container-cut (grammar.array b e ns) is lt = (_, array-left names t k mode b e ns lt)

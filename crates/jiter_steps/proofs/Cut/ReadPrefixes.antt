@@ -22,6 +22,15 @@ use Rattle.jiter_steps.proofs.Reading.Values.{Advances, AllWithin, Goes, array_o
 use Rattle.jiter_steps.proofs.Reading.Values.{inside_at-within, inside_at-suc, value-starts, member-key, member-colon}
 use Rattle.jiter_steps.proofs.Reading.Values.{member-value}
 
+-- no digit or other byte of a number follows one
+abbrev pub IsQuiet : List ℕ → Node → Type 0
+IsQuiet t (grammar.number b e) = EndsNumber t e
+IsQuiet t n = Unit {0}
+
+pub node-quiet : (t : List ℕ) (n : Node) → EndsNumber t (end n) → IsQuiet t n
+node-quiet t (grammar.number b e) q = q
+node-quiet t n q = tt
+
 module _ {K A : Type 0} (r : Rules K A) (names : Bool) (t : List ℕ) (k : ℕ) (within : k ≤ length t)
     (see_key : Key → K) (see : Node → A) (IsCut : Node → Reading A → Type 0) where
   abbrev u : List ℕ
@@ -91,7 +100,7 @@ module _ {K A : Type 0} (r : Rules K A) (names : Bool) (t : List ℕ) (k : ℕ) 
       -- the values inside are read so
       abbrev InnerReads : Type 0
       InnerReads =
-          (n : Node) → Spells names t n → nesting n < levels → EndsNumber t (end n) → begin n < k
+          (n : Node) → Spells names t n → nesting n < levels → IsQuiet t n → begin n < k
           → Reads n (inner (begin n))
 
       -- where a part begins
@@ -107,7 +116,7 @@ module _ {K A : Type 0} (r : Rules K A) (names : Bool) (t : List ℕ) (k : ℕ) 
       item-reads : InnerReads → (j : ℕ) (n : Node) (e : ℕ) → IsItem names t levels j n e → j < k
           → ReadTo t k within see IsCut n e (inner j)
       item-reads all j n e is lt =
-          let quiet = subst (EndsNumber t) (sym is.ends) is.quiet in
+          let quiet = node-quiet t n (subst (EndsNumber t) (sym is.ends) is.quiet) in
           let read = all n is.spelled is.limit quiet (omega (arith, is.begins)) in
           subst (λ f. ReadTo t k within see IsCut n f (inner j)) is.ends (subst (λ i. Reads n (inner i)) is.begins read)
 
@@ -232,7 +241,7 @@ module _ {K A : Type 0} (r : Rules K A) (names : Bool) (t : List ℕ) (k : ℕ) 
       )
 
       -- a value, by what it begins with
-      value-reads : InnerReads → (n : Node) → Spells names t n → nesting n ≤ levels → EndsNumber t (end n) → begin n < k
+      value-reads : InnerReads → (n : Node) → Spells names t n → nesting n ≤ levels → IsQuiet t n → begin n < k
           → Reads n (value_with r inner u (begin n) (start_is n))
       value-reads all (grammar.literal l b e) h d q lt = rules.literal l b e h lt
       value-reads all (grammar.number b e) h d q lt = rules.number b e h q lt
@@ -248,7 +257,7 @@ module _ {K A : Type 0} (r : Rules K A) (names : Bool) (t : List ℕ) (k : ℕ) 
           goes _ (members_list ms) (members-parts names t levels ms (b + 1) e h.1 d) lt (rules.object b e ms)
           (rules.object-cut inner b e ms h lt goes)
 
-      begun-reads : InnerReads → (n : Node) → Spells names t n → nesting n ≤ levels → EndsNumber t (end n) → begin n < k
+      begun-reads : InnerReads → (n : Node) → Spells names t n → nesting n ≤ levels → IsQuiet t n → begin n < k
           → Reads n (value_at r u levels (begin n))
       begun-reads all n h d q lt =
           let starts = ap start_of (prefix-index t k within (begin n) lt) ∙ node-starts names t n h in
@@ -260,7 +269,6 @@ module _ {K A : Type 0} (r : Rules K A) (names : Bool) (t : List ℕ) (k : ℕ) 
         rw (inside_at-suc r u levels (begin n)) (begun-reads levels (inner-reads levels) n h (omega arith) q lt)
 
     -- A value that begins before the cut.
-    pub value_at-prefix : (n : Node) (levels : ℕ) → Spells names t n → nesting n ≤ levels → EndsNumber t (end n)
-        → begin n < k
+    pub value_at-prefix : (n : Node) (levels : ℕ) → Spells names t n → nesting n ≤ levels → IsQuiet t n → begin n < k
         → Reads n (value_at r u levels (begin n))
     value_at-prefix n levels h d q lt = begun-reads levels (inner-reads levels) n h d q lt

@@ -21,16 +21,16 @@ module _ (t u : List ℕ) (m : ℕ) (same : SameBefore t u m) where
   seen-same f i (failed k j) (taken b e) h = λ shown. absurd (h shown).1
   seen-same f i (failed k j) (failed l x) h = h
 
-  kept : {A : Type 0} (i : ℕ) (x y : Scanned A) → Same IsOfByte late-byte t u m same i x y → SameScalar t m i x y
+  kept : {A : Type 0} (i : ℕ) (x y : Scanned A) → Same (IsOfByte t m) (late-byte t m) t u m same i x y → SameScalar t m i x y
   kept i (taken a e) y h shown = let at = h shown in (at.0, at.2)
   kept i (failed k j) y h shown = let at = h shown in (at.0, subst IsRefused (sym at.2) tt)
 
   pub trees-keep : (names : Bool) → KeepsScalars (whole_trees names) t u m
   trees-keep names = record {
     literal = λ l i lt. seen-same _ i _ _ (kept i (literal_at t l i) (literal_at u l i)
-        (word-same IsOfByte late-byte t u m same (word_of l) i));
+        (word-same (IsOfByte t m) (late-byte t m) t u m same (word_of l) i));
     number = λ i lt. seen-same _ i _ _ (kept i (number_at names t i) (number_at names u i)
-        (number-same IsOfByte late-byte t u m same names i lt));
+        (number-same (IsOfByte t m) (late-byte t m) t u m same names i lt));
     text = λ i lt. seen-same _ i (string_at whole t i) (string_at whole u i) (string-same t u m same i);
     key = λ i lt. string-same t u m same i;
     refuses = λ members i f lt h shown. absurd (none-some f h);
@@ -38,7 +38,7 @@ module _ (t u : List ℕ) (m : ℕ) (same : SameBefore t u m) where
   }
 
 -- An error of a byte before m is an error of the other text.
-answer-stays : (names : Bool) (t u : List ℕ) (m : ℕ) → SameBefore t u m → ShownFault m (answer names t)
+pub answer-stays : (names : Bool) (t u : List ℕ) (m : ℕ) → SameBefore t u m → ShownFault t m (answer names t)
     → IsFault (answer names u)
 answer-stays names t u m same =
     whole_answer-stays t u m same (whole_trees names) (λ k. refl) (trees-advances t nothing_forgiven whole names)
@@ -57,5 +57,5 @@ pub dead : (names : Bool) (t : List ℕ) (k : Kind) (i stop : ℕ) → answer na
     → is_end_kind k ≡ false → k ≢ invalid_code_point → BeginsNoDocument names (take (i + 1) t)
 dead names t k i stop is byte utf8 rest n d =
     let u = take (i + 1) t ++ rest in
-    let shown = subst (ShownFault (i + 1)) (sym is) (omega arith, (byte, utf8)) in
+    let shown = subst (ShownFault t (i + 1)) (sym is) (omega arith, (byte, λ is. absurd (utf8 is))) in
     subst IsFault (answer-of names u n d) (answer-stays names t u (i + 1) (prefix-same t (i + 1) rest) shown)

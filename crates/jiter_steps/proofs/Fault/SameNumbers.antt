@@ -15,10 +15,10 @@ ShownBy OfByte t m (taken a e) = (e < m) × (e < length t)
 ShownBy OfByte t m (failed k j) = (j < m) × OfByte k
 
 abbrev pub Shown : {A : Type 0} → List ℕ → ℕ → Scanned A → Type 0
-Shown t m x = ShownBy IsOfByte t m x
+Shown t m x = ShownBy (IsOfByte t m) t m x
 
-pub late-byte : (k : Kind) → IsOfByte k → is_end_kind k ≡ false
-late-byte k h = h.0
+pub late-byte : (t : List ℕ) (m : ℕ) (k : Kind) → IsOfByte t m k → is_end_kind k ≡ false
+late-byte t m k h = h.0
 
 -- In two texts, where such a kind is none of the input's end.
 module _ (OfByte : Kind → Type 0) (late : (k : Kind) → OfByte k → is_end_kind k ≡ false) (t u : List ℕ) (m : ℕ)

@@ -23,12 +23,12 @@ use Rattle.jiter_steps.proofs.Reading.Values.{next_part-done}
 -- an end before m, where the text goes on; or an error of a byte there
 abbrev pub ShownReading : {A : Type 0} → List ℕ → ℕ → Reading A → Type 0
 ShownReading t m (done a e) = (e < m) × (e < length t)
-ShownReading t m (fault k j stop) = (j < m) × IsOfByte k
+ShownReading t m (fault k j stop) = (j < m) × IsOfByte t m k
 
 -- an error of a byte before m
-abbrev pub ShownFault : {A : Type 0} → ℕ → Reading A → Type 0
-ShownFault m (done a e) = ⊥
-ShownFault m (fault k j stop) = (j < m) × IsOfByte k
+abbrev pub ShownFault : {A : Type 0} → List ℕ → ℕ → Reading A → Type 0
+ShownFault t m (done a e) = ⊥
+ShownFault t m (fault k j stop) = (j < m) × IsOfByte t m k
 
 abbrev pub IsFault : {A : Type 0} → Reading A → Type 0
 IsFault (done a e) = ⊥
@@ -63,8 +63,8 @@ module _ (t u : List ℕ) (m : ℕ) (same : SameBefore t u m) where
 
   -- the steps and the parts of two containers, one of each text
   pub record Keeps {P A : Type 0} (c d : Container P A) : Type 0 where
-    pub first : (i : ℕ) → SameStep t u m same (ShownStep m) i (step t c.first i) (step u d.first i)
-    pub next : (i : ℕ) → SameStep t u m same (ShownStep m) i (step t c.next i) (step u d.next i)
+    pub first : (i : ℕ) → SameStep t u m same (ShownStep t m) i (step t c.first i) (step u d.first i)
+    pub next : (i : ℕ) → SameStep t u m same (ShownStep t m) i (step t c.next i) (step u d.next i)
     pub part : (parts : List P) (i : ℕ) → i < length t → Stays i (part_after c parts i) (part_after d parts i)
     pub build : (e : ℕ) (ps : List P) → d.build e ps ≡ c.build e ps
 
@@ -83,14 +83,14 @@ module _ (t u : List ℕ) (m : ℕ) (same : SameBefore t u m) where
       -- after these parts
       next-stays : (go : List P → ℕ → Reading A) (parts : List P) (i : ℕ) (s z : Step)
           → ((j : ℕ) → j < length t → Stays j (go parts j) (PartsToo parts j)) → Ahead t i s
-          → (ShownStep m s → (i < m) × (i < length t) × (z ≡ s))
+          → (ShownStep t m s → (i < m) × (i < length t) × (z ≡ s))
           → StaysAhead i (follow r (go parts) (λ e. c.build e parts) s)
           (follow r (PartsToo parts) (λ e. d.build e parts) z)
       next-stays go parts i s z all ahead here = by s ahead here where
         other : Step → Reading A
         other s = follow r (PartsToo parts) (λ e. d.build e parts) s
 
-        by : (s : Step) → Ahead t i s → (ShownStep m s → (i < m) × (i < length t) × (z ≡ s))
+        by : (s : Step) → Ahead t i s → (ShownStep t m s → (i < m) × (i < length t) × (z ≡ s))
             → StaysAhead i (follow r (go parts) (λ e. c.build e parts) s) (other z)
         by (more j) ahead here = λ shown.
             let rest = all j ahead.1 shown in
@@ -295,7 +295,7 @@ module _ (t u : List ℕ) (m : ℕ) (same : SameBefore t u m) where
           (v.0, subst (Meets (value_at r t nesting_limit i)) (sym begun) v.1)
 
       trailing-fault : (a : A) (e : ℕ) (y : Reading A) → ((e < m) × (e < length t) → y ≡ done a e)
-          → (j : ℕ) (o : Option ℕ) → past_blanks t e ≡ j → slice_get t j ≡ o → ShownFault m (if_last a e j o)
+          → (j : ℕ) (o : Option ℕ) → past_blanks t e ≡ j → slice_get t j ≡ o → ShownFault t m (if_last a e j o)
           → IsFault (to_end u y)
       trailing-fault a e y all j None at here shown = absurd shown
       trailing-fault a e y all j (Some c) at here shown =
@@ -305,7 +305,7 @@ module _ (t u : List ℕ) (m : ℕ) (same : SameBefore t u m) where
           let last = ap (λ k. if_last a e k (slice_get u k)) place ∙ ap (if_last a e j) (same j c shown.0 here) in
           subst IsFault (sym (ap (to_end u) (all (omega (arith, shown.0), omega arith)) ∙ last)) tt
 
-      end-stays : (x y : Reading A) → (ShownReading t m x → Meets x y) → ShownFault m (to_end t x)
+      end-stays : (x y : Reading A) → (ShownReading t m x → Meets x y) → ShownFault t m (to_end t x)
           → IsFault (to_end u y)
       end-stays (done a e) y all =
           trailing-fault a e y all (past_blanks t e) (slice_get t (past_blanks t e)) refl refl
@@ -313,7 +313,7 @@ module _ (t u : List ℕ) (m : ℕ) (same : SameBefore t u m) where
       end-stays (fault k j stop) (fault l x y) all = all
 
       -- An error of a byte before m is an error in the other text.
-      pub whole_answer-stays : ShownFault m (whole_answer r t) → IsFault (whole_answer r u)
+      pub whole_answer-stays : ShownFault t m (whole_answer r t) → IsFault (whole_answer r u)
       unfolding whole_answer prefix_answer
       whole_answer-stays =
           end-stays _ _ (λ shown. (prefix-stays (past_blanks t 0) (slice_get t (past_blanks t 0)) refl refl shown).1)

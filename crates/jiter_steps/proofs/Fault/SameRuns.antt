@@ -1,5 +1,5 @@
 -- Runs and whitespace in two texts with the same bytes before a place.
-use Rattle.jiter_steps.proofs.Words.{◌≡◌, ◌≢◌, ◌⊎◌, inl, inr, ℕ, ◌+◌, ◌-◌, ◌<◌, ◌≤◌, Bool, false, List, length, sym, ap}
+use Rattle.jiter_steps.proofs.Words.{◌≡◌, ◌⊎◌, inl, inr, ℕ, ◌+◌, ◌-◌, ◌<◌, ◌≤◌, Bool, false, List, length, sym, ap}
 use Rattle.jiter_steps.proofs.Words.{◌∙◌, subst, arith, slice_get, slice_index, Some, cases_lt, true≢false}
 use Rattle.jiter_steps.proofs.Words.{slice_get_within, slice_get-get_or, Kind, is_end_kind, invalid_code_point}
 use Rattle.jiter_steps.proofs.Words.{run_end-ahead, run_end-within, run_end-passes, run_end-stops, past_blanks, IsBlank}
@@ -7,9 +7,9 @@ use Rattle.jiter_scan.specs.Scan.{run_end}
 use Rattle.jiter_steps.proofs.Grammar.Blanks.{past_blanks-after, blank-passed, passed-blank, no_blank-after}
 use Rattle.jiter_steps.proofs.Fault.SameSpelling.{SameBefore, here-too, index-same, blanks-too}
 
--- an error of a byte at its index, or before it: the input goes on, and its UTF-8 is not in question
-abbrev pub IsOfByte : Kind → Type 0
-IsOfByte k = (is_end_kind k ≡ false) × (k ≢ invalid_code_point)
+-- an error of a byte at its index, or before it: the input goes on; one of UTF-8 only if m shows all of the text
+abbrev pub IsOfByte : List ℕ → ℕ → Kind → Type 0
+IsOfByte t m k = (is_end_kind k ≡ false) × (k ≡ invalid_code_point → length t ≤ m)
 
 module _ (t u : List ℕ) (m : ℕ) (same : SameBefore t u m) where
   pub within-too : (i : ℕ) → i < m → i < length t → i < length u

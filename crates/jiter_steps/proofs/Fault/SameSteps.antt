@@ -11,10 +11,10 @@ use Rattle.jiter_steps.proofs.Grammar.Blanks.{past_blanks-after}
 use Rattle.jiter_steps.proofs.Reading.Bounds.{either, both}
 
 -- a place before m, or an error of a byte there
-abbrev pub ShownStep : ℕ → Step → Type 0
-ShownStep m (more j) = j < m
-ShownStep m (closed e) = e < m
-ShownStep m (stuck k j) = (j < m) × IsOfByte k
+abbrev pub ShownStep : List ℕ → ℕ → Step → Type 0
+ShownStep t m (more j) = j < m
+ShownStep t m (closed e) = e < m
+ShownStep t m (stuck k j) = (j < m) × IsOfByte t m k
 
 module _ (t u : List ℕ) (m : ℕ) (same : SameBefore t u m) where
   -- what is shown of a step from i is what it is in the other text
@@ -49,36 +49,36 @@ module _ (t u : List ℕ) (m : ℕ) (same : SameBefore t u m) where
 
   -- between the parts of a container
   abbrev At : ℕ → Step → Type 0
-  At j s = ShownStep m s → j < m
+  At j s = ShownStep t m s → j < m
 
   module _ (b : ContainerKind) where
-    end-shown : (j : ℕ) → ShownStep m (stuck (end_kind_of b) j) → ⊥
+    end-shown : (j : ℕ) → ShownStep t m (stuck (end_kind_of b) j) → ⊥
     end-shown j s = true≢false (sym (end_kind-early b) ∙ s.1.0)
 
     -- after the opening bracket
-    pub first-same : (i : ℕ) → SameStep (ShownStep m) i (step t (container_first b) i) (step u (container_first b) i)
+    pub first-same : (i : ℕ) → SameStep (ShownStep t m) i (step t (container_first b) i) (step u (container_first b) i)
     first-same =
-        row-same (ShownStep m) (container_first b) end-shown
+        row-same (ShownStep t m) (container_first b) end-shown
         (λ j c. either (At j) (begins_part b c) _ _ (λ s. s)
         (either (At j) (c == closer_of b) _ _ (λ s. omega arith) (λ s. s.0)))
 
     -- after a comma
-    comma-same : (i : ℕ) → SameStep (ShownStep m) i (step t (container_comma b) i) (step u (container_comma b) i)
+    comma-same : (i : ℕ) → SameStep (ShownStep t m) i (step t (container_comma b) i) (step u (container_comma b) i)
     comma-same =
-        row-same (ShownStep m) (container_comma b) (λ j s. true≢false s.1.0)
+        row-same (ShownStep t m) (container_comma b) (λ j s. true≢false s.1.0)
         (λ j c. either (At j) (begins_part b c) _ _ (λ s. s)
         (either (At j) (c == closer_of b) _ _ (λ s. s.0) (λ s. s.0)))
 
     -- after a part
-    part-same : (j c : ℕ) → SameHere (ShownStep m) j (container_step b t j (Some c)) (container_step b u j (Some c))
+    part-same : (j c : ℕ) → SameHere (ShownStep t m) j (container_step b t j (Some c)) (container_step b u j (Some c))
     part-same j c =
-        both (SameHere (ShownStep m) j) (c == closer_of b) _ _ _ _ (λ s. (omega arith, refl))
-        (both (SameHere (ShownStep m) j) (c == 44) _ _ _ _
+        both (SameHere (ShownStep t m) j) (c == closer_of b) _ _ _ _ (λ s. (omega arith, refl))
+        (both (SameHere (ShownStep t m) j) (c == 44) _ _ _ _
         (λ s. let r = comma-same (j + 1) s in (omega (arith, r.0), r.2)) (λ s. (s.0, refl)))
 
     pub next-same : (i : ℕ)
-        → SameStep (ShownStep m) i (step t (container_step b t) i) (step u (container_step b u) i)
-    next-same = step-same (ShownStep m) (container_step b t) (container_step b u) end-shown (λ j c lt. part-same j c)
+        → SameStep (ShownStep t m) i (step t (container_step b t) i) (step u (container_step b u) i)
+    next-same = step-same (ShownStep t m) (container_step b t) (container_step b u) end-shown (λ j c lt. part-same j c)
 
   -- after keys
   colon-same : (i : ℕ) → SameStep (Shown t m) i (step t colon i) (step u colon i)
@@ -88,5 +88,5 @@ module _ (t u : List ℕ) (m : ℕ) (same : SameBefore t u m) where
 
   pub object_colon-same : (i : ℕ) → SameStep (Shown t m) i (object_colon t i) (object_colon u i)
   object_colon-same i =
-      then-same IsOfByte late-byte t u m same i (step t colon i) (step u colon i) (step t value_first)
+      then-same (IsOfByte t m) (late-byte t m) t u m same i (step t colon i) (step u colon i) (step t value_first)
       (step u value_first) (colon-same i) (row-same (Shown t m) value_first (λ j s. true≢false s.1.0) (λ j c s. s.0))

@@ -5,26 +5,24 @@ use Rattle.jiter_steps.proofs.Words.{number_at, Scanned, taken, failed, seen_as,
 use Rattle.jiter_steps.proofs.Words.{IsBlank, literal_at, literal_tree, Key, Node, begin, end, text_at, number_tree}
 use Rattle.jiter_steps.proofs.Words.{value_of, values_of, nesting_limit, IsDocument, Spells, nesting, Reading, done}
 use Rattle.jiter_steps.proofs.Words.{fault, value_at, if_last, to_end, if_begun, prefix_answer, whole_answer, whole}
-use Rattle.jiter_steps.proofs.Words.{string_at, Text, Tree, items_of, take_all, number_at-sound}
+use Rattle.jiter_steps.proofs.Words.{string_at, Text, Tree, items_of, number_at-sound}
 use Rattle.jiter_steps.specs.Node as grammar
 use Rattle.jiter_steps.specs.Tree as tree
 use Rattle.jiter_steps.proofs.Grammar.Blanks.{past_blanks-bound, blank-passed, blank-to_end, passed-blank, at_length}
-use Rattle.jiter_steps.proofs.Grammar.SpelledParts.{begins-value, ends-end, begin-within, node-within}
+use Rattle.jiter_steps.proofs.Grammar.SpelledParts.{begins-value, ends-end}
 use Rattle.jiter_steps.proofs.Reading.Fused.{mapped, scanned_as, pairs, AllTold, Leads, whole_answer-mapped}
 use Rattle.jiter_steps.proofs.Grammar.NodeRules.{nodes, nodes_of, node_members_of, key_of, pieces_from}
 use Rattle.jiter_steps.proofs.Grammar.StringLaws.{string_at-sound}
 use Rattle.jiter_steps.proofs.Grammar.ScalarLaws.{EndsNumber}
 use Rattle.jiter_steps.proofs.Grammar.Sound.{Sound, value_at-sound}
-use Rattle.jiter_steps.proofs.Cut.PrefixNodes.{node-prefix}
+use Rattle.jiter_steps.proofs.Cut.PrefixNodes.{node-read}
+use Rattle.jiter_steps.proofs.Cut.ReadPrefixes.{node-quiet}
 
 -- What is spelled so is read.
--- A node that the text spells is read: it ends in the prefix that is the whole text.
 pub value_at-complete : (names : Bool) (t : List ℕ) (n : Node) (levels : ℕ) → Spells names t n → nesting n ≤ levels
     → EndsNumber t (end n)
     → value_at (nodes names) t levels (begin n) ≡ done n (end n)
-value_at-complete names t n levels h d q =
-    let read = node-prefix names t (length t) (omega arith) n levels h d q (begin-within names t n h) in
-    rw (← take_all (length t) t (omega arith)) (read.0 (node-within names t n h))
+value_at-complete names t n levels h d q = node-read names t n levels h d (node-quiet t n q)
 
 -- the text that a key stands for
 abbrev pub key_text : List ℕ → Key → Text

@@ -8,7 +8,7 @@ use Rattle.jiter_steps.proofs.Words.{unit_of, is_high, is_low, pair_of, Stands, 
 use Rattle.jiter_steps.proofs.Words.{unclosed, cut, wrong, Event, part, over, bad_digit, unit_at, hex_digits_or}
 use Rattle.jiter_steps.proofs.Words.{hex_digits_at, after, surrogate_pair, after_high_backslash, after_high}
 use Rattle.jiter_steps.proofs.Words.{unicode_escape, short, after_backslash, event_by, event_at, if_case, stands-append}
-use Rattle.jiter_steps.proofs.Words.{stands-within, stands-length, ◌*◌, digit_value, eqb-false, length-encode}
+use Rattle.jiter_steps.proofs.Words.{get-none, stands-within, stands-length, ◌*◌, eqb-false, length-encode}
 use Rattle.jiter_steps.proofs.Words.{len_utf8_bounds, len_utf8_ascii}
 use Rattle.jiter_steps.specs.StringReading.{closed}
 
@@ -52,7 +52,7 @@ Explains t i (part bs false j) = ByteAt t i bs j
 Explains t i (part bs true j) = EscapeAt t i bs j
 Explains t i (over (closed e)) = (slice_get t i ≡ Some 34) × (e ≡ i + 1)
 Explains t i (over unclosed) = slice_get t i ≡ None
-Explains t i (over cut) = slice_get t i ≡ Some 92
+Explains t i (over cut) = (slice_get t i ≡ Some 92) × (length t < i + 12)
 Explains t i (over (wrong k j)) = (i ≤ j) × (j < length t) × IsPlaceKind k
 
 pub record HexAt (t : List ℕ) (i : ℕ) : Type 0 where
@@ -76,11 +76,11 @@ bad_digit-explains t i within =
     (λ e. (omega arith, omega arith)))
     (λ e. (omega arith, omega arith))
 
-hex_digits_at-case : (P : Event → Type 0) (t : List ℕ) (i : ℕ) (next : ℕ → Event) → P (over cut)
+hex_digits_at-case : (P : Event → Type 0) (t : List ℕ) (i : ℕ) (next : ℕ → Event) → (length t < i + 4 → P (over cut))
     → ((k : ℕ) → i ≤ k → k < length t → P (over (wrong invalid_escape k))) → (HexAt t i → P (next (unit_at t i)))
     → P (after next (hex_digits_at t i))
 hex_digits_at-case P t i next none wrong_at good =
-    if_case (λ d. P (after next d)) (nat_lt (length t) (i + 4)) _ _ (λ e. none)
+    if_case (λ d. P (after next d)) (nat_lt (length t) (i + 4)) _ _ (λ e. none (ltb-true (length t) (i + 4) e))
     (λ e. by (bad_digit t i) (bad_digit-explains t i (ltb-false (length t) (i + 4) e))) where
       by : (x : Option ℕ) → BadOrHex t i x → P (after next (hex_digits_or x (unit_at t i)))
       by None h = good h
@@ -197,10 +197,11 @@ module _ (t : List ℕ) (o : ℕ) where
 
   after_high_backslash-explains : (high : ℕ) → is_high high ≡ true → UnitAt t o one high → slice_get t one ≡ Some 92
       → (x : Option ℕ) → slice_get t (one + 1) ≡ x → Explains t o (after_high_backslash t high (one + 1) x)
-  after_high_backslash-explains high hi x s None e = x.slash
+  after_high_backslash-explains high hi x s None e = (x.slash, omega (arith, get-none t (one + 1) e))
   after_high_backslash-explains high hi x s (Some b) e =
       if_case (Explains t o) (b == 117) _ _
-      (λ q. hex_digits_at-case (Explains t o) t (one + 1 + 1) (surrogate_pair high two) x.slash
+      (λ q. hex_digits_at-case (Explains t o) t (one + 1 + 1) (surrogate_pair high two)
+      (λ few. (x.slash, omega (arith, few)))
       (λ k lo up. (omega arith, up, inl refl))
       (λ y. surrogate_pair-explains high _ hi x (record {
         slash = s;
@@ -213,7 +214,7 @@ module _ (t : List ℕ) (o : ℕ) where
 
   after_high-explains : (high : ℕ) → is_high high ≡ true → UnitAt t o one high
       → (x : Option ℕ) → slice_get t one ≡ x → Explains t o (after_high t high one x)
-  after_high-explains high hi x None e = x.slash
+  after_high-explains high hi x None e = (x.slash, omega (arith, get-none t one e))
   after_high-explains high hi x (Some b) e =
       if_case (Explains t o) (b == 92) _ _
       (λ q. after_high_backslash-explains high hi x (e ∙ ap Some (eqb-true b 92 q)) (slice_get t (one + 1)) refl)
@@ -238,10 +239,11 @@ module _ (t : List ℕ) (o : ℕ) where
 
     after_backslash-explains : (x : Option ℕ) → slice_get t (o + 1) ≡ x
         → Explains t o (after_backslash t (o + 1) x)
-    after_backslash-explains None e = slash
+    after_backslash-explains None e = (slash, omega (arith, get-none t (o + 1) e))
     after_backslash-explains (Some b) e =
         if_case (Explains t o) (b == 117) _ _
-        (λ q. hex_digits_at-case (Explains t o) t (o + 1 + 1) (unicode_escape t one) slash
+        (λ q. hex_digits_at-case (Explains t o) t (o + 1 + 1) (unicode_escape t one)
+        (λ few. (slash, omega (arith, few)))
         (λ k lo up. (omega arith, up, inl refl))
         (λ y. unicode_escape-explains _ (record {
           slash = slash;

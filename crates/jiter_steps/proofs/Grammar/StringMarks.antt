@@ -49,8 +49,8 @@ module _ (t : List ℕ) where
     over-marked i unclosed h le s =
         (sym (has_backslash-none i e (omega (arith, s, get-none t i h))), omega (arith, s))
     over-marked i cut h le s =
-        let inside = slice_get_within t i 92 h in
-        (sym (has_backslash-next i 92 e (omega (arith, s)) h), omega (arith, s))
+        let inside = slice_get_within t i 92 h.0 in
+        (sym (has_backslash-next i 92 e (omega (arith, s)) h.0), omega (arith, s))
     over-marked i (wrong k j) h le s = absurd s
 
   -- the mark of a body whose string ends at e

@@ -1,6 +1,6 @@
 -- The equations of a whole text's reading, and its bounds.
 use Rattle.jiter_steps.proofs.Words.{◌≡◌, ℕ, ◌<◌, ◌≤◌, List, length, refl, ap, ◌∙◌, arith, slice_get, Option, Some}
-use Rattle.jiter_steps.proofs.Words.{None, slice_get-get_or, slice_get_past, slice_get_within, Kind, eof_value}
+use Rattle.jiter_steps.proofs.Words.{None, slice_get-get_or, slice_get_within, Kind, eof_value}
 use Rattle.jiter_steps.proofs.Words.{get-none, past_blanks, nesting_limit, Reading, done, fault, Rules, value_at}
 use Rattle.jiter_steps.proofs.Words.{if_last, to_end, if_begun, prefix_answer, whole_answer, trailing_characters}
 use Rattle.jiter_steps.proofs.Grammar.Blanks.{past_blanks-bound}
@@ -9,12 +9,6 @@ use Rattle.jiter_steps.proofs.Reading.Values.{Advances, value_at-within}
 
 module _ {K A : Type 0} (r : Rules K A) (t : List ℕ) where
   -- Whatever follows the value.
-  pub prefix-empty : past_blanks t 0 ≡ length t → prefix_answer r t ≡ fault eof_value (length t) (length t)
-  unfolding prefix_answer
-  prefix-empty e =
-      ap (λ i. if_begun r t i (slice_get t i)) e
-      ∙ ap (if_begun r t (length t)) (slice_get_past t (length t) (omega arith))
-
   pub prefix-begins : (i : ℕ) → past_blanks t 0 ≡ i → i < length t → prefix_answer r t ≡ value_at r t nesting_limit i
   unfolding prefix_answer
   prefix-begins i e h = ap (λ k. if_begun r t k (slice_get t k)) e ∙ ap (if_begun r t i) (slice_get-get_or t i 0 h)
@@ -23,9 +17,6 @@ module _ {K A : Type 0} (r : Rules K A) (t : List ℕ) where
   pub whole-is : whole_answer r t ≡ to_end t (prefix_answer r t)
   unfolding whole_answer
   whole-is = refl
-
-  pub whole-empty : past_blanks t 0 ≡ length t → whole_answer r t ≡ fault eof_value (length t) (length t)
-  whole-empty e = whole-is ∙ ap (to_end t) (prefix-empty e)
 
   pub whole-begins : (i : ℕ) → past_blanks t 0 ≡ i → i < length t
       → whole_answer r t ≡ to_end t (value_at r t nesting_limit i)

@@ -111,15 +111,20 @@ module _ (t u : List ℕ) (m : ℕ) (same : SameBefore t u m) where
             other.1 ∙ sym (ap (repeated_key own_bytes keys t) key) ∙ free;
       }
 
+-- An error of a byte before m is an error of the other text.
+pub unique-stays : (names : Bool) (t u : List ℕ) (m : ℕ) → SameBefore t u m → ShownFault t m (unique_answer names t)
+    → IsFault (unique_answer names u)
+unique-stays names t u m same =
+    whole_answer-stays t u m same (rules names) (λ k. refl)
+    (repeats-advance t own_bytes (whole_trees names) (trees-advances t nothing_forgiven whole names))
+    (repeats-advance u own_bytes (whole_trees names) (trees-advances u nothing_forgiven whole names))
+    (keys-keep t u m same names)
+
 -- Where an error is answered that is neither one of the input's end nor one of UTF-8, no document with unique keys
 -- begins with the bytes of the text up to and including the one at the error's index.
 pub unique-dead : (names : Bool) (t : List ℕ) (k : Kind) (i stop : ℕ) → unique_answer names t ≡ fault k i stop
     → is_end_kind k ≡ false → k ≢ invalid_code_point → BeginsNoUniqueDocument names (take (i + 1) t)
 unique-dead names t k i stop is byte utf8 rest n d =
     let u = take (i + 1) t ++ rest in
-    let same = prefix-same t (i + 1) rest in
-    subst IsFault (unique-complete names u n d)
-    (whole_answer-stays t u (i + 1) same (rules names) (λ k. refl)
-    (repeats-advance t own_bytes (whole_trees names) (trees-advances t nothing_forgiven whole names))
-    (repeats-advance u own_bytes (whole_trees names) (trees-advances u nothing_forgiven whole names))
-    (keys-keep t u (i + 1) same names) (subst (ShownFault (i + 1)) (sym is) (omega arith, (byte, utf8))))
+    let shown = subst (ShownFault t (i + 1)) (sym is) (omega arith, (byte, λ is. absurd (utf8 is))) in
+    subst IsFault (unique-complete names u n d) (unique-stays names t u (i + 1) (prefix-same t (i + 1) rest) shown)

@@ -1,11 +1,9 @@
 use Rattle.jiter_scan.proofs.Words.{◌≡◌, ◌≢◌, ℕ, Bool, ◌+◌, ◌-◌, ◌<◌, ◌≤◌, ◌∙◌, ap, true, false, refl, sym, arith}
 use Rattle.jiter_scan.proofs.Words.{subst, get_or, length, List, IsTrue, Some, slice_get, slice_get-get_or}
-use Rattle.jiter_scan.proofs.Words.{count_trailing_zeros, chunk, nat_tests, is_plain, is_plain_ascii, run_end}
-use Rattle.jiter_scan.proofs.Words.{scan_stop, IsAsciiTo, failing, ◌↔◌, IsFaultOf}
-use Rattle.jiter_scan.specs.declared.errors.FaultKind.TheVariants as fault
+use Rattle.jiter_scan.proofs.Words.{count_trailing_zeros, chunk, is_plain, is_plain_ascii, run_end}
+use Rattle.jiter_scan.proofs.Words.{scan_stop, IsAsciiTo, failing, ◌↔◌}
 use Rattle.jiter_scan.proofs.AsciiRuns.{ascii-again, ascii-before, ascii-stops, ascii-through, low-stops, text-through}
 use Rattle.jiter_scan.proofs.Chunks.{run_end-near, run_end-stopped}
-use Rattle.jiter_scan.proofs.Runs.{run_end-stops}
 use Rattle.jiter_scan.proofs.short_scan.look_at.Goals as goal
 use Rattle.jiter_scan.proofs.short_scan.look_at.Goals.{then-bytes-from-lt16, else-bytes-from-lt16+then-found-eq0}
 use Rattle.jiter_scan.proofs.short_scan.look_at.Goals.{else-bytes-from-lt16+else-found-eq0+else-byte-eq34+then-byte-ge128}
@@ -30,14 +28,6 @@ module _ (t : List ℕ) (i : ℕ) (inside : i ≤ length t) where
 
   scanned : {to found : ℕ × Bool} → to ≡ found → Scanned i found → Stop to
   scanned same s = subst Stop (sym same) (record { stop = s.stop; within = s.within; ascii = s.ascii.0 })
-
-  -- the byte at that stop, below 20 hex where it is neither a quote nor a backslash
-  control : (to b : ℕ) → to ≡ scan_stop t i → slice_get t to ≡ Some b → b ≢ 34 → b ≢ 92
-      → IsFaultOf (slice_get t to) fault.ControlCharacterWhileParsingString
-  control to b stop here quote backslash =
-      let stops = run_end-stops is_plain t i b (subst (λ j. slice_get t j ≡ Some b) stop here) in
-      let low : b < 32 = grind (arith, nat_tests, stops, quote, backslash) in
-      subst (λ o. IsFaultOf o fault.ControlCharacterWhileParsingString) (sym here) (low, refl)
 
   -- by the bits of the first sixteen bytes that are no plain ASCII
   module _ (mask : ℕ) (long : 16 ≤ length t - i) (is : mask ≡ failing is_plain_ascii (chunk i 16 t)) where
@@ -102,8 +92,8 @@ returns-then-byte-eq34 c =
     let quote = here t i c.requires found.result long found.ensures c.if-found-eq0.false ∙ ap Some c.if-byte-eq34.true in
     record { stop = end.stop; within = end.within; means = (quote, end.ascii refl) }
 
-pub returns-in-None : goal.returns-in-None
-returns-in-None c =
+pub returns : goal.returns
+returns c =
     let t = c.args.bytes.now in
     let i = c.args.from in
     let end : Stop t i c.requires c.if-bytes-from-lt16.to = elim c.if-bytes-from-lt16.branch [
@@ -118,83 +108,4 @@ returns-in-None c =
           w.ascii_stops-found.result w.if-bytes-from-lt16.false w.ascii_stops-found.ensures w.if-found-eq0.false
           w.to-is w.if-byte-ge128.false
     ] in
-    let means = subst (λ o. IsFaultOf o fault.EofWhileParsingString) (sym c.in-None.is ∙ c.byte_at.ensures.value) refl in
-    record { stop = end.stop; within = end.within; means = means }
-
-pub returns-in-Some-eq34 : goal.returns-in-Some-eq34
-returns-in-Some-eq34 c =
-    let t = c.args.bytes.now in
-    let i = c.args.from in
-    let end : Stop t i c.requires c.if-bytes-from-lt16.to = elim c.if-bytes-from-lt16.branch [
-      | then-bytes-from-lt16 w ↦ scanned t i c.requires w.to-is w.scan_string.ensures
-      | else-bytes-from-lt16+then-found-eq0 w ↦ after t i c.requires w.ascii_stops-found.result
-          w.if-bytes-from-lt16.false w.ascii_stops-found.ensures w.to-is w.if-found-eq0.true
-          w.scan_string-then-found-eq0.ensures
-      | else-bytes-from-lt16+else-found-eq0+else-byte-eq34+then-byte-ge128 w ↦ high t i c.requires
-          w.ascii_stops-found.result w.if-bytes-from-lt16.false w.ascii_stops-found.ensures w.if-found-eq0.false
-          w.string_stop.result w.to-is w.string_stop.ensures
-      | else-bytes-from-lt16+else-found-eq0+else-byte-eq34+else-byte-ge128 w ↦ low t i c.requires
-          w.ascii_stops-found.result w.if-bytes-from-lt16.false w.ascii_stops-found.ensures w.if-found-eq0.false
-          w.to-is w.if-byte-ge128.false
-    ] in
-    let quote = sym c.byte_at.ensures.value ∙ c.in-Some-eq34.is ∙ ap Some c.in-Some-eq34.field-0-test in
-    record { stop = end.stop; within = end.within; means = (quote, end.ascii c.if-ascii.true) }
-
-pub returns-in-Some-eq34-2 : goal.returns-in-Some-eq34-2
-returns-in-Some-eq34-2 c =
-    let t = c.args.bytes.now in
-    let i = c.args.from in
-    let end : Stop t i c.requires c.if-bytes-from-lt16.to = elim c.if-bytes-from-lt16.branch [
-      | then-bytes-from-lt16 w ↦ scanned t i c.requires w.to-is w.scan_string.ensures
-      | else-bytes-from-lt16+then-found-eq0 w ↦ after t i c.requires w.ascii_stops-found.result
-          w.if-bytes-from-lt16.false w.ascii_stops-found.ensures w.to-is w.if-found-eq0.true
-          w.scan_string-then-found-eq0.ensures
-      | else-bytes-from-lt16+else-found-eq0+else-byte-eq34+then-byte-ge128 w ↦ high t i c.requires
-          w.ascii_stops-found.result w.if-bytes-from-lt16.false w.ascii_stops-found.ensures w.if-found-eq0.false
-          w.string_stop.result w.to-is w.string_stop.ensures
-      | else-bytes-from-lt16+else-found-eq0+else-byte-eq34+else-byte-ge128 w ↦ low t i c.requires
-          w.ascii_stops-found.result w.if-bytes-from-lt16.false w.ascii_stops-found.ensures w.if-found-eq0.false
-          w.to-is w.if-byte-ge128.false
-    ] in
-    let quote = sym c.byte_at.ensures.value ∙ c.in-Some-eq34.is ∙ ap Some c.in-Some-eq34.field-0-test in
-    record { stop = end.stop; within = end.within; means = quote }
-
-pub returns-in-Some-eq92 : goal.returns-in-Some-eq92
-returns-in-Some-eq92 c =
-    let t = c.args.bytes.now in
-    let i = c.args.from in
-    let end : Stop t i c.requires c.if-bytes-from-lt16.to = elim c.if-bytes-from-lt16.branch [
-      | then-bytes-from-lt16 w ↦ scanned t i c.requires w.to-is w.scan_string.ensures
-      | else-bytes-from-lt16+then-found-eq0 w ↦ after t i c.requires w.ascii_stops-found.result
-          w.if-bytes-from-lt16.false w.ascii_stops-found.ensures w.to-is w.if-found-eq0.true
-          w.scan_string-then-found-eq0.ensures
-      | else-bytes-from-lt16+else-found-eq0+else-byte-eq34+then-byte-ge128 w ↦ high t i c.requires
-          w.ascii_stops-found.result w.if-bytes-from-lt16.false w.ascii_stops-found.ensures w.if-found-eq0.false
-          w.string_stop.result w.to-is w.string_stop.ensures
-      | else-bytes-from-lt16+else-found-eq0+else-byte-eq34+else-byte-ge128 w ↦ low t i c.requires
-          w.ascii_stops-found.result w.if-bytes-from-lt16.false w.ascii_stops-found.ensures w.if-found-eq0.false
-          w.to-is w.if-byte-ge128.false
-    ] in
-    let backslash = sym c.byte_at.ensures.value ∙ c.in-Some-eq92.is ∙ ap Some c.in-Some-eq92.field-0-test in
-    record { stop = end.stop; within = end.within; means = (backslash, end.ascii) }
-
-pub returns-in-Some : goal.returns-in-Some
-returns-in-Some c =
-    let t = c.args.bytes.now in
-    let i = c.args.from in
-    let end : Stop t i c.requires c.if-bytes-from-lt16.to = elim c.if-bytes-from-lt16.branch [
-      | then-bytes-from-lt16 w ↦ scanned t i c.requires w.to-is w.scan_string.ensures
-      | else-bytes-from-lt16+then-found-eq0 w ↦ after t i c.requires w.ascii_stops-found.result
-          w.if-bytes-from-lt16.false w.ascii_stops-found.ensures w.to-is w.if-found-eq0.true
-          w.scan_string-then-found-eq0.ensures
-      | else-bytes-from-lt16+else-found-eq0+else-byte-eq34+then-byte-ge128 w ↦ high t i c.requires
-          w.ascii_stops-found.result w.if-bytes-from-lt16.false w.ascii_stops-found.ensures w.if-found-eq0.false
-          w.string_stop.result w.to-is w.string_stop.ensures
-      | else-bytes-from-lt16+else-found-eq0+else-byte-eq34+else-byte-ge128 w ↦ low t i c.requires
-          w.ascii_stops-found.result w.if-bytes-from-lt16.false w.ascii_stops-found.ensures w.if-found-eq0.false
-          w.to-is w.if-byte-ge128.false
-    ] in
-    let test = c.in-Some.field-0-test in
-    let means = control t i c.requires c.if-bytes-from-lt16.to.0 c.in-Some.field-0 end.stop
-    (sym c.byte_at.ensures.value ∙ c.in-Some.is) test.0.1 test.1 in
-    record { stop = end.stop; within = end.within; means = means }
+    record { stop = end.stop; within = end.within; means = c.look_there.ensures i end.stop end.ascii }
