@@ -2,14 +2,14 @@
 use Rattle.jiter_steps.proofs.Words.{◌≡◌, ◌⊎◌, inl, inr, ℕ, zero, suc, ◌+◌, ◌-◌, ◌<◌, ◌≤◌, Bool, true, false, List, []}
 use Rattle.jiter_steps.proofs.Words.{◌∷◌, length, refl, sym, ap, ◌∙◌, subst, arith, slice_get, slice_index, Option}
 use Rattle.jiter_steps.proofs.Words.{Some, None, ◌==◌, if◌then◌else◌, nat_lt, encode_utf8, utf8_valid_len, ltb-false}
-use Rattle.jiter_steps.proofs.Words.{le-ltb, ltb-true, slice_get_within, slice_get-get_or, get_or_from_slice_get}
-use Rattle.jiter_steps.proofs.Words.{true≢false, Kind, invalid_escape, lone_surrogate, end_of_hex_escape}
-use Rattle.jiter_steps.proofs.Words.{control_character, Scanned, taken, failed, if_case, if-true, if-false}
-use Rattle.jiter_steps.proofs.Words.{short_escape, is_hex, unit_of, is_high, is_low, pair_of, Stop, unclosed, cut}
-use Rattle.jiter_steps.proofs.Words.{wrong, Event, part, over, bad_digit, unit_at, few, hex_digits_or, hex_digits_at}
-use Rattle.jiter_steps.proofs.Words.{after, unit_then, surrogate_pair, after_high_backslash, after_high, single}
-use Rattle.jiter_steps.proofs.Words.{unicode_escape, short, after_backslash, event_by, event_at, Body, before, join}
-use Rattle.jiter_steps.proofs.Words.{body_at, whole, text_in_form, content_at, string_at}
+use Rattle.jiter_steps.proofs.Words.{le-ltb, ltb-true, same_Some, none-some, slice_get_within, slice_get-get_or}
+use Rattle.jiter_steps.proofs.Words.{get_or_from_slice_get, true≢false, Kind, invalid_escape, lone_surrogate}
+use Rattle.jiter_steps.proofs.Words.{end_of_hex_escape, control_character, Scanned, taken, failed, if_case, if-true}
+use Rattle.jiter_steps.proofs.Words.{if-false, short_escape, is_hex, unit_of, is_high, is_low, pair_of, Stop, unclosed}
+use Rattle.jiter_steps.proofs.Words.{cut, wrong, Event, part, over, bad_digit, unit_at, few, hex_digits_or}
+use Rattle.jiter_steps.proofs.Words.{hex_digits_at, after, unit_then, surrogate_pair, after_high_backslash, after_high}
+use Rattle.jiter_steps.proofs.Words.{single, unicode_escape, short, after_backslash, event_by, event_at, Body, before}
+use Rattle.jiter_steps.proofs.Words.{join, body_at, whole, text_in_form, content_at, string_at}
 use Rattle.jiter_steps.specs.StringReading.{closed, plain}
 use Rattle.jiter_steps.proofs.Fault.SameSpelling.{SameBefore}
 use Rattle.jiter_steps.proofs.Reading.Bounds.{both}
@@ -215,7 +215,26 @@ module _ (t u : List ℕ) (p q m : ℕ) (same : SameFrom t u p q m) where
       (earlier (i + 1) (i + 1 + 1) _ _ (omega arith) (after_backslash-same (i + 1) (j + 1) (omega arith)))
       (plain-same i j c at)))
 
-  -- The body of t from i on, which is shown, ends with the same bytes in u; or both end with an error or within an escape.
+  -- Where a backslash is and u has no error, t ends within the escape if u finds none that ends in t.
+  pub escape-cut : (i j : ℕ) → p + i ≡ q + j → length t ≤ m → p + length t ≤ q + length u → slice_get t i ≡ Some 92
+      → ((bytes : List ℕ) (owned : Bool) (e : ℕ) → e ≤ length t → event_at u j ≡ part bytes owned (p + e - q) → ⊥)
+      → ((k : Kind) (x : ℕ) → event_at u j ≡ over (wrong k x) → ⊥) → event_at t i ≡ over cut
+  escape-cut i j at all long slash no_part no_error =
+      by (event_at t i) (event_at-explains t i) (event_at-same i j at) where
+        by : (f : Event) → Explains t i f → Same (i + 1) f (event_at u j) → f ≡ over cut
+        by (part bytes owned e) x h =
+            let inside = (part-ahead t i e bytes owned x).1 in
+            absurd (no_part bytes owned e inside (h (omega arith)).1)
+        by (over (closed e)) x h = absurd (omega (arith, same_Some 92 34 (sym slash ∙ x.0)))
+        by (over unclosed) x h = absurd (none-some 92 (sym x ∙ slash))
+        by (over cut) x h = refl
+        by (over (wrong k y)) x h = elim (h (omega (arith, x.1))).1 [
+          | inl is ↦ absurd (no_error k (p + y - q) is)
+          | inr short ↦ absurd (omega (arith, short.0))
+        ]
+
+  -- The body of t from i on, which is shown, ends with the same bytes in u; or both end with an error or within an
+  -- escape.
   abbrev pub EndsBy : Stop → Body → Body → Type 0
   EndsBy (closed e) b d = d ≡ record { bytes = b.bytes; owned = b.owned; stop = closed (p + e - q) }
   EndsBy s b d = IsFailing d.stop
@@ -278,7 +297,7 @@ abbrev pub SameScalar : {A : Type 0} → List ℕ → ℕ → ℕ → Scanned A 
 SameScalar t m i x y = Shown t m x → (i < m) × SameOrFault x y
 
 module _ (t u : List ℕ) (m : ℕ) (same : SameBefore t u m) where
-  same-from : SameFrom t u 0 0 m
+  pub same-from : SameFrom t u 0 0 m
   same-from i j c at le e = let here : j ≡ i = omega arith in ap (slice_get u) here ∙ same i c le e
 
   failing : (i : ℕ) (bytes : List ℕ) (owned : Bool) (s : Stop) → IsFailing s
