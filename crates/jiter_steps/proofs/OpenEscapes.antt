@@ -1,14 +1,13 @@
 -- An escape that arrives in pieces: while it is cut it is short, and what ends it is found wherever it is.
 use Rattle.jiter_steps.proofs.Words.{◌≡◌, inl, inr, ℕ, zero, suc, ◌+◌, ◌-◌, ◌<◌, ◌≤◌, true, List, [], ◌∷◌, ◌++◌}
-use Rattle.jiter_steps.proofs.Words.{length, refl, sym, ap, ◌∙◌, subst, arith, length-append, encode_utf8, slice_get}
+use Rattle.jiter_steps.proofs.Words.{length, sym, ap, ◌∙◌, subst, arith, length-append, encode_utf8, slice_get}
 use Rattle.jiter_steps.proofs.Words.{Some, take-append_seam, cases_lt, slice_get_within, slice_get-get_or, take_all}
 use Rattle.jiter_steps.proofs.Words.{none-some, same_Some, Kind, Stands, slice-stands, IsSpelled, unclosed, cut, wrong}
-use Rattle.jiter_steps.proofs.Words.{Event, part, over, short, event_at}
+use Rattle.jiter_steps.proofs.Words.{part, over, short, event_at}
 use Rattle.jiter_steps.specs.StringReading.{closed}
 use Rattle.jiter_steps.specs.declared.partial_escape.EscapeStep.TheVariants as spelled
 use Rattle.jiter_steps.proofs.Cut.DocumentPrefixes.{prefix-stands}
-use Rattle.jiter_steps.proofs.Fault.SameStrings.{Same, SameFrom, event_at-same}
-use Rattle.jiter_steps.proofs.Reading.Bodies.{part-ahead}
+use Rattle.jiter_steps.proofs.Fault.SameStrings.{Same, SameFrom, escape-cut, event_at-same}
 use Rattle.jiter_steps.proofs.Grammar.Places.{Explains, event_at-explains}
 use Rattle.jiter_steps.proofs.Grammar.StringComplete.{event_by-escape}
 
@@ -70,14 +69,14 @@ pub wrong-within : (u : List ℕ) (k : Kind) (j : ℕ) → event_at u 0 ≡ over
 wrong-within u k j h = (subst (Explains u 0) h (event_at-explains u 0)).1
 
 -- bytes that are at a place, and those after a place
-stands-from : (w t : List ℕ) (i e m : ℕ) → Stands t i e w → SameFrom w t i 0 m
+pub stands-from : (w t : List ℕ) (i e m : ℕ) → Stands t i e w → SameFrom w t i 0 m
 stands-from [] t i e m s k j c at le h = absurd (omega (arith, slice_get_within [] k c h))
 stands-from (b ∷ w) t i e m s zero j c at le h = let here : j ≡ i = omega arith in ap (slice_get t) here ∙ s.0 ∙ h
 stands-from (b ∷ w) t i e m s (suc k) j c at le h =
     stands-from w t (i + 1) e m s.1 k j c (omega arith) (omega arith) h
 
-stands-back : (w t : List ℕ) (i m : ℕ) → Stands t i (length t) w → SameFrom t w 0 i m
-stands-back [] t i m s k j c at le h = absurd (omega (arith, s, slice_get_within t k c h))
+pub stands-back : (w t : List ℕ) (i m : ℕ) → Stands t i m w → SameFrom t w 0 i m
+stands-back [] t i m s k j c at le h = absurd (omega (arith, s))
 stands-back (b ∷ w) t i m s k zero c at le h =
     let here : i ≡ k = omega arith in sym s.0 ∙ ap (slice_get t) here ∙ h
 stands-back (b ∷ w) t i m s k (suc j) c at le h = stands-back w t (i + 1) m s.1 k j c (omega arith) le h
@@ -104,23 +103,7 @@ spelled-wrong u t i stands k j h =
 pub spelled-cut : (u t : List ℕ) (i : ℕ) → Stands t i (i + length u) u → length t ≡ i + length u
     → event_at u 0 ≡ over cut → event_at t i ≡ over cut
 spelled-cut u t i stands long h =
-    by (event_at t i) (event_at-explains t i) (event_at-same t u 0 i m same i 0 (omega arith)) where
-      m : ℕ
-      m = length t + 1
-
-      same : SameFrom t u 0 i m
-      same = stands-back u t i m (subst (λ e. Stands t i e u) (sym long) stands)
-
-      slash : slice_get t i ≡ Some 92
-      slash = stands-from u t i (i + length u) m stands 0 i 92 (omega arith) (omega arith) (cut_begins u h)
-
-      by : (f : Event) → Explains t i f → Same t u 0 i m same (i + 1) f (event_at u 0) → f ≡ over cut
-      by (part bs o j) e all =
-          let ends = part-ahead t i j bs o e in let clash = sym h ∙ (all (omega (arith, ends.1))).1 in absurd (cc)
-      by (over (closed j)) e all = absurd (omega (arith, same_Some 92 34 (sym slash ∙ e.0)))
-      by (over unclosed) e all = absurd (none-some 92 (sym e ∙ slash))
-      by (over cut) e all = refl
-      by (over (wrong k j)) e all = elim (all (omega (arith, e.1))).1 [
-        | inl is ↦ let clash = sym h ∙ is in absurd (cc)
-        | inr short ↦ absurd (omega (arith, short.0))
-      ]
+    let m = i + length u in
+    let slash = stands-from u t i m 1 stands 0 i 92 (omega arith) (omega arith) (cut_begins u h) in
+    escape-cut t u 0 i m (stands-back u t i m stands) i 0 (omega arith) (omega arith) (omega arith) slash
+    (λ bs o e le is. let clash = sym h ∙ is in cc) (λ k x is. let clash = sym h ∙ is in cc)

@@ -144,6 +144,24 @@ module _ (old : PartialString) (w : List ℕ) (h : HasTaken old w) where
   held-more : (e v : List ℕ) → old.escape ≡ Some e → w ++ v ≡ h.prefix ++ (e ++ v)
   held-more e v partial_escape = ap (λ x. x ++ v) (held-prefix e partial_escape) ∙ append_assoc h.prefix e v
 
+  -- Bytes that are read as these are taken, where no escape is left open.
+  part-taken : (v bytes : List ℕ) (o : Bool) (text : SoFar) (left : Option (List ℕ)) → left ≡ None
+      → HoldsText text (h.decoded ++ bytes)
+      → ((t : List ℕ) (i : ℕ) → Stands t i (i + length (w ++ v)) (w ++ v)
+      → body_at t (i + length h.prefix) ≡ before bytes o (body_at t (i + length (w ++ v))))
+      → HasTaken (record { text = text; escape = left }) (w ++ v)
+  part-taken v bytes o text left none holds reads = record {
+    prefix = w ++ v;
+    decoded = h.decoded ++ bytes;
+    escaped = h.escaped || o;
+    is = sym (ap (λ x. (w ++ v) ++ held_bytes x) none ∙ append-nil (w ++ v));
+    unfinished = subst (λ x. IfSome x (λ e. event_at e 0 ≡ over cut)) (sym none) tt;
+    holds = holds;
+    goes = λ t i s.
+        so_far v t i s ∙ ap (before h.decoded h.escaped) (reads t i s)
+        ∙ before-before h.decoded bytes h.escaped o (body_at t (i + length (w ++ v)));
+  }
+
   -- An escape begins.
   pub escape-cut : (v e : List ℕ) → old.escape ≡ None → v ≡ e → event_at e 0 ≡ over cut
       → HasTaken (record { text = old.text; escape = Some e }) (w ++ v)
@@ -186,24 +204,14 @@ module _ (old : PartialString) (w : List ℕ) (h : HasTaken old w) where
     -- and ends with some,
     pub escape-ends : (text : SoFar) (c : ℕ) → IsSpelled u (spelled.Whole c)
         → HoldsText text (h.decoded ++ encode_utf8 c) → HasTaken (record { text = text; escape = None }) (w ++ v)
-    escape-ends text c spelled_so holds = record {
-      prefix = w ++ v;
-      decoded = h.decoded ++ encode_utf8 c;
-      escaped = h.escaped || true;
-      is = sym (append-nil (w ++ v));
-      unfinished = tt;
-      holds = holds;
-      goes = λ t i s.
-          let m = i + length h.prefix in
-          let end : m + length u ≡ i + length (w ++ v) =
-          omega (arith, ap length longer, length-append h.prefix u) in
-          so_far v t i s
-          ∙ ap (before h.decoded h.escaped)
-          (body_at-event_by t m (part (encode_utf8 c) true (m + length u))
-          (spelled_so t m (escape-stands v t i s u longer)))
-          ∙ before-before h.decoded (encode_utf8 c) h.escaped true (body_at t (m + length u))
-          ∙ ap (λ j. before (h.decoded ++ encode_utf8 c) (h.escaped || true) (body_at t j)) end;
-    }
+    escape-ends text c spelled_so holds =
+        part-taken v (encode_utf8 c) true text None refl holds
+        (λ t i s.
+        let m = i + length h.prefix in
+        let end : m + length u ≡ i + length (w ++ v) = omega (arith, ap length longer, length-append h.prefix u) in
+        body_at-event_by t m (part (encode_utf8 c) true (m + length u))
+        (spelled_so t m (escape-stands v t i s u longer))
+        ∙ ap (λ j. before (encode_utf8 c) true (body_at t j)) end)
 
   -- or a byte of it is wrong.
   module _ (e : List ℕ) (b : ℕ) (partial_escape : old.escape ≡ Some e) where
@@ -303,44 +311,24 @@ module _ (old : PartialString) (w : List ℕ) (h : HasTaken old w) where
       let until : end ≡ at + n = omega (arith, e.ahead) in
       let bytes : v ≡ e.bytes =
       ap (slice_range chunk at) (sym until) ∙ sym (slice-stands chunk at end e.bytes e.stands) in
-      record {
-        prefix = w ++ v;
-        decoded = h.decoded ++ encode_utf8 c;
-        escaped = h.escaped || true;
-        is = sym (ap (λ x. (w ++ v) ++ held_bytes x) closed_escape ∙ append-nil (w ++ v));
-        unfinished = subst (λ x. IfSome x (λ e. event_at e 0 ≡ over cut)) (sym closed_escape) tt;
-        holds = holds;
-        goes = λ t i s.
-            let m = i + length w in
-            let j = i + length (w ++ v) in
-            let same : i + length h.prefix ≡ m = omega (arith, ap length (all-prefix none)) in
-            let there : event_at t m ≡ part (encode_utf8 e.character) true j =
-            event_by-escape t m j e.character e.bytes e.escape (subst (Stands t m j) bytes (rest-stand v t i s)) in
-            so_far v t i s
-            ∙ ap (λ j. before h.decoded h.escaped (body_at t j)) same
-            ∙ ap (before h.decoded h.escaped)
-            (body_at-event_by t m (part (encode_utf8 c) true j) (there ∙ ap (λ x. part x true j) (sym e.is)))
-            ∙ before-before h.decoded (encode_utf8 c) h.escaped true (body_at t j);
-      }
+      part-taken v (encode_utf8 c) true text o closed_escape holds
+      (λ t i s.
+      let j = i + length (w ++ v) in
+      let same : i + length h.prefix ≡ i + length w = omega (arith, ap length (all-prefix none)) in
+      let there = event_by-escape t (i + length w) j e.character e.bytes e.escape
+      (subst (Stands t (i + length w) j) bytes (rest-stand v t i s)) in
+      ap (body_at t) same
+      ∙ body_at-event_by t (i + length w) (part (encode_utf8 c) true j) (there ∙ ap (λ x. part x true j) (sym e.is)))
 
   -- and plain bytes stand for themselves.
   pub plain-goes : (v : List ℕ) (text : SoFar) (o : Option (List ℕ)) → o ≡ None → old.escape ≡ None → Pass is_plain v
       → HoldsText text (h.decoded ++ v) → HasTaken (record { text = text; escape = o }) (w ++ v)
-  plain-goes v text o closed_escape none pass holds = record {
-    prefix = w ++ v;
-    decoded = h.decoded ++ v;
-    escaped = h.escaped || false;
-    is = sym (ap (λ x. (w ++ v) ++ held_bytes x) closed_escape ∙ append-nil (w ++ v));
-    unfinished = subst (λ x. IfSome x (λ e. event_at e 0 ≡ over cut)) (sym closed_escape) tt;
-    holds = holds;
-    goes = λ t i s.
-        let same : i + length h.prefix ≡ i + length w = omega (arith, ap length (all-prefix none)) in
-        so_far v t i s
-        ∙ ap (λ j. before h.decoded h.escaped (body_at t j)) same
-        ∙ ap (before h.decoded h.escaped)
-        (bytes-read t (i + length w) (i + length (w ++ v)) v (plain-all v pass) (rest-stand v t i s))
-        ∙ before-before h.decoded v h.escaped false (body_at t (i + length (w ++ v)));
-  }
+  plain-goes v text o closed_escape none pass holds =
+      part-taken v v false text o closed_escape holds
+      (λ t i s.
+      let same : i + length h.prefix ≡ i + length w = omega (arith, ap length (all-prefix none)) in
+      ap (body_at t) same
+      ∙ bytes-read t (i + length w) (i + length (w ++ v)) v (plain-all v pass) (rest-stand v t i s))
 
 -- plain bytes below 80 hex
 pub plain-of : (v : List ℕ) → Pass is_plain_ascii v → Pass is_plain v

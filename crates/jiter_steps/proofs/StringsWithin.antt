@@ -1,59 +1,37 @@
 -- A string that lies whole in a chunk is read as the same text wherever its bytes are.
-use Rattle.jiter_steps.proofs.Words.{◌≡◌, ℕ, ◌+◌, ◌<◌, ◌≤◌, Bool, true, false, List, [], ◌∷◌, ◌++◌, length, sym, ap}
+use Rattle.jiter_steps.proofs.Words.{◌≡◌, ℕ, ◌+◌, ◌-◌, ◌<◌, ◌≤◌, Bool, List, ◌∷◌, ◌++◌, length, sym, ap}
 use Rattle.jiter_steps.proofs.Words.{◌∙◌, subst, arith, slice_get, slice_range, Some, IsUtf8, slice-one}
-use Rattle.jiter_steps.proofs.Words.{slice_range-split, slice-stands, stands-split, taken, Stands, IsTextWithin, Body}
-use Rattle.jiter_steps.proofs.Words.{Stop, before, body_at, content_at, over, part, checked, is_cut, event_at}
-use Rattle.jiter_steps.proofs.Words.{string_at, text_form, text_in_form, whole, Text}
+use Rattle.jiter_steps.proofs.Words.{slice_range-split, stands-slice, stands-length, taken, Stands, IsTextWithin, Body}
+use Rattle.jiter_steps.proofs.Words.{body_at, content_at, checked, string_at, text_form, text_in_form, whole, Text}
 use Rattle.jiter_steps.specs.StringReading.{closed}
+use Rattle.jiter_steps.proofs.OpenEscapes.{stands-back, stands-from}
 use Rattle.jiter_steps.proofs.Calls.StringAnswers.{string-checked, string_closed}
-use Rattle.jiter_steps.proofs.Grammar.Places.{Explains}
-use Rattle.jiter_steps.proofs.Grammar.StringComplete.{event_by-byte, event_by-escape, event_by-quote}
+use Rattle.jiter_steps.proofs.Fault.SameStrings.{EndsBy, ShownStop, body-same}
 use Rattle.jiter_steps.proofs.Grammar.StringSound.{closed-text}
-use Rattle.jiter_steps.proofs.Reading.Bodies.{StopWithin, body_at-event_by, body_at-within, each-body, part-ahead}
+use Rattle.jiter_steps.proofs.Reading.Bodies.{StopWithin, body_at-within}
 
-module _ (chunk : List ℕ) where
-  -- the bytes of a part are the same part, wherever they are
-  part-again : (m j : ℕ) (bs : List ℕ) (o : Bool) → Explains chunk m (part bs o j) → (t : List ℕ) (i k : ℕ)
-      → Stands t i k (slice_range chunk m j) → event_at t i ≡ part bs o k
-  part-again m j bs true h t i k s =
-      event_by-escape t i k h.character h.bytes h.escape
-      (subst (Stands t i k) (sym (slice-stands chunk m j h.bytes h.stands)) s)
-      ∙ ap (λ x. part x true k) (sym h.is)
-  part-again m j bs false h t i k s =
-      let one : slice_range chunk m j ≡ h.byte ∷ [] =
-      sym (slice-stands chunk m j (h.byte ∷ []) (h.here, sym h.ends)) in
-      let there : Stands t i k (h.byte ∷ []) = subst (Stands t i k) one s in
-      event_by-byte t i h.byte there.0 (record {
-        printed = h.printed;
-        no_quote = h.no_quote;
-        no_backslash = h.no_backslash;
-      })
-      ∙ ap (λ x. part x false (i + 1)) (sym h.is)
-      ∙ ap (part bs false) there.1
-
-  -- the body from m on, which ends before e, is the same wherever its bytes are
-  abbrev Again : ℕ → Body → Type 0
-  Again m b = (e : ℕ) → b.stop ≡ closed e → (t : List ℕ) (i k : ℕ) → Stands t i k (slice_range chunk m e)
-      → body_at t i ≡ record { bytes = b.bytes; owned = b.owned; stop = closed k }
-
-  body-again : (m : ℕ) → Again m (body_at chunk m)
-  body-again =
-      each-body chunk Again
-      (λ m j bs o h go e stop t i k s.
-      let ahead = part-ahead chunk m j bs o h in
-      let after = subst (StopWithin chunk j) stop (body_at-within chunk j) in
-      let split = slice_range-split chunk m j (omega (arith, ahead.0)) e (omega (arith, after.0)) in
-      let two = stands-split t i k (slice_range chunk m j) (slice_range chunk j e) (subst (Stands t i k) split s) in
-      body_at-event_by t i (part bs o two.0) (part-again m j bs o h t i two.0 two.1)
-      ∙ ap (before bs o) (go e stop t two.0 k two.2))
-      (λ m x h e stop t i k s.
-      let quote : (slice_get chunk m ≡ Some 34) × (e ≡ m + 1) =
-      subst (λ (y : Stop). Explains chunk m (over y)) stop h in
-      let there : Stands t i k (34 ∷ []) =
-      subst (Stands t i k) (ap (slice_range chunk m) quote.1 ∙ slice-one chunk m 34 quote.0) s in
-      body_at-event_by t i (over (closed (i + 1))) (event_by-quote t i there.0)
-      ∙ ap (λ (y : Stop). record { bytes = []; owned = is_cut y; stop = y }) (ap closed there.1)
-      ∙ ap (λ (y : Stop). record { bytes = []; owned = is_cut y; stop = closed k }) (sym stop))
+-- the body from m on, which ends at e, is the same wherever its bytes are: alone, and so in any text
+body-again : (chunk : List ℕ) (m e : ℕ) → (body_at chunk m).stop ≡ closed e
+    → (t : List ℕ) (i k : ℕ) → Stands t i k (slice_range chunk m e)
+    → body_at t i ≡ record { bytes = (body_at chunk m).bytes; owned = (body_at chunk m).owned; stop = closed k }
+body-again chunk m e stop t i k s =
+    let inside = subst (StopWithin chunk m) stop (body_at-within chunk m) in
+    let stands = stands-slice chunk m e (omega (arith, inside.0)) inside.1 in
+    let w = slice_range chunk m e in
+    let n = length w in
+    let b = body_at chunk m in
+    let alone = stands-back w chunk m e stands in
+    let there = stands-from w t i k n s in
+    let end : 0 + e - m ≡ n = omega (arith, stands-length chunk m e w stands) in
+    let last : i + n - 0 ≡ k = omega (arith, stands-length t i k w s) in
+    let taken_alone = (body-same chunk w 0 m e alone m 0 (omega arith) (subst (ShownStop e) (sym stop) (omega arith))).1 in
+    let first : body_at w 0 ≡ record { bytes = b.bytes; owned = b.owned; stop = closed n } =
+    subst (λ x. EndsBy chunk w 0 m e alone x b (body_at w 0)) stop taken_alone
+    ∙ ap (λ x. record { bytes = b.bytes; owned = b.owned; stop = closed x }) end in
+    let stops = ap (λ (d : Body). d.stop) first in
+    let found = (body-same w t i 0 n there 0 i (omega arith) (subst (ShownStop n) (sym stops) (omega arith))).1 in
+    subst (λ x. EndsBy w t i 0 n there x (body_at w 0) (body_at t i)) stops found
+    ∙ (λ x. record { bytes = (first x).bytes; owned = (first x).owned; stop = closed (last x) })
 
 -- So the string whose opening quote is at a place is the same text, where the chunk reads it whole.
 module _ (chunk : List ℕ) (at e : ℕ) (x : Text) (utf8 : IsUtf8 x.bytes)

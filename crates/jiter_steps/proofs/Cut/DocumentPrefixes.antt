@@ -2,10 +2,12 @@
 use Rattle.jiter_steps.proofs.Words.{◌≡◌, ◌⊎◌, inl, inr, ℕ, ◌+◌, ◌<◌, ◌≤◌, Bool, cond, List, [], ◌∷◌, length, take}
 use Rattle.jiter_steps.proofs.Words.{refl, sym, ap, ◌∙◌, subst, arith, slice_get, slice_index, slice_range, Option}
 use Rattle.jiter_steps.proofs.Words.{Some, None, IfSome, cases_lt, eq-eqb, get_or-take, slice_get-get_or}
-use Rattle.jiter_steps.proofs.Words.{slice_get_past, eof_value, expected_ident, failed, Stands, byte_then, word_at}
-use Rattle.jiter_steps.proofs.Words.{past_blanks, IsBlankByte, IsBlank, StandsAfter, SpellsNumber, step, length-take-le}
+use Rattle.jiter_steps.proofs.Words.{slice_get_past, slice_get_within, eof_value, expected_ident, failed, Stands}
+use Rattle.jiter_steps.proofs.Words.{byte_then, word_at, past_blanks, IsBlankByte, IsBlank, StandsAfter, SpellsNumber}
+use Rattle.jiter_steps.proofs.Words.{step, length-take-le}
 use Rattle.jiter_steps.proofs.Grammar.Blanks.{blank-to_end}
-use Rattle.jiter_steps.proofs.Fault.SameSpelling.{stands-too, range-same, number-too, blanks-too, after-too}
+use Rattle.jiter_steps.proofs.Fault.SameSpelling.{SameBefore, stands-too, range-same, number-too, blanks-too}
+use Rattle.jiter_steps.proofs.Fault.SameSpelling.{after-too}
 
 module _ (t : List ℕ) (k : ℕ) (within : k ≤ length t) where
   abbrev u : List ℕ
@@ -21,6 +23,11 @@ module _ (t : List ℕ) (k : ℕ) (within : k ≤ length t) where
 
   pub prefix-get : (i c : ℕ) → i < k → slice_get t i ≡ Some c → slice_get u i ≡ Some c
   prefix-get i c h e = prefix-same i h ∙ e
+
+  -- its bytes are in the text too
+  pub prefix-too : (m : ℕ) → SameBefore u t m
+  prefix-too m i c lt e =
+      let inside = slice_get_within u i c e in sym (prefix-same i (omega (arith, prefix-length))) ∙ e
 
   pub prefix-past : (i : ℕ) → k ≤ i → slice_get u i ≡ None
   prefix-past i h = slice_get_past u i (omega (arith, prefix-length))

@@ -1,10 +1,10 @@
 -- A prefix of an array or an object that lacks its last bracket is refused: the input ends too early.
 use Rattle.jiter_steps.proofs.Words.{◌≡◌, ℕ, ◌+◌, ◌<◌, ◌≤◌, Bool, true, false, List, length, take, sym, ◌∙◌, subst}
 use Rattle.jiter_steps.proofs.Words.{arith, is_end_kind, answer, Node, begin, end, nesting_limit, IsContainer}
-use Rattle.jiter_steps.proofs.Words.{IsDocument, Reading, done, fault, slice_get_within, Tree, past_blanks, IsBlank}
+use Rattle.jiter_steps.proofs.Words.{IsDocument, Reading, done, fault, Tree, past_blanks, IsBlank}
 use Rattle.jiter_steps.proofs.Words.{Spells, start_of, slice_index, value_at, ap, refl}
 use Rattle.jiter_steps.specs.Node as grammar
-use Rattle.jiter_steps.proofs.Cut.DocumentPrefixes.{prefix-length, prefix-same}
+use Rattle.jiter_steps.proofs.Cut.DocumentPrefixes.{prefix-length, prefix-too}
 use Rattle.jiter_steps.proofs.Cut.PrefixNodes.{node-read}
 use Rattle.jiter_steps.proofs.Cut.ReadPrefixes.{IsQuiet, node-quiet}
 use Rattle.jiter_steps.proofs.Fault.Dead.{answer-stays}
@@ -35,17 +35,15 @@ module _ (names : Bool) (t : List ℕ) (k : ℕ) (within : k ≤ length t) where
   prefix = take k t
 
   -- all bytes of the prefix, and its end, are before k + 1
-  pub prefix-too : SameBefore prefix t (k + 1)
-  prefix-too j c lt e =
-      let inside = slice_get_within prefix j c e in
-      sym (prefix-same t k within j (omega (arith, prefix-length t k within))) ∙ e
+  abbrev same : SameBefore prefix t (k + 1)
+  same = prefix-too t k within (k + 1)
 
   -- a document of the text and one of the prefix begin with the same byte, so the one is no longer
   module _ (n m : Node) (d : IsDocument names t n) (is : IsContainer n) (other : IsDocument names prefix m) where
     spelled : Spells names t m
     spelled =
         let last = node-within names prefix m other.spelled in
-        spells-too names prefix t (k + 1) prefix-too m (omega (arith, prefix-length t k within)) other.spelled
+        spells-too names prefix t (k + 1) same m (omega (arith, prefix-length t k within)) other.spelled
 
     begins : (n : Node) → Spells names t n → IsBlank t 0 (begin n) → past_blanks t 0 ≡ begin n
     begins n h blanks =
@@ -54,7 +52,7 @@ module _ (names : Bool) (t : List ℕ) (k : ℕ) (within : k ≤ length t) where
     same-begin : begin m ≡ begin n
     same-begin =
         let inside = begin-within names prefix m other.spelled in
-        let blanks = blanks-too prefix t (k + 1) prefix-too 0 (begin m) (omega (arith, prefix-length t k within))
+        let blanks = blanks-too prefix t (k + 1) same 0 (begin m) (omega (arith, prefix-length t k within))
         other.before in
         sym (begins m spelled blanks) ∙ begins n d.spelled d.before
 
@@ -82,7 +80,7 @@ module _ (names : Bool) (t : List ℕ) (k : ℕ) (within : k ≤ length t) where
         let at = subst (Within prefix 0) found (answer-within prefix names) in
         let place = at.2.within in
         let shown = subst (ShownFault prefix (k + 1)) (sym found) (omega arith, (e, λ utf8. omega arith)) in
-        absurd (subst IsFault (answer-of names t n d) (answer-stays names prefix t (k + 1) prefix-too shown))
+        absurd (subst IsFault (answer-of names t n d) (answer-stays names prefix t (k + 1) same shown))
 
 -- Of a document that is an array or an object, each prefix that lacks the last bracket is refused: the input ends too
 -- early.

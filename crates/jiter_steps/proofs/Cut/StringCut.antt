@@ -1,19 +1,20 @@
 -- A string that is cut, where it is kept: the characters of the pieces that end before the cut.
 use Rattle.jiter_steps.proofs.Words.{◌≡◌, ◌⊎◌, inl, inr, ℕ, suc, ◌+◌, ◌<◌, ◌≤◌, true, false, List, [], ◌∷◌, ◌++◌}
-use Rattle.jiter_steps.proofs.Words.{length, take, refl, sym, ap, ◌∙◌, subst, arith, append-nil, append_assoc}
+use Rattle.jiter_steps.proofs.Words.{◌-◌, length, take, refl, sym, ap, ◌∙◌, subst, arith, append-nil, append_assoc}
 use Rattle.jiter_steps.proofs.Words.{slice_get, Some, encode_utf8, all_scalars, IsUtf8, le-leb, lt-leb, cases_lt}
-use Rattle.jiter_steps.proofs.Words.{lt-ltb, slice_get_past, Stands, IsPlain, IsEscape, Piece, SpellsChar, SpellsPieces}
+use Rattle.jiter_steps.proofs.Words.{Stands, IsPlain, IsEscape, Piece, SpellsChar, SpellsPieces}
 use Rattle.jiter_steps.proofs.Words.{SpellsString, characters, text_of, pieces_to, taken, failed, Stop, unclosed, cut}
-use Rattle.jiter_steps.proofs.Words.{over, few, hex_digits_at, after_high, event_at, Body, before, body_at, kept}
-use Rattle.jiter_steps.proofs.Words.{valid_prefix, content_at, string_at, whole, raw, stands-split, eof_string}
+use Rattle.jiter_steps.proofs.Words.{over, event_at, Body, before, body_at, kept}
+use Rattle.jiter_steps.proofs.Words.{valid_prefix, content_at, string_at, whole, raw, eof_string}
 use Rattle.jiter_steps.proofs.Grammar.Utf8Shape.{lead}
-use Rattle.jiter_steps.proofs.Cut.DocumentPrefixes.{prefix-length, prefix-get, prefix-stands}
+use Rattle.jiter_steps.proofs.Cut.DocumentPrefixes.{prefix-length, prefix-get, prefix-stands, prefix-too}
 use Rattle.jiter_steps.proofs.Fault.SameSpelling.{string-too}
-use Rattle.jiter_steps.proofs.Grammar.Places.{UnitAt}
+use Rattle.jiter_steps.proofs.Fault.SameStrings.{escape-cut, same-from}
+use Rattle.jiter_steps.proofs.Grammar.Places.{Explains, event_at-explains}
 use Rattle.jiter_steps.proofs.Reading.Bodies.{body_at-event_by, event_by-end}
 use Rattle.jiter_steps.proofs.Grammar.StringMarks.{EndOf}
 use Rattle.jiter_steps.proofs.Grammar.StringComplete.{ArePrinted, plain-printed, bytes-read, char-read}
-use Rattle.jiter_steps.proofs.Grammar.StringComplete.{event_by-backslash, event_by-number, unit-at}
+use Rattle.jiter_steps.proofs.Grammar.StringComplete.{event_by-escape}
 use Rattle.jiter_steps.proofs.Cut.CutCharacters.{IsPrefix, tail-unfinished, tail-taken}
 
 module _ (t : List ℕ) (k : ℕ) (within : k ≤ length t) where
@@ -88,46 +89,18 @@ module _ (t : List ℕ) (k : ℕ) (within : k ≤ length t) where
         scalars = refl;
       }
 
-  digits-few : (x : ℕ) → k < x + 4 → hex_digits_at u x ≡ few
-  digits-few x h = rw (lt-ltb (length u) (x + 4) (omega (arith, long)))
-
   -- an escape's prefix
-  unit-ends : (i e n : ℕ) → UnitAt t i e n → i < k → k < i + 6 → event_at u i ≡ over cut
-  unit-ends i e n x l m = rw (event_by-backslash u i (same i 92 l x.slash)) (elim (cases_lt (i + 1) k) [
-    | inl lt ↦ rw (same (i + 1) 117 lt x.letter, digits-few (i + 1 + 1) (omega arith))
-    | inr ge ↦ rw (slice_get_past u (i + 1) (omega (arith, long)))
-  ])
-
-  after_high-ends : (o j high low : ℕ) → UnitAt t o j low → o ≤ k → k < o + 6
-      → after_high u high o (slice_get u o) ≡ over cut
-  after_high-ends o j high low y ge m = elim (cases_lt o k) [
-    | inr none ↦ rw (slice_get_past u o (omega (arith, long)))
-    | inl some ↦ rw (same o 92 some y.slash) (elim (cases_lt (o + 1) k) [
-      | inr none ↦ rw (slice_get_past u (o + 1) (omega (arith, long)))
-      | inl more ↦ rw (same (o + 1) 117 more y.letter, digits-few (o + 1 + 1) (omega arith))
-    ])
-  ]
-
   escape-ends : (i j c : ℕ) (p : List ℕ) → IsEscape p c → Stands t i j p → i < k → k < j → event_at u i ≡ over cut
-  escape-ends i j c p (inl is) s l m =
-      let h : Stands t i j (92 ∷ is.sign ∷ []) = subst (Stands t i j) is.is s in
-      rw (event_by-backslash u i (same i 92 l h.0), slice_get_past u (i + 1) (omega (arith, long, h.1.1)))
-  escape-ends i j c p (inr (inl is)) s l m =
-      let x = unit-at t i j c p is.0 s in
-      unit-ends i j c x l (omega (arith, x.ends))
-  escape-ends i j c p (inr (inr is)) s l m =
-      let h = stands-split t i j is.prefix is.back (subst (Stands t i j) is.is s) in
-      let x = unit-at t i h.0 is.high is.prefix is.first h.1 in
-      let o = i + 1 + 1 + 4 in
-      let at : h.0 ≡ o = omega (arith, x.ends) in
-      let y = unit-at t o j is.low is.back is.second (subst (λ o. Stands t o j is.back) at h.2) in
-      elim (cases_lt k o) [
-        | inl lt ↦ unit-ends i h.0 is.high x l (omega arith)
-        | inr ge ↦
-            let first = prefix-stands t k within i h.0 is.prefix h.1 (omega (arith, at)) in
-            rw (event_by-number u i h.0 is.high (unit-at u i h.0 is.high is.prefix is.first first), is.is_high)
-            (after_high-ends o j is.high is.low y ge (omega (arith, y.ends)))
-      ]
+  escape-ends i j c p escape s l m =
+      let whole = event_by-escape t i j c p escape s in
+      let found = subst (Explains t i) whole (event_at-explains t i) in
+      escape-cut u t 0 0 k (same-from u t k (prefix-too t k within k)) i i refl (omega (arith, long)) (omega (arith, long))
+      (same i 92 l found.backslash)
+      (λ bs o e le is.
+      let both = sym whole ∙ is in
+      let end : j ≡ 0 + e - 0 = cc in
+      omega (arith, end, long))
+      (λ kind x is. let clash = sym whole ∙ is in cc)
 
   char-ends : (i j c : ℕ) → SpellsChar t i j c → i ≤ k → k < j → EndsAt i
   char-ends i j c s l m = elim s.piece [

@@ -2,14 +2,14 @@
 use Rattle.jiter_steps.proofs.Words.{◌≡◌, ◌⊎◌, inl, inr, ℕ, zero, suc, ◌+◌, ◌-◌, ◌<◌, ◌≤◌, Bool, true, false, List, []}
 use Rattle.jiter_steps.proofs.Words.{◌∷◌, length, refl, sym, ap, ◌∙◌, subst, arith, slice_get, slice_index, Option}
 use Rattle.jiter_steps.proofs.Words.{Some, None, ◌==◌, if◌then◌else◌, nat_lt, encode_utf8, utf8_valid_len, ltb-false}
-use Rattle.jiter_steps.proofs.Words.{le-ltb, ltb-true, slice_get_within, slice_get-get_or, get_or_from_slice_get}
-use Rattle.jiter_steps.proofs.Words.{true≢false, Kind, invalid_escape, lone_surrogate, end_of_hex_escape}
-use Rattle.jiter_steps.proofs.Words.{control_character, Scanned, taken, failed, if_case, if-true, if-false}
-use Rattle.jiter_steps.proofs.Words.{short_escape, is_hex, unit_of, is_high, is_low, pair_of, Stop, unclosed, cut}
-use Rattle.jiter_steps.proofs.Words.{wrong, Event, part, over, bad_digit, unit_at, few, hex_digits_or, hex_digits_at}
-use Rattle.jiter_steps.proofs.Words.{after, unit_then, surrogate_pair, after_high_backslash, after_high, single}
-use Rattle.jiter_steps.proofs.Words.{unicode_escape, short, after_backslash, event_by, event_at, Body, before, join}
-use Rattle.jiter_steps.proofs.Words.{body_at, whole, text_in_form, content_at, string_at}
+use Rattle.jiter_steps.proofs.Words.{le-ltb, ltb-true, same_Some, none-some, slice_get_within, slice_get-get_or}
+use Rattle.jiter_steps.proofs.Words.{get_or_from_slice_get, true≢false, Kind, invalid_escape, lone_surrogate}
+use Rattle.jiter_steps.proofs.Words.{end_of_hex_escape, control_character, Scanned, taken, failed, if_case, if-true}
+use Rattle.jiter_steps.proofs.Words.{if-false, short_escape, is_hex, unit_of, is_high, is_low, pair_of, Stop, unclosed}
+use Rattle.jiter_steps.proofs.Words.{cut, wrong, Event, part, over, bad_digit, unit_at, few, hex_digits_or}
+use Rattle.jiter_steps.proofs.Words.{hex_digits_at, after, unit_then, surrogate_pair, after_high_backslash, after_high}
+use Rattle.jiter_steps.proofs.Words.{single, unicode_escape, short, after_backslash, event_by, event_at, Body, before}
+use Rattle.jiter_steps.proofs.Words.{join, body_at, whole, text_in_form, content_at, string_at}
 use Rattle.jiter_steps.specs.StringReading.{closed, plain}
 use Rattle.jiter_steps.proofs.Fault.SameSpelling.{SameBefore}
 use Rattle.jiter_steps.proofs.Reading.Bounds.{both}
@@ -19,7 +19,7 @@ use Rattle.jiter_steps.proofs.Reading.Bodies.{part-ahead}
 use Rattle.jiter_steps.proofs.Grammar.Places.{Explains, event_at-explains}
 
 -- a part or a quote that ends by m, or an error of a place before it
-abbrev ShownStop : ℕ → Stop → Type 0
+abbrev pub ShownStop : ℕ → Stop → Type 0
 ShownStop m (closed e) = e ≤ m
 ShownStop m (wrong k j) = j < m
 ShownStop m s = ⊥
@@ -28,9 +28,11 @@ abbrev ShownFound : ℕ → Event → Type 0
 ShownFound m (part bytes owned e) = e ≤ m
 ShownFound m (over s) = ShownStop m s
 
-abbrev IsWrong : Stop → Type 0
-IsWrong (wrong k j) = Unit {0}
-IsWrong s = ⊥
+-- an error, or the end of the input within an escape
+abbrev pub IsFailing : Stop → Type 0
+IsFailing (wrong k j) = Unit {0}
+IsFailing cut = Unit {0}
+IsFailing s = ⊥
 
 -- In two texts, where the bytes of t before m are in u, those after the first q after p others.
 abbrev pub SameFrom : List ℕ → List ℕ → ℕ → ℕ → ℕ → Type 0
@@ -213,68 +215,72 @@ module _ (t u : List ℕ) (p q m : ℕ) (same : SameFrom t u p q m) where
       (earlier (i + 1) (i + 1 + 1) _ _ (omega arith) (after_backslash-same (i + 1) (j + 1) (omega arith)))
       (plain-same i j c at)))
 
-module _ (t u : List ℕ) (m : ℕ) (same : SameBefore t u m) where
-  place : (i : ℕ) → 0 + i - 0 ≡ i
-  place i = omega arith
+  -- Where a backslash is and u has no error, t ends within the escape if u finds none that ends in t.
+  pub escape-cut : (i j : ℕ) → p + i ≡ q + j → length t ≤ m → p + length t ≤ q + length u → slice_get t i ≡ Some 92
+      → ((bytes : List ℕ) (owned : Bool) (e : ℕ) → e ≤ length t → event_at u j ≡ part bytes owned (p + e - q) → ⊥)
+      → ((k : Kind) (x : ℕ) → event_at u j ≡ over (wrong k x) → ⊥) → event_at t i ≡ over cut
+  escape-cut i j at all long slash no_part no_error =
+      by (event_at t i) (event_at-explains t i) (event_at-same i j at) where
+        by : (f : Event) → Explains t i f → Same (i + 1) f (event_at u j) → f ≡ over cut
+        by (part bytes owned e) x h =
+            let inside = (part-ahead t i e bytes owned x).1 in
+            absurd (no_part bytes owned e inside (h (omega arith)).1)
+        by (over (closed e)) x h = absurd (omega (arith, same_Some 92 34 (sym slash ∙ x.0)))
+        by (over unclosed) x h = absurd (none-some 92 (sym x ∙ slash))
+        by (over cut) x h = refl
+        by (over (wrong k y)) x h = elim (h (omega (arith, x.1))).1 [
+          | inl is ↦ absurd (no_error k (p + y - q) is)
+          | inr short ↦ absurd (omega (arith, short.0))
+        ]
 
-  same-from : SameFrom t u 0 0 m
-  same-from i j c at le e = let here : j ≡ i = omega arith in ap (slice_get u) here ∙ same i c le e
+  -- The body of t from i on, which is shown, ends with the same bytes in u; or both end with an error or within an
+  -- escape.
+  abbrev pub EndsBy : Stop → Body → Body → Type 0
+  EndsBy (closed e) b d = d ≡ record { bytes = b.bytes; owned = b.owned; stop = closed (p + e - q) }
+  EndsBy s b d = IsFailing d.stop
 
-  -- the same is found; or, where an error is found, that the text ends within the escape
-  abbrev FindsHere : Event → Event → Type 0
-  FindsHere (part bytes owned e) g = g ≡ part bytes owned e
-  FindsHere (over s) g = (g ≡ over s) ⊎ (IsWrong s × (g ≡ over cut))
-
-  found-here : (f g : Event) → Finds t u 0 0 m same-from f g → FindsHere f g
-  found-here (part bytes owned e) g h = h ∙ ap (part bytes owned) (place e)
-  found-here (over (closed e)) g h = inl (h ∙ ap (λ n. over (closed n)) (place e))
-  found-here (over (wrong k j)) g (inl h) = inl (h ∙ ap (λ n. over (wrong k n)) (place j))
-  found-here (over (wrong k j)) g (inr h) = inr (tt, h.1)
-  found-here (over s) g h = inl h
-
-  event-same : (i : ℕ) (f g : Event) → Same t u 0 0 m same-from (i + 1) f g → ShownFound m f
-      → (i + 1 ≤ m) × FindsHere f g
-  event-same i f g all shown = let r = all shown in (r.0, found-here f g r.1)
-
-  -- bodies
-  abbrev Ends : Body → Body → Type 0
-  Ends b d = (d ≡ b) ⊎ (IsWrong b.stop × (d.stop ≡ cut))
-
-  -- what is shown of the body from i on, the other text's body ends like
   abbrev SameBody : ℕ → Body → Type 0
-  SameBody i b = ShownStop m b.stop → (i < m) × Ends b (body_at u i)
+  SameBody i b = ShownStop m b.stop → (j : ℕ) → p + i ≡ q + j → (i < m) × EndsBy b.stop b (body_at u j)
 
-  join-ends : (bytes : List ℕ) (owned : Bool) (b d : Body) → Ends b d
-      → Ends (before bytes owned b) (before bytes owned d)
-  join-ends bytes owned b d (inl e) = inl (ap (before bytes owned) e)
-  join-ends bytes owned b d (inr h) = inr h
+  before-ends : (s : Stop) (bytes : List ℕ) (owned : Bool) (b d : Body) → EndsBy s b d
+      → EndsBy s (before bytes owned b) (before bytes owned d)
+  before-ends (closed e) bytes owned b d h = ap (before bytes owned) h
+  before-ends s bytes owned b d h = h
 
-  -- where what is event_by is over, so is the body
-  over-ends : (i : ℕ) (s : Stop) → FindsHere (over s) (event_at u i) → Ends (join (body_at t) (over s)) (body_at u i)
-  over-ends i s (inl e) = inl (body_at-event_by u i (over s) e)
-  over-ends i s (inr h) = inr (h.0, ap (λ (b : Body). b.stop) (body_at-event_by u i (over cut) h.1))
+  over-ends : (s : Stop) (j : ℕ) → ShownStop m s → Finds (over s) (event_at u j)
+      → EndsBy s (join (body_at t) (over s)) (body_at u j)
+  over-ends (closed e) j shown h = body_at-event_by u j (over (closed (p + e - q))) h
+  over-ends (wrong k x) j shown h = elim h [
+    | inl is ↦ rw (body_at-event_by u j _ is) tt
+    | inr is ↦ rw (body_at-event_by u j _ is.1) tt
+  ]
+  over-ends s j shown h = absurd shown
 
-  body-join : (n i : ℕ) → ((j : ℕ) → length t ≤ n + j → SameBody j (body_at t j)) → length t ≤ suc n + i
-      → (f : Event) → Explains t i f → (ShownFound m f → (i + 1 ≤ m) × FindsHere f (event_at u i))
+  body-join : (n i : ℕ) → ((x : ℕ) → length t ≤ n + x → SameBody x (body_at t x)) → length t ≤ suc n + i
+      → (f : Event) → Explains t i f → ((j : ℕ) → p + i ≡ q + j → Same (i + 1) f (event_at u j))
       → SameBody i (join (body_at t) f)
-  body-join n i go le (over s) x h shown = let r = h shown in (omega (arith, r.0), over-ends i s r.1)
-  body-join n i go le (part bytes owned j) x h shown =
-      let ahead = part-ahead t i j bytes owned x in
-      let rest = go j (omega arith) shown in
-      let here = h (omega (arith, rest.0)) in
-      let is = body_at-event_by u i (part bytes owned j) here.1 in
-      let ends = join-ends bytes owned (body_at t j) (body_at u j) rest.1 in
-      (omega (arith, here.0), subst (Ends (before bytes owned (body_at t j))) (sym is) ends)
+  body-join n i go le (over s) x h = λ shown j at.
+      let r = h j at shown in (omega (arith, r.0), over-ends s j shown r.1)
+  body-join n i go le (part bytes owned e) x h = λ shown j at.
+      let ahead = part-ahead t i e bytes owned x in
+      let next = p + e - q in
+      let rest = go e (omega arith) shown next (omega arith) in
+      let here = h j at (omega (arith, rest.0)) in
+      let is = body_at-event_by u j (part bytes owned next) here.1 in
+      let stop = (body_at t e).stop in
+      let ends = before-ends stop bytes owned (body_at t e) (body_at u next) rest.1 in
+      (omega (arith, here.0), subst (EndsBy stop (before bytes owned (body_at t e))) (sym is) ends)
 
   body-within : (n i : ℕ) → length t ≤ n + i → SameBody i (body_at t i)
   body-within zero i le =
       rw (body_at-event_by t i (over unclosed) (event_by-end t i (omega arith))) (λ shown. absurd shown)
   body-within (suc n) i le =
-      rw (body_at-is t i) (body-join n i (body-within n) le (event_at t i) (event_at-explains t i)
-      (event-same i (event_at t i) (event_at u i) (event_at-same t u 0 0 m same-from i i refl)))
+      rw (body_at-is t i)
+      (body-join n i (body-within n) le (event_at t i) (event_at-explains t i) (event_at-same i))
 
-  body-same : (i : ℕ) → SameBody i (body_at t i)
-  body-same i = body-within (length t) i (omega arith)
+  pub body-same : (i j : ℕ) → p + i ≡ q + j → ShownStop m (body_at t i).stop
+      → (i < m) × EndsBy (body_at t i).stop (body_at t i) (body_at u j)
+  body-same i j at shown = body-within (length t) i (omega arith) shown j at
 
 -- an error is met
 abbrev pub IsRefused : {A : Type 0} → Scanned A → Type 0
@@ -291,40 +297,41 @@ abbrev pub SameScalar : {A : Type 0} → List ℕ → ℕ → ℕ → Scanned A 
 SameScalar t m i x y = Shown t m x → (i < m) × SameOrFault x y
 
 module _ (t u : List ℕ) (m : ℕ) (same : SameBefore t u m) where
-  wrong-ends : (i : ℕ) (b d : Body) → IsWrong b.stop → Ends t u m same b d
-      → IsRefused (text_in_form whole u i d.bytes d.owned d.stop)
-  wrong-ends i b d w (inr h) = rw h.1 tt
-  wrong-ends i b d w (inl e) = rw e (by b.stop w) where
-    by : (s : Stop) → IsWrong s → IsRefused (text_in_form whole u i b.bytes b.owned s)
-    by (wrong k j) w = tt
-    by s w = absurd w
+  pub same-from : SameFrom t u 0 0 m
+  same-from i j c at le e = let here : j ≡ i = omega arith in ap (slice_get u) here ∙ same i c le e
+
+  failing : (i : ℕ) (bytes : List ℕ) (owned : Bool) (s : Stop) → IsFailing s
+      → IsRefused (text_in_form whole u i bytes owned s)
+  failing i bytes owned (wrong k j) h = tt
+  failing i bytes owned cut h = tt
+  failing i bytes owned s h = absurd h
 
   -- what is shown of a string with this body
-  body-shown : (i : ℕ) (b : Body) (s : Stop) → b.stop ≡ s → StopWithin t i s
-      → (ShownStop m s → (i < m) × Ends t u m same b (body_at u i))
+  body-shown : (i : ℕ) (b : Body) (s : Stop) → StopWithin t i s
+      → (ShownStop m s → (i < m) × EndsBy t u 0 0 m same-from s b (body_at u i))
       → SameScalar t m i (text_in_form whole t i b.bytes b.owned s) (content_at whole u i)
   unfolding content_at
-  body-shown i b unclosed e within ends = λ shown. absurd (true≢false shown.1.0)
-  body-shown i b cut e within ends = λ shown. absurd (true≢false shown.1.0)
-  body-shown i b (wrong k j) e within ends = λ shown.
-      let r = ends shown.0 in
-      (r.0, wrong-ends i b (body_at u i) (subst IsWrong (sym e) tt) r.1)
-  body-shown i b (closed e) is within ends =
+  body-shown i b unclosed within ends = λ shown. absurd (true≢false shown.1.0)
+  body-shown i b cut within ends = λ shown. absurd (true≢false shown.1.0)
+  body-shown i b (wrong k j) within ends = λ shown.
+      let r = ends shown.0 in let d = body_at u i in (r.0, failing i d.bytes d.owned d.stop r.1)
+  body-shown i b (closed e) within ends =
       if_case (λ x. SameScalar t m i x (content_at whole u i)) (utf8_valid_len b.bytes == length b.bytes) _ _
       (λ valid shown. let r = ends (omega (arith, shown.0)) in (r.0, again r.1 ∙ if-true _ _ _ valid))
       (λ other shown.
       let r = ends (omega (arith, shown.1.1 refl, within.1)) in
       (r.0, subst IsRefused (sym (again r.1 ∙ if-false _ _ _ other)) tt)) where
-        again : Ends t u m same b (body_at u i)
+        again : EndsBy t u 0 0 m same-from (closed e) b (body_at u i)
             → content_at whole u i ≡ text_in_form whole u i b.bytes b.owned (closed e)
-        again (inl h) =
+        again h =
+            let place : 0 + e - 0 ≡ e = omega arith in
             ap (λ (d : Body). text_in_form whole u i d.bytes d.owned d.stop) h
-            ∙ ap (text_in_form whole u i b.bytes b.owned) is
-        again (inr h) = absurd (subst IsWrong is h.0)
+            ∙ ap (λ n. text_in_form whole u i b.bytes b.owned (closed n)) place
 
   pub string-same : (i : ℕ) → SameScalar t m i (string_at whole t i) (string_at whole u i)
   unfolding content_at
   string-same i shown =
       let b = body_at t (i + 1) in
-      let r = body-shown (i + 1) b b.stop refl (body_at-within t (i + 1)) (body-same t u m same (i + 1)) shown in
+      let all = body-same t u 0 0 m same-from (i + 1) (i + 1) refl in
+      let r = body-shown (i + 1) b b.stop (body_at-within t (i + 1)) all shown in
       (omega (arith, r.0), r.1)

@@ -5,8 +5,8 @@ use Rattle.jiter_steps.proofs.Words.{ap, subst, arith, Kind, is_end_kind, is_for
 use Rattle.jiter_steps.proofs.Words.{whole_trees, partial_trees, partial_answer, Node, end, IsContainer, Reading, done}
 use Rattle.jiter_steps.proofs.Words.{fault, to_end, prefix_answer, whole_answer, Tree, IsUniqueDocument, own_bytes}
 use Rattle.jiter_steps.proofs.Words.{unique_answer}
-use Rattle.jiter_steps.proofs.Cut.DocumentPrefixes.{prefix-length}
-use Rattle.jiter_steps.proofs.Cut.Prefixes.{EndsEarly, prefix-refused, prefix-too}
+use Rattle.jiter_steps.proofs.Cut.DocumentPrefixes.{prefix-length, prefix-too}
+use Rattle.jiter_steps.proofs.Cut.Prefixes.{EndsEarly, prefix-refused}
 use Rattle.jiter_steps.proofs.Fault.SameReadings.{IsFault, ShownFault}
 use Rattle.jiter_steps.proofs.Reading.Bounds.{Within}
 use Rattle.jiter_steps.proofs.Unique.Documents.{unique-complete}
@@ -34,7 +34,7 @@ module _ (names : Bool) (t : List ℕ) (n : Node) (k : ℕ) (d : IsUniqueDocumen
         let place = (subst (Within u 0) found (unique_answer-within u names)).2.within in
         let shown = subst (ShownFault u (k + 1)) (sym found) (omega arith, (e, λ utf8. omega arith)) in
         absurd (subst IsFault (unique-complete names t n d)
-        (unique-stays names u t (k + 1) (prefix-too names t k within) shown))
+        (unique-stays names u t (k + 1) (prefix-too t k within (k + 1)) shown))
 
   -- With partial reading off an array or an object without its last bracket is refused, since the input ends too early.
   pub unique-prefix_refused : k < end n → EndsEarly (unique_answer names u)
