@@ -1,4 +1,5 @@
 -- What the bytes of a document answer that have arrived so far, of which the unfinished scalar may be in the value.
+use Rattle.jiter_incremental.proofs.Innermost.{inside-of}
 use Rattle.jiter_incremental.proofs.Words.{◌≡◌, ℕ, ◌+◌, ◌≤◌, Bool, true, false, List, [], ◌∷◌, ◌++◌, length, refl, sym}
 use Rattle.jiter_incremental.proofs.Words.{subst, ap, ◌∙◌, arith, ◌&&◌, ◌||◌, not, is_some, option_map, Option, Some}
 use Rattle.jiter_incremental.proofs.Words.{None, IsUtf8, false≢true, none-some, same_Some, if-true, if-false, Kind}
@@ -22,7 +23,7 @@ use Rattle.jiter_incremental.specs.declared.reader.Token.TheVariants as token
 use Rattle.jiter_incremental.proofs.Documents.{known-as}
 use Rattle.jiter_incremental.proofs.Documents.Ends.{broken-answered, broken-low, kind-whole, none-answered}
 use Rattle.jiter_incremental.proofs.Documents.Ends.{nothing-comes, partial-answers, strict-answers, value-answered}
-use Rattle.jiter_incremental.proofs.Innermost.{inside-of, utf8-of}
+use Rattle.jiter_incremental.proofs.Innermost.{utf8-of}
 use Rattle.jiter_incremental.proofs.Settling.{settled-so, shown-key, shown-nothing}
 
 -- ---- the value so far

@@ -7,9 +7,9 @@ use Rattle.jiter_incremental.proofs.Words.{items_frame, begins_part, closer_of, 
 use Rattle.jiter_incremental.proofs.Words.{step, stuck, ContainerKind, PartTree, built, fault, Text, Tree, Arrived}
 use Rattle.jiter_incremental.proofs.Words.{IsBeforeValue, IsBetweenParts, IsLeft, OpenValue, at_value, at_end}
 use Rattle.jiter_incremental.proofs.Words.{between_parts, ClosesBefore, Everywhere, IsBeforePart, TakesByte, completed}
-use Rattle.jiter_incremental.proofs.Words.{Document, HasReadIn, HasTakenIn, ReadSoFar, Next, Opened, IsRefused, StandsAt}
+use Rattle.jiter_incremental.proofs.Words.{Document, HasTakenIn, ReadSoFar, Opened, IsRefused, StandsAt}
 use Rattle.jiter_incremental.proofs.Words.{any_bytes, between_tokens, in_key, with_byte, AwaitsKey, AwaitsValue}
-use Rattle.jiter_incremental.proofs.Words.{HasReadTo, IsAt, IsHere, IsStill, MovesBy, Steps, ahead, ahead_as, document}
+use Rattle.jiter_incremental.proofs.Words.{HasTakenTo, IsAt, IsHere, IsStill, MovesBy, Steps, ahead, ahead_as, document}
 use Rattle.jiter_incremental.proofs.Words.{next_of, noted, refused, after_level, OpenFrame, filled, Awaits, Reader}
 use Rattle.jiter_incremental.proofs.Words.{Token, append_assoc, past_blanks, past_blanks-blank, slice_range-split}
 use Rattle.jiter_scan.specs.Ascii as ascii
@@ -24,7 +24,8 @@ use Rattle.jiter_incremental.proofs.Between.{RowIs, at-value, between-of, betwee
 use Rattle.jiter_incremental.proofs.Between.{goes-missing, goes-wrong, missing-forgiven, put-left, row-comma, row-missing}
 use Rattle.jiter_incremental.proofs.Documents.Blanks.{first-blank, run-taken}
 use Rattle.jiter_incremental.proofs.Slots.{filled-same}
-use Rattle.jiter_incremental.proofs.Settling.{ahead-level, apart-read, moves-here, moves-one, none-slice, one-slice, read-any, reads-apart, shown-nothing, steps-one, not-shown}
+use Rattle.jiter_incremental.proofs.Settling.{ahead-level, none-slice, one-slice, steps-one}
+use Rattle.jiter_incremental.proofs.Settling.{steps-here, steps-run}
 
 zero-more : (n : ℕ) → n + 0 ≡ n
 zero-more n = omega arith
@@ -55,14 +56,6 @@ known-next token.Nothing awaits.Comma chunk i within d t o k = known-as-byte chu
 known-next token.Nothing awaits.Nothing chunk i within d t o k = known-as-byte chunk i within d t o k
 known-next k a chunk i within d t o h = known-any (with_byte (slice_index chunk i)) d t o h
 
--- Where no token is unfinished none is shown.
-pub hidden-nothing : (n : Next) (d : Document) (t : List ℕ) → HasReadIn n d t → d.fault ≡ None → d.token ≡ token.Nothing
-    → d.shown ≡ false
-hidden-nothing n d t h unset none =
-    let s = h.held unset in
-    let same : d.token ≡ s.apart.token = ap (λ (e : Document). e.token) s.same in
-    not-shown d t h.opened s (shown-nothing s.apart (sym same ∙ none))
-
 -- What is open before the byte, where no token is unfinished
 pub record Here (c : ℕ) (d : Document) (t : List ℕ) : Type 0 where
   pub state : Arrived
@@ -70,11 +63,11 @@ pub record Here (c : ℕ) (d : Document) (t : List ℕ) : Type 0 where
   pub left : IsLeft d.value state
 
 pub here-at : (chunk : List ℕ) (i : Reader) (x : Tree) (t : List ℕ) → i.at < length chunk → i.fault ≡ None
-    → i.token ≡ token.Nothing → HasReadTo chunk i x t → Here (slice_index chunk i.at) (document i x) t
+    → i.token ≡ token.Nothing → HasTakenTo chunk i x t → Here (slice_index chunk i.at) (document i x) t
 here-at chunk i x t within unset none h =
     let d = document i x in
     let n = ahead i chunk i.at in
-    let b = taken-between n d t (apart-read n d t h.read (hidden-nothing n d t h.read unset none)) unset none in
+    let b = taken-between n d t h.read unset none in
     record {
       state = b.state;
       known = known-next i.token i.awaits chunk i.at within d t (between_tokens b.state) b.known;
@@ -90,11 +83,6 @@ module _ (level : ℕ) (chunk : List ℕ) (i : Reader) (v : Tree) (h : IsHere le
     abbrev c : ℕ
     c = slice_index chunk i.at
 
-    pub hidden-here : i.shown ≡ false
-    hidden-here =
-        let r = h.read.3 in
-        hidden-nothing (ahead i chunk i.at) (document i (filled h.read.1 v)) h.read.0 r.read h.unset none
-
     -- The byte is taken: something else is awaited then.
     pub byte-taken : (a : Awaits) (n : ℕ) (k : CowStr Global) (w : Tree) → level ≤ n + 1 → n ≤ level + 1 → n ≤ 201
         → ((outer : List OpenFrame) → IsAt level outer → (s : Arrived) → IsLeft (document i (filled outer v)).value s
@@ -106,12 +94,12 @@ module _ (level : ℕ) (chunk : List ℕ) (i : Reader) (v : Tree) (h : IsHere le
         record {
           within = omega (arith, h.inside);
           some = inl (omega arith);
-          still = (refl, refl, refl);
+          still = (refl, refl, refl, refl);
           depth = (up, down);
           low = low;
           deeper = λ _. h.unset;
         } in
-        steps-one level chunk i v j w h.inside moves hidden-here (λ x unset. shown-nothing (document j x) none)
+        steps-one level chunk i v j w h.inside moves
         (λ t outer at r.
         let x = filled outer v in
         let b = here-at chunk i x t h.inside h.unset none r in
@@ -125,7 +113,7 @@ module _ (level : ℕ) (chunk : List ℕ) (i : Reader) (v : Tree) (h : IsHere le
         → Steps level chunk i v (refused i kind (i.base + i.at)) v 1
     byte-refused kind fails =
         let j = refused i kind (i.base + i.at) in
-        steps-one level chunk i v j v h.inside (moves-one level chunk i h.here h.low j h.inside (refl, refl, refl) refl) hidden-here (λ x unset. shown-nothing (document j x) none)
+        steps-here level chunk i v j v h (refl, refl, refl, refl) refl
         (λ t outer at r.
         let x = filled outer v in
         let d = document i x in
@@ -275,7 +263,6 @@ module _ (level : ℕ) (chunk : List ℕ) (i : Reader) (v : Tree) (h : IsHere le
             ap (ahead j chunk) (zero-more i.at)
             ∙ ahead-level j.token j.awaits (i.depth - 1) chunk i.at none refl h.inside in
             record {
-              complete = λ unset _. shown-nothing (document j v) none;
               goes = λ t outer at r.
                   let x = filled outer v in
                   let d = document i x in
@@ -284,16 +271,15 @@ module _ (level : ℕ) (chunk : List ℕ) (i : Reader) (v : Tree) (h : IsHere le
                   let stands : StandsAt c d t b.state =
                   record { known = b.known; token = none; unset = h.unset; position = r.position } in
                   let g = closes kind comma one miss outer at b.state b.left e.value refl refl refl in
-                  let all : HasReadIn (with_byte c) e t =
-                  reads-apart (with_byte c) e t (closes-noted d e.value c t b.state kind stands g on) hidden-here in
-                  subst (λ n. HasReadIn n e (t ++ slice_range chunk i.at (i.at + 0))) (sym here)
-                  (subst (λ u. HasReadIn (with_byte c) e u)
-                  (sym (ap (λ u. t ++ u) (none-slice chunk i.at) ∙ append-nil t)) all);
+                  subst (λ n. HasTakenIn n e (t ++ slice_range chunk i.at (i.at + 0))) (sym here)
+                  (subst (λ u. HasTakenIn (with_byte c) e u)
+                  (sym (ap (λ u. t ++ u) (none-slice chunk i.at) ∙ append-nil t))
+                  (closes-noted d e.value c t b.state kind stands g on));
               moves =
                   record {
                     within = omega (arith, h.inside);
                     some = inr (omega (arith, h.here, some));
-                    still = (refl, refl, refl);
+                    still = (refl, refl, refl, refl);
                     depth = (omega (arith, h.here, some), omega (arith, h.here));
                     low = omega (arith, h.here, h.low);
                     deeper = λ _. h.unset;
@@ -350,7 +336,7 @@ module _ (level : ℕ) (chunk : List ℕ) (i : Reader) (v : Tree) (h : IsHere le
             by t outer r b.state b.known p.shape p.parts p.all p.whole p.deep (array p.shape p.parts p.whole)
             (begins p.shape p.parts p.whole);
       } where
-        by : (t : List ℕ) (outer : List OpenFrame) → HasReadTo chunk i (filled outer v) t → (s : Arrived)
+        by : (t : List ℕ) (outer : List OpenFrame) → HasTakenTo chunk i (filled outer v) t → (s : Arrived)
             → ReadSoFar (with_byte c) (document i (filled outer v)) t (between_tokens s)
             → (b : ContainerKind) (xs : List (PartTree b)) → s ≡ between_parts i.awaits b xs outer → v ≡ built b xs
             → i.depth ≡ length outer + 1 → b ≡ shape.Array → begins_part b c ≡ true
@@ -399,7 +385,7 @@ module _ (level : ℕ) (chunk : List ℕ) (i : Reader) (v : Tree) (h : IsHere le
             let first = begins p.shape p.parts p.whole in
             eqb-true c ascii.quote (subst (λ b. begins_part b c ≡ true) (object p.shape p.parts p.whole) first)
 
-        by : (t : List ℕ) (outer : List OpenFrame) → HasReadTo chunk i (filled outer v) t → (s : Arrived)
+        by : (t : List ℕ) (outer : List OpenFrame) → HasTakenTo chunk i (filled outer v) t → (s : Arrived)
             → ReadSoFar (with_byte c) (document i (filled outer v)) t (between_tokens s)
             → (b : ContainerKind) (xs : List (PartTree b)) → s ≡ between_parts i.awaits b xs outer → v ≡ built b xs
             → i.depth ≡ length outer + 1 → b ≡ shape.Object → begins_part b c ≡ true
@@ -457,14 +443,13 @@ module _ (level : ℕ) (chunk : List ℕ) (i : Reader) (v : Tree) (h : IsHere le
         comma-left b.state h.read.1 b.left after (omega (arith, some, h.here))
 
     pub trailed : (j : Reader) → level ≡ 0 → IsAfter i.awaits → is_blank c ≡ false → IsStill i j
-        → (j.depth ≡ i.depth) × (j.token ≡ i.token) × (j.shown ≡ i.shown)
+        → (j.depth ≡ i.depth) × (j.token ≡ i.token)
         → ((b : ℕ) (t : List ℕ) (x : Tree) (s : Arrived) → StandsAt b (document i x) t s
         → IsLeft (document i x).value s → i.awaits ≡ awaits.Nothing → is_blank b ≡ false
         → HasTakenIn any_bytes (document j x) (t ++ b ∷ []))
         → Steps level chunk i v j v 1
     trailed j root after other still same taken =
-        steps-one level chunk i v j v h.inside (moves-one level chunk i h.here h.low j h.inside still same.0) (same.2 ∙ hidden-here)
-        (λ x unset. shown-nothing (document j x) (same.1 ∙ none))
+        steps-here level chunk i v j v h still same.0
         (λ t outer at r.
         let x = filled outer v in
         let b = here-at chunk i x t h.inside h.unset none r in
@@ -480,26 +465,20 @@ blanks-step level chunk i v h none n some end within =
     let c = slice_index chunk i.at in
     let blank : is_blank c ≡ true = first-blank chunk i.at (omega (arith, end, some)) in
     let next : past_blanks chunk i.at ≡ past_blanks chunk (i.at + 1) = past_blanks-blank chunk i.at h.inside blank in
-    record {
-      goes = λ t outer at r.
-          let x = filled outer v in
-          let d = document i x in
-          let b = here-at chunk i x t h.inside h.unset none r in
-          let one : HasTakenIn any_bytes d (t ++ c ∷ []) =
-          takes-byte d d.value c t b.state b.known none (goes-blank d.value b.state c blank b.left) in
-          let rest : (i.at + 1) + (n - 1) ≡ past_blanks chunk (i.at + 1) = omega (arith, end, next, some) in
-          let more = run-taken d (t ++ c ∷ []) one h.unset none chunk (i.at + 1) (n - 1) rest (omega (arith, h.inside)) in
-          let place : (i.at + 1) + (n - 1) ≡ i.at + n = omega (arith, some) in
-          let bytes : (t ++ c ∷ []) ++ slice_range chunk (i.at + 1) ((i.at + 1) + (n - 1)) ≡ t ++ slice_range chunk i.at (i.at + n) =
-          append_assoc t (c ∷ []) (slice_range chunk (i.at + 1) ((i.at + 1) + (n - 1)))
-          ∙ ap (λ u. t ++ u)
-          (ap (λ m. c ∷ [] ++ slice_range chunk (i.at + 1) m) place
-          ∙ ap (λ u. u ++ slice_range chunk (i.at + 1) (i.at + n)) (sym (one-slice chunk i.at h.inside))
-          ∙ sym (slice_range-split chunk i.at (i.at + 1) (omega arith) (i.at + n) (omega (arith, some)))) in
-          let u = t ++ slice_range chunk i.at (i.at + n) in
-          read-any (ahead i chunk (i.at + n)) d u
-          (reads-apart any_bytes d u (subst (HasTakenIn any_bytes d) bytes more) (hidden-here level chunk i v h none));
-      complete = λ unset _. shown-nothing (document i v) none;
-      moves =
-          moves-here level chunk i h.here h.low i n some within (refl, refl, refl) refl;
-    }
+    steps-run level chunk i v i v h n some within (refl, refl, refl, refl) refl
+    (λ t outer at r.
+    let x = filled outer v in
+    let d = document i x in
+    let b = here-at chunk i x t h.inside h.unset none r in
+    let one : HasTakenIn any_bytes d (t ++ c ∷ []) =
+    takes-byte d d.value c t b.state b.known none (goes-blank d.value b.state c blank b.left) in
+    let rest : (i.at + 1) + (n - 1) ≡ past_blanks chunk (i.at + 1) = omega (arith, end, next, some) in
+    let more = run-taken d (t ++ c ∷ []) one h.unset none chunk (i.at + 1) (n - 1) rest (omega (arith, h.inside)) in
+    let place : (i.at + 1) + (n - 1) ≡ i.at + n = omega (arith, some) in
+    let bytes : (t ++ c ∷ []) ++ slice_range chunk (i.at + 1) ((i.at + 1) + (n - 1)) ≡ t ++ slice_range chunk i.at (i.at + n) =
+    append_assoc t (c ∷ []) (slice_range chunk (i.at + 1) ((i.at + 1) + (n - 1)))
+    ∙ ap (λ u. t ++ u)
+    (ap (λ m. c ∷ [] ++ slice_range chunk (i.at + 1) m) place
+    ∙ ap (λ u. u ++ slice_range chunk (i.at + 1) (i.at + n)) (sym (one-slice chunk i.at h.inside))
+    ∙ sym (slice_range-split chunk i.at (i.at + 1) (omega arith) (i.at + n) (omega (arith, some)))) in
+    subst (HasTakenIn any_bytes d) bytes more)

@@ -25,7 +25,6 @@ use Rattle.jiter_incremental.proofs.Words.{with_byte, with_first, name_start, Op
 use Rattle.jiter_incremental.proofs.Words.{Token, Awaits, Settings}
 use Rattle.jiter_scan.specs.Kind.{trailing_characters}
 use Rattle.jiter_scan.specs.declared.errors.FaultKind.TheVariants as fault_of
-use Rattle.jiter_incremental.specs.Between.{BeginsItem}
 use Rattle.jiter_incremental.specs.Document.{IsAnswered, IsEnded, IsFaulty}
 use Rattle.jiter_incremental.specs.declared.reader.Token.TheVariants as token
 use Rattle.jiter_incremental.specs.declared.reader.Awaits.TheVariants as awaits
@@ -625,7 +624,6 @@ over-takes n m d t w follows (inr h) read = by d.fault refl
     by None unset = over-whole n m d t w h.0 follows unset h.1 h.2 h.3 read
     by (Some f) is = over-fault n m d t w f follows is read
 
--- The bytes that were taken are counted.
 scalar-as : (d new : Document) (k : Token) (w : List ℕ) → new.settings ≡ d.settings → new.name ≡ d.name
     → new.word ≡ d.word → new.number ≡ d.number → new.string ≡ d.string → HoldsScalar d k w → HoldsScalar new k w
 scalar-as d new token.Word w settings names words numbers strings h = (
@@ -669,7 +667,3 @@ moved n d j t h = record {
   known = known-as n d (record d { position = j }) t h.opened (refl, refl, refl) h.known;
   held = λ unset. counted-holding d j t h.opened (h.held unset);
 }
-
-pub counted : (d : Document) (j : ℕ) (t : List ℕ) → HasTakenIn any_bytes d t → j ≡ length t
-    → HasTakenAll (record d { position = j }) t
-counted d j t h is = record { read = moved any_bytes d j t h; position = is }

@@ -1,4 +1,6 @@
 -- The open path of a value that comes in chunks: what is read in a container is read in those that it is in.
+use Rattle.jiter_incremental.proofs.Words.{ReadsAsBefore}
+use Rattle.jiter_incremental.proofs.Settling.{apart-read, reads-apart}
 use Rattle.jiter_incremental.proofs.Words.{◌≡◌, ℕ, ◌+◌, ◌-◌, ◌<◌, ◌≤◌, ◌^◌, Bool, true, false, List, [], ◌∷◌, ◌++◌}
 use Rattle.jiter_incremental.proofs.Words.{length, take, refl, sym, subst, ap, ◌∙◌, arith, length-append, add-one}
 use Rattle.jiter_incremental.proofs.Words.{append_assoc, None, slice_range, append-nil, take_all, slice_get_past}
@@ -12,9 +14,11 @@ use Rattle.jiter_steps.specs.declared.parse.ContainerKind.TheVariants as shape
 use Rattle.jiter_incremental.specs.declared.reader.Awaits.TheVariants as awaits
 use Rattle.jiter_incremental.specs.declared.reader.Token.TheVariants as token
 use Rattle.jiter_incremental.proofs.Chunks.{range-long, take-on}
-use Rattle.jiter_incremental.proofs.Documents.{counted-holding, known-as}
+use Rattle.jiter_incremental.proofs.Documents.{moved}
 use Rattle.jiter_incremental.proofs.Settling.{read-any}
 use Rattle.jiter_incremental.proofs.Slots.{filled-push, last-of, nested-in, part-more}
+use Rattle.jiter_incremental.proofs.Settling.{taken-any}
+use Rattle.jiter_incremental.proofs.Words.{HasTakenIn, HasTakenTo}
 
 -- So many containers are open in a value: the innermost is between two parts.
 pub record OpenTree (depth : ℕ) (v : Tree) : Type 0 where
@@ -32,7 +36,7 @@ open-left v (between_parts a shape.Object ms fs) h some =
     record { frames = fs; innermost = members_frame ms (text_of []); deep = h.2; is = h.3 }
 open-left v (at_end x n) h some = absurd (omega (arith, h.1, some))
 
-open-held : (d : Document) (t : List ℕ) (o : Opened) → HoldsOpened d t o → 0 < d.value.depth → OpenTree d.value.depth d.value.tree
+pub open-held : (d : Document) (t : List ℕ) (o : Opened) → HoldsOpened d t o → 0 < d.value.depth → OpenTree d.value.depth d.value.tree
 open-held d t (between_tokens s) h some = open-left d.value s h.1 some
 open-held d t (in_scalar fs b) h some = open-left d.value (at_value awaits.Value fs) h.3 some
 open-held d t (in_key fs ms b) h some =
@@ -114,7 +118,6 @@ below level chunk i v f x r some deeper is = record {
   low = r.low;
   within = r.within;
   room = r.room;
-  complete = r.complete;
   read = (
     r.read.0,
     f ∷ r.read.1,
@@ -132,7 +135,6 @@ above level chunk i x j y f v w some was is q = record {
   same = q.same;
   depth = omega (arith, q.depth);
   low = q.low;
-  complete = q.complete;
   reads = record {
     goes = λ t outer n r.
         subst (λ u. HasReadTo chunk j (filled outer u) (t ++ take j.at chunk)) (sym is)
@@ -159,7 +161,6 @@ went-then level chunk i v j w k x a b = record {
   same = (b.same.0 ∙ a.same.0, b.same.1 ∙ a.same.1);
   depth = b.depth;
   low = b.low;
-  complete = b.complete;
   reads = record { goes = λ t outer n r. b.reads.goes t outer n (a.reads.goes t outer n r) };
 }
 
@@ -176,7 +177,6 @@ ready-then level chunk i v j w r a deep = record {
   above = deep;
   low = a.low;
   within = a.within;
-  complete = a.complete;
   room = subst (λ b. b + length chunk < 2 ^ 64) (sym a.same.1) r.room;
   read = (r.read.0, r.read.1, r.read.2, a.reads.goes r.read.0 r.read.1 r.read.2 r.read.3);
 }
@@ -188,64 +188,67 @@ went-none level chunk i v r = record {
   same = (refl, refl);
   depth = omega (arith, r.above);
   low = r.low;
-  complete = r.complete;
   reads = record { goes = λ t outer n h. h };
 }
 
--- What was moved does not depend on the position.
-by-moved : (k : Token) (s d : Document) (p : ℕ) → HasMoved k s d.number d.string (token_tree s k)
-    → HasMoved k (record s { position = p }) d.number d.string (token_tree s k)
-by-moved token.Number s d p m = m
-by-moved token.Text s d p m = m
-by-moved token.Nothing s d p m = m
-by-moved token.Word s d p m = m
-by-moved token.Key s d p m = m
+-- What is unfinished is apart,
+pub taken-to : (chunk : List ℕ) (i : Reader) (x : Tree) (t : List ℕ) → i.shown ≡ false → HasReadTo chunk i x t
+    → HasTakenTo chunk i x t
+taken-to chunk i x t hidden r =
+    record { read = apart-read (ahead i chunk i.at) (document i x) t r.read hidden; position = r.position }
 
--- The bytes of a step are counted.
-pub read-counted : (n : Next) (d : Document) (p : ℕ) (t : List ℕ) → HasReadIn n d t
-    → HasReadIn n (record d { position = p }) t
-read-counted n d p t h = record {
-  opened = h.opened;
-  known = known-as n d (record d { position = p }) t h.opened (refl, refl, refl) h.known;
-  held = λ unset.
-      let s = h.held unset in
-      record {
-        apart = record s.apart { position = p };
-        held = counted-holding s.apart p t h.opened s.held;
-        sure = s.sure;
-        same = ap (λ (e : Document). record e { position = p }) s.same;
-        moved = by d.shown s.apart s.moved;
-      };
-} where
-  by : (b : Bool) (s : Document) → IsMoved b s d → IsMoved b (record s { position = p }) (record d { position = p })
-  by true s m = (by-moved s.token s d p m.0, m.1)
-  by false s m = m
+-- and the bytes of a step are counted.
+read-to : (n : Next) (j : Reader) (x : Tree) (p : ℕ) (t : List ℕ) → j.shown ≡ false → HasTakenIn n (document j x) t
+    → HasReadIn n (record (document j x) { position = p }) t
+read-to n j x p t hidden h =
+    let d = document j x in reads-apart n (record d { position = p }) t (moved n d p t h) hidden
 
 pub steps-went : (level : ℕ) (chunk : List ℕ) (i : Reader) (v : Tree) (j : Reader) (w : Tree) (n : ℕ)
-    → Ready level chunk i v → Steps level chunk i v j w n → Advanced level chunk i v (record j { at = j.at + n }) w
-steps-went level chunk i v j w n r s = record {
+    → Ready level chunk i v → i.shown ≡ false → Steps level chunk i v j w n
+    → Advanced level chunk i v (record j { at = j.at + n }) w
+steps-went level chunk i v j w n r hidden s = record {
   after = omega (arith, s.moves.still.2);
   within = omega (arith, s.moves.still.2, s.moves.within);
   same = (s.moves.still.0, s.moves.still.1);
   depth = s.moves.depth.0;
   low = s.moves.low;
-  complete = s.complete;
   reads = record {
     goes = λ t outer at h.
-        let k = record j { at = j.at + n } in
         let x = filled outer w in
         let place : i.at + n ≡ j.at + n = omega (arith, s.moves.still.2) in
         let bytes : (t ++ take i.at chunk) ++ slice_range chunk i.at (i.at + n) ≡ t ++ take (j.at + n) chunk =
         append_assoc t (take i.at chunk) (slice_range chunk i.at (i.at + n))
         ∙ ap (λ u. t ++ u) (take-on chunk i.at n r.within ∙ ap (λ m. take m chunk) place) in
-        let one = s.goes (t ++ take i.at chunk) outer at h in
-        let two = subst (λ m. HasReadIn (ahead j chunk m) (document j x) ((t ++ take i.at chunk) ++ slice_range chunk i.at (i.at + n))) place one in
-        let three = subst (λ u. HasReadIn (ahead j chunk (j.at + n)) (document j x) u) bytes two in
+        let one = s.goes (t ++ take i.at chunk) outer at (taken-to chunk i (filled outer v) (t ++ take i.at chunk) hidden h) in
+        let two = subst (λ m. HasTakenIn (ahead j chunk m) (document j x) ((t ++ take i.at chunk) ++ slice_range chunk i.at (i.at + n))) place one in
+        let three = subst (λ u. HasTakenIn (ahead j chunk (j.at + n)) (document j x) u) bytes two in
         let size = length-append (t ++ take i.at chunk) (slice_range chunk i.at (i.at + n)) in
         let more = range-long chunk i.at n s.moves.within in
         record {
-          read = read-counted (ahead j chunk (j.at + n)) (document j x) (j.base + (j.at + n)) (t ++ take (j.at + n) chunk) three;
+          read = read-to (ahead j chunk (j.at + n)) j x (j.base + (j.at + n)) (t ++ take (j.at + n) chunk) (s.moves.still.3 ∙ hidden) three;
           position = omega (arith, h.position, s.moves.still.1, s.moves.still.2, size, more, ap length bytes);
+        };
+  };
+}
+
+-- Where an allocation failed
+pub stays-went : (level : ℕ) (chunk : List ℕ) (i : Reader) (v : Tree) (j : Reader) (w : Tree) → Ready level chunk i v
+    → i.shown ≡ false → ReadsAsBefore level chunk i v j w → Advanced level chunk i v j w
+stays-went level chunk i v j w r hidden s = record {
+  after = omega (arith, s.still.2);
+  within = omega (arith, s.still.2, r.within);
+  same = (s.still.0, s.still.1);
+  depth = omega (arith, s.depth, r.above);
+  low = omega (arith, s.depth, r.low);
+  reads = record {
+    goes = λ t outer at h.
+        let x = filled outer w in
+        let u = t ++ take i.at chunk in
+        let one = s.goes u outer at (taken-to chunk i (filled outer v) u hidden h) in
+        let read = reads-apart (ahead j chunk j.at) (document j x) u (taken-any (ahead j chunk j.at) (document j x) u one) (s.still.3 ∙ hidden) in
+        record {
+          read = subst (λ m. HasReadIn (ahead j chunk j.at) (document j x) (t ++ take m chunk)) (sym s.still.2) read;
+          position = omega (arith, h.position, s.still.1, s.still.2, ap (λ m. length (t ++ take m chunk)) s.still.2);
         };
   };
 }
@@ -258,7 +261,6 @@ outermost chunk i v j w a = record {
   same = a.same;
   depth = omega arith;
   low = a.low;
-  complete = a.complete;
   reads = record { goes = λ t outer at h. a.reads.goes t outer at h };
 }
 
@@ -266,7 +268,6 @@ pub outermost-ready : (chunk : List ℕ) (i : Reader) (v : Tree) → Ready 0 chu
 outermost-ready chunk i v r some = record {
   above = omega (arith, some);
   low = r.low;
-  complete = r.complete;
   within = r.within;
   room = r.room;
   read = (r.read.0, r.read.1, r.read.2, r.read.3);
@@ -288,27 +289,10 @@ pub ready-start : (chunk : List ℕ) (i : Reader) (v : Tree) (t : List ℕ) → 
 ready-start chunk i v t h start low room = record {
   above = omega arith;
   low = low;
-  complete = h.full;
   within = omega (arith, start);
   room = room;
   read = (t, [], refl, chunk-begun chunk i v t h start);
 }
-
--- The bytes that were taken are counted.
-pub counted-to : (chunk : List ℕ) (i j : Reader) (x : Tree) (t : List ℕ) (n : ℕ) → i.at ≤ length chunk
-    → i.at + n ≤ length chunk → j.base ≡ i.base → j.at ≡ i.at → i.base + i.at ≡ length (t ++ take i.at chunk)
-    → HasReadIn (ahead j chunk (i.at + n)) (document j x) ((t ++ take i.at chunk) ++ slice_range chunk i.at (i.at + n))
-    → HasReadTo chunk (record j { at = i.at + n }) x (t ++ take (i.at + n) chunk)
-counted-to chunk i j x t n below within base at place h =
-    let bytes : (t ++ take i.at chunk) ++ slice_range chunk i.at (i.at + n) ≡ t ++ take (i.at + n) chunk =
-    append_assoc t (take i.at chunk) (slice_range chunk i.at (i.at + n)) ∙ ap (λ u. t ++ u) (take-on chunk i.at n below) in
-    let one = subst (λ u. HasReadIn (ahead j chunk (i.at + n)) (document j x) u) bytes h in
-    let size = length-append (t ++ take i.at chunk) (slice_range chunk i.at (i.at + n)) in
-    let more = range-long chunk i.at n within in
-    record {
-      read = read-counted (ahead j chunk (i.at + n)) (document j x) (j.base + (i.at + n)) (t ++ take (i.at + n) chunk) one;
-      position = omega (arith, place, base, size, more, ap length bytes);
-    }
 
 -- What was read to the end of a chunk, or to where an allocation failed, has arrived.
 pub arrived-free : (chunk : List ℕ) (j : Reader) (w : Tree) (t : List ℕ) → ahead j chunk j.at ≡ any_bytes → IsComplete j

@@ -4,7 +4,6 @@ pub mod Arrivals
 pub mod Between
 pub mod Chunks
 pub mod Documents
-pub mod GrownTexts
 pub mod Innermost
 pub mod Leading
 pub mod LinePlaces

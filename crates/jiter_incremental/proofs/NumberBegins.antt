@@ -3,9 +3,9 @@ use Rattle.jiter_incremental.proofs.Words.{◌≡◌, ℕ, ◌+◌, ◌-◌, ◌
 use Rattle.jiter_incremental.proofs.Words.{sym, subst, ◌==◌, Bool, arith, eqb-true, slice_index, slice_range, Vec}
 use Rattle.jiter_incremental.proofs.Words.{Global, CowStr, Number, HoldsNumber, begins_decimal, PartialNumber, is_blank}
 use Rattle.jiter_incremental.proofs.Words.{start_of, number_tree, text_view, Tree, owned_text, tree_as, BeginsHere}
-use Rattle.jiter_incremental.proofs.Words.{HasReadIn, HasTakenIn, NameBegins, any_bytes, between_tokens, in_scalar}
-use Rattle.jiter_incremental.proofs.Words.{with_byte, AwaitsValue, AsRead, IsAt, IsComplete, IsHere, MovesBy, ReadsAsBefore}
-use Rattle.jiter_incremental.proofs.Words.{Steps, after_level, ahead, document, refused, with_shown, AwaitsPart}
+use Rattle.jiter_incremental.proofs.Words.{HasTakenIn, NameBegins, any_bytes, between_tokens, in_scalar}
+use Rattle.jiter_incremental.proofs.Words.{with_byte, AwaitsValue, IsAt, IsHere, ReadsAsBefore}
+use Rattle.jiter_incremental.proofs.Words.{Steps, after_level, ahead, document, refused, AwaitsPart}
 use Rattle.jiter_incremental.proofs.Words.{IsContainer, IsPut, OpenFrame, begun, filled, JsonValue, out-JsonValue, WordValue}
 use Rattle.jiter_incremental.proofs.Words.{Reader}
 use Rattle.jiter_scan.specs.NumberWithin.{EndsWithin}
@@ -15,14 +15,13 @@ use Rattle.jiter_incremental.specs.Slot.{HasRoomAt, IsRoomy}
 use Rattle.jiter_incremental.specs.declared.names.WordValue.TheVariants as name
 use Rattle.jiter_incremental.specs.declared.reader.Awaits.TheVariants as awaits
 use Rattle.jiter_incremental.specs.declared.reader.Token.TheVariants as token
-use Rattle.jiter_incremental.proofs.Arms.{hidden-here, turned}
+use Rattle.jiter_incremental.proofs.Arms.{turned}
 use Rattle.jiter_incremental.proofs.Documents.{follows-byte, known-as, refuses, taken-between}
 use Rattle.jiter_incremental.proofs.Documents.Tokens.{decimal-starts, infinity-begins, infinity-first, name-denied}
 use Rattle.jiter_incremental.proofs.Documents.Tokens.{nan-begins, number-begins, range-first}
 use Rattle.jiter_incremental.proofs.Placing.{begins-there, number-put}
-use Rattle.jiter_incremental.proofs.Settling.{apart-read, moves-here, moves-one, reads-apart, shown-nothing, steps-one}
 use Rattle.jiter_incremental.proofs.Slots.{filled-same}
-use Rattle.jiter_incremental.proofs.Showing.{shown-steps}
+use Rattle.jiter_incremental.proofs.Settling.{steps-here, steps-run}
 
 -- The byte begins the one name or the other.
 pub name-of : (c : ℕ) → start_of c ≡ start.Number → begins_decimal c ≡ false → (k : WordValue) × NameBegins k c
@@ -48,21 +47,16 @@ module _ (level : ℕ) (chunk : List ℕ) (i : Reader) (v : Tree) (h : IsHere le
               let x = filled outer v in
               let d = document i x in
               let e = document j x in
-              let hidden = hidden-here level chunk i v h none in
-              let read : HasReadIn any_bytes d t = subst (λ m. HasReadIn m d t) free r.read in
-              let b = taken-between any_bytes d t (apart-read any_bytes d t read hidden) h.unset none in
+              let b = taken-between any_bytes d t (subst (λ m. HasTakenIn m d t) free r.read) h.unset none in
               let o = between_tokens b.state in
-              let all : HasTakenIn any_bytes e t =
               record {
                 opened = o;
                 known = known-as any_bytes d e t o (refl, refl, refl) b.known;
                 held = λ unset. (none, b.left);
-              } in
-              reads-apart any_bytes e t all hidden;
+              };
           free = free;
-          still = (refl, refl, refl);
+          still = (refl, refl, refl, refl);
           depth = refl;
-          complete = λ unset _. shown-nothing (document j v) none;
         }
 
     module _ (awaited : AwaitsValue level chunk i v) (other : is_blank c ≡ false) (low : level ≤ 200) where
@@ -72,8 +66,7 @@ module _ (level : ℕ) (chunk : List ℕ) (i : Reader) (v : Tree) (h : IsHere le
       name-refused k begins off =
           let kind = fault_of.ExpectedSomeValue in
           let j = refused i kind (i.base + i.at) in
-          steps-one level chunk i v j v h.inside (moves-one level chunk i h.here h.low j h.inside (refl, refl, refl) refl) (hidden-here level chunk i v h none)
-          (λ x unset. shown-nothing (document j x) none)
+          steps-here level chunk i v j v h (refl, refl, refl, refl) refl
           (λ t outer at r.
           let d = document i (filled outer v) in
           let b = begins-there level chunk i v h none awaited other low t outer at r in
@@ -95,28 +88,18 @@ module _ (level : ℕ) (chunk : List ℕ) (i : Reader) (v : Tree) (h : IsHere le
 
         -- Else its bytes are kept.
         pub number-kept : (n : PartialNumber) (e : ℕ) → i.at < e → e ≤ length chunk
-            → HoldsNumber n (slice_range chunk i.at e) → (j : Reader) (w : Tree)
-            → AsRead level (record i {
+            → HoldsNumber n (slice_range chunk i.at e)
+            → Steps level chunk i v (record i {
               begin = i.base + i.at;
               token = token.Number;
               awaits = awaits.Value;
               number = n;
-            }) v j w
-            → IsComplete j
-            → j ≡ with_shown (record i {
-              begin = i.base + i.at;
-              token = token.Number;
-              awaits = awaits.Value;
-              number = n;
-            }) j.shown j.number j.string j.key
-            → Steps level chunk i v j w (e - i.at)
-        number-kept n e some within held j w shows full same =
+            }) v (e - i.at)
+        number-kept n e some within held =
             let k = record i { begin = i.base + i.at; token = token.Number; awaits = awaits.Value; number = n } in
             let end : i.at + (e - i.at) ≡ e = omega (arith, some) in
-            let moves : MovesBy level chunk i k (e - i.at) =
-            moves-here level chunk i h.here h.low k (e - i.at) (omega (arith, some)) (omega (arith, end, within))
-            (refl, refl, refl) refl in
-            shown-steps level chunk i v k v j w (e - i.at) moves shows full same (hidden-here level chunk i v h none)
+            steps-run level chunk i v k v h (e - i.at) (omega (arith, some)) (omega (arith, end, within))
+            (refl, refl, refl, refl) refl
             (λ t outer at r.
             let d = document i (filled outer v) in
             let new = document k (filled outer v) in

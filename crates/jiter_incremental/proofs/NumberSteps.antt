@@ -1,12 +1,14 @@
 -- A number that a chunk cut goes on, ends or is refused, in an open container whatever that is in.
+use Rattle.jiter_incremental.proofs.Documents.Tokens.{number-ends}
+use Rattle.jiter_incremental.proofs.Documents.Names.{name-refused}
 use Rattle.jiter_incremental.proofs.Words.{◌≡◌, ◌⊎◌, ℕ, ◌+◌, ◌<◌, ◌≤◌, Bool, true, false, List, [], ◌∷◌, ◌++◌, length}
 use Rattle.jiter_incremental.proofs.Words.{refl, sym, subst, ap, ◌∙◌, append-nil, arith, inl, inr, Result, Ok, Err}
 use Rattle.jiter_incremental.proofs.Words.{IfOk, OnErr, slice_index, slice_range, string_bytes, Global, CowStr}
-use Rattle.jiter_incremental.proofs.Words.{none-some, fault_kind, is_forgiven, HoldsNumber, IsBegun, StepsTo, number_by}
+use Rattle.jiter_incremental.proofs.Words.{fault_kind, is_forgiven, HoldsNumber, StepsTo, number_by}
 use Rattle.jiter_incremental.proofs.Words.{failed, FaultKind, PartialNumber, PartialWord, is_blank, text_view, Tree}
-use Rattle.jiter_incremental.proofs.Words.{HasTakenAll, HasReadIn, HasTakenIn, IsReadAs, any_bytes, in_scalar, own_number}
-use Rattle.jiter_incremental.proofs.Words.{with_byte, name_word, AsRead, HasReadTo, IsAt, IsComplete, IsHere, ReadsAsBefore}
-use Rattle.jiter_incremental.proofs.Words.{Steps, after_level, ahead, ahead_as, document, refused, with_shown, IsPut}
+use Rattle.jiter_incremental.proofs.Words.{HasTakenAll, HasTakenIn, IsReadAs, any_bytes, in_scalar, own_number}
+use Rattle.jiter_incremental.proofs.Words.{with_byte, name_word, HasTakenTo, IsAt, IsHere, ReadsAsBefore}
+use Rattle.jiter_incremental.proofs.Words.{Steps, after_level, ahead, ahead_as, document, refused, IsPut}
 use Rattle.jiter_incremental.proofs.Words.{OpenFrame, filled, Reader}
 use Rattle.jiter_scan.specs.PartialNumber.{Fits}
 use Rattle.jiter_scan.specs.declared.errors.FaultKind.TheVariants as fault_of
@@ -17,34 +19,22 @@ use Rattle.jiter_incremental.specs.declared.reader.Token.TheVariants as token
 use Rattle.jiter_incremental.proofs.Arms.{byte-taken}
 use Rattle.jiter_incremental.proofs.Between.{goes-blank, put-left, scalar-read}
 use Rattle.jiter_incremental.proofs.Documents.{puts, refuses}
-use Rattle.jiter_incremental.proofs.Documents.Names.{minus-alone, name-refused, name-taken}
-use Rattle.jiter_incremental.proofs.Documents.Tokens.{number-ends, number-known, number-minus, number-open, number-refused, number-stays, number-takes}
+use Rattle.jiter_incremental.proofs.Documents.Names.{minus-alone, name-taken}
+use Rattle.jiter_incremental.proofs.Documents.Tokens.{number-known, number-minus, number-open, number-refused, number-stays, number-takes}
 use Rattle.jiter_incremental.proofs.Placing.{depth-of, put-there}
-use Rattle.jiter_incremental.proofs.Settling.{ahead-level, apart-read, moves-from, moves-here, moves-one, reads-apart, shown-word, steps-one}
-use Rattle.jiter_incremental.proofs.Showing.{shown-steps}
+use Rattle.jiter_incremental.proofs.Settling.{ahead-level, moves-from}
+use Rattle.jiter_incremental.proofs.Settling.{steps-here, steps-run}
 
 -- Nothing is known of the byte after a number that is unfinished.
 pub ahead-number : (r : Reader) (chunk : List ℕ) (n : ℕ) → r.token ≡ token.Number → ahead r chunk n ≡ any_bytes
 ahead-number r chunk n is = ap (λ k. ahead_as k r.awaits chunk n) is
 
--- What was kept begins a number.
-pub begun-more : {E : Type 0} (old new : PartialNumber) (w : List ℕ) (f : ℕ → List ℕ) (r : Result ℕ E)
-    → HoldsNumber old w → IfOk r (λ n. (u : List ℕ) → HoldsNumber old u → HoldsNumber new (u ++ f n))
-    → OnErr r ((string_bytes new.text ≡ string_bytes old.text) × (new.stage ≡ old.stage))
-    → IsBegun (string_bytes new.text) new.stage
-begun-more old new w f (Ok n) h held refused =
-    let x = held w h in subst (λ u. IsBegun u new.stage) (sym x.text) x.begun
-begun-more old new w f (Err e) h held refused =
-    subst (λ s. IsBegun (string_bytes new.text) s) (sym refused.1)
-    (subst (λ u. IsBegun u old.stage) (sym (refused.0 ∙ h.text)) h.begun)
-
--- A number is unfinished, and apart.
-module _ (level : ℕ) (chunk : List ℕ) (i : Reader) (v : Tree) (h : IsHere level chunk i v) (hidden : i.shown ≡ false) where
+-- A number is unfinished.
+module _ (level : ℕ) (chunk : List ℕ) (i : Reader) (v : Tree) (h : IsHere level chunk i v) where
   module _ (is : i.token ≡ token.Number) where
-    come-here : (x : Tree) (t : List ℕ) → HasReadTo chunk i x t → HasTakenAll (document i x) t
+    come-here : (x : Tree) (t : List ℕ) → HasTakenTo chunk i x t → HasTakenAll (document i x) t
     come-here x t r = record {
-      read = apart-read any_bytes (document i x) t
-          (subst (λ n. HasReadIn n (document i x) t) (ahead-number i chunk i.at is) r.read) hidden;
+      read = subst (λ n. HasTakenIn n (document i x) t) (ahead-number i chunk i.at is) r.read;
       position = r.position;
     }
 
@@ -55,7 +45,7 @@ module _ (level : ℕ) (chunk : List ℕ) (i : Reader) (v : Tree) (h : IsHere le
         → Steps level chunk i v (refused i kind at) v 1
     number-wrong kind w at bad leads fails =
         let j = refused i kind at in
-        steps-one level chunk i v j v h.inside (moves-one level chunk i h.here h.low j h.inside (refl, refl, refl) refl) hidden (λ x none. absurd (none-some _ (sym none)))
+        steps-here level chunk i v j v h (refl, refl, refl, refl) refl
         (λ t outer place r.
         let d = document i (filled outer v) in
         let c = slice_index chunk i.at in
@@ -71,7 +61,7 @@ module _ (level : ℕ) (chunk : List ℕ) (i : Reader) (v : Tree) (h : IsHere le
           → Steps level chunk i v (record i { token = token.Word; name = name.MinusInfinity; word = o }) v 1
       name-begins o word one allowed =
           let j = record i { token = token.Word; name = name.MinusInfinity; word = o } in
-          steps-one level chunk i v j v h.inside (moves-one level chunk i h.here h.low j h.inside (refl, refl, refl) refl) hidden (λ x none. shown-word (document j x) refl)
+          steps-here level chunk i v j v h (refl, refl, refl, refl) refl
           (λ t outer place r.
           let d = document i (filled outer v) in
           let e = document j (filled outer v) in
@@ -86,7 +76,7 @@ module _ (level : ℕ) (chunk : List ℕ) (i : Reader) (v : Tree) (h : IsHere le
       name-wrong off =
           let at = i.base + i.at in
           let j = refused i fault_of.InvalidNumber at in
-          steps-one level chunk i v j v h.inside (moves-one level chunk i h.here h.low j h.inside (refl, refl, refl) refl) hidden (λ x none. absurd (none-some _ (sym none)))
+          steps-here level chunk i v j v h (refl, refl, refl, refl) refl
           (λ t outer place r.
           let d = document i (filled outer v) in
           let e = document j (filled outer v) in
@@ -102,8 +92,8 @@ module _ (level : ℕ) (chunk : List ℕ) (i : Reader) (v : Tree) (h : IsHere le
 
     module _ (leads : StepsTo i.number.stage (slice_index chunk i.at) went.Over) (n : PartialNumber) (k : CowStr Global)
         (w : Tree) (put : IsPut level v (text_view i.key) (own_number (string_bytes i.number.text)) w) where
-      read-ended : (t : List ℕ) (outer : List OpenFrame) → IsAt level outer → HasReadTo chunk i (filled outer v) t
-          → HasReadTo chunk (ended n k) (filled outer w) t
+      read-ended : (t : List ℕ) (outer : List OpenFrame) → IsAt level outer → HasTakenTo chunk i (filled outer v) t
+          → HasTakenTo chunk (ended n k) (filled outer w) t
       read-ended t outer at r =
           let d = document i (filled outer v) in
           let c = slice_index chunk i.at in
@@ -123,7 +113,7 @@ module _ (level : ℕ) (chunk : List ℕ) (i : Reader) (v : Tree) (h : IsHere le
           let next : ahead (ended n k) chunk i.at ≡ with_byte c =
           ahead-level token.Nothing (after_level level) level chunk i.at refl refl h.inside in
           record {
-            read = subst (λ m. HasReadIn m e t) (sym next) (reads-apart (with_byte c) e t one hidden);
+            read = subst (λ m. HasTakenIn m e t) (sym next) one;
             position = r.position;
           }
 
@@ -142,8 +132,7 @@ module _ (level : ℕ) (chunk : List ℕ) (i : Reader) (v : Tree) (h : IsHere le
           → Steps level chunk i v j x m
       ended-then j x m s = record {
         goes = λ t outer at r. s.goes t outer at (read-ended t outer at r);
-        moves = moves-from level chunk i (ended n k) j m (refl, refl, refl) s.moves;
-        complete = s.complete;
+        moves = moves-from level chunk i (ended n k) j m (refl, refl, refl, refl) s.moves;
       }
 
       -- or whitespace.
@@ -160,47 +149,28 @@ pub invalid-only : (w : NumberStep) → (w ≡ went.Invalid) ⊎ (w ≡ went.Too
 invalid-only w (inl is) other = is
 invalid-only w (inr is) other = absurd (other is)
 
--- A number goes on, and is moved into the value so far again if it is one.
-module _ (level : ℕ) (chunk : List ℕ) (i : Reader) (v : Tree) (h : IsHere level chunk i v) (hidden : i.shown ≡ false)
-    (is : i.token ≡ token.Number) where
-  pub number-held : (w : List ℕ) × HoldsNumber i.number w
-  number-held =
-      let r = h.read in
-      let d = document i (filled r.1 v) in
-      let x = number-open d r.0 (come-here level chunk i v h hidden is (filled r.1 v) r.0 r.3) h.unset is in
-      (x.bytes, x.held.0)
+-- A number goes on.
+module _ (level : ℕ) (chunk : List ℕ) (i : Reader) (v : Tree) (h : IsHere level chunk i v) (is : i.token ≡ token.Number)
+    (m : PartialNumber) where
+  pub number-steps : {E : Type 0} (r : Result ℕ E) → IfOk r (λ n. (0 < n) × (i.at + n ≤ length chunk))
+      → IfOk r (λ n. (u : List ℕ) → HoldsNumber i.number u → HoldsNumber m (u ++ slice_range chunk i.at (i.at + n)))
+      → IfOk r (λ n. Steps level chunk i v (record i { number = m }) v n)
+  number-steps (Ok n) part held =
+      steps-run level chunk i v (record i { number = m }) v h n part.0 part.1 (refl, refl, refl, refl) refl
+      (λ t outer at r.
+      number-takes (document i (filled outer v)) m t (slice_range chunk i.at (i.at + n))
+      (come-here level chunk i v h is (filled outer v) t r) h.unset is held)
+  number-steps (Err e) part held = tt
 
-  module _ (m : PartialNumber) (k : Reader) (x : Tree) (read : AsRead level (record i { number = m }) v k x)
-      (full : IsComplete k) (same : k ≡ with_shown (record i { number = m }) k.shown k.number k.string k.key) where
-    pub number-steps : {E : Type 0} (r : Result ℕ E) → IfOk r (λ n. (0 < n) × (i.at + n ≤ length chunk))
-        → IfOk r (λ n. (u : List ℕ) → HoldsNumber i.number u → HoldsNumber m (u ++ slice_range chunk i.at (i.at + n)))
-        → IfOk r (λ n. Steps level chunk i v k x n)
-    number-steps (Ok n) part held =
-        let j = record i { number = m } in
-        shown-steps level chunk i v j v k x n
-        (moves-here level chunk i h.here h.low j n part.0 part.1 (refl, refl, refl) refl) read full same hidden
-        (λ t outer at r.
-        let d = document i (filled outer v) in
-        number-takes d m t (slice_range chunk i.at (i.at + n))
-        (come-here level chunk i v h hidden is (filled outer v) t r) h.unset is held)
-    number-steps (Err e) part held = tt
-
-    pub number-kept : {E : Type 0} (r : Result ℕ E)
-        → OnErr r ((string_bytes m.text ≡ string_bytes i.number.text) × (m.stage ≡ i.number.stage))
-        → OnErr r (ReadsAsBefore level chunk i v k x)
-    number-kept (Ok n) refused = tt
-    number-kept (Err e) refused = record {
-      goes = λ t outer at r.
-          let d = document i (filled outer v) in
-          let more = number-stays d m t (come-here level chunk i v h hidden is (filled outer v) t r) h.unset is
-          refused.0 refused.1 in
-          read.goes any_bytes t outer at (reads-apart any_bytes (document (record i { number = m }) (filled outer v)) t more.read hidden);
-      free = ahead-number k chunk i.at (ap (λ (r : Reader). r.token) same ∙ is);
-      still = (
-        ap (λ (r : Reader). r.settings) same,
-        ap (λ (r : Reader). r.base) same,
-        ap (λ (r : Reader). r.at) same,
-      );
-      depth = ap (λ (r : Reader). r.depth) same;
-      complete = full;
-    }
+  pub number-kept : {E : Type 0} (r : Result ℕ E)
+      → OnErr r ((string_bytes m.text ≡ string_bytes i.number.text) × (m.stage ≡ i.number.stage))
+      → OnErr r (ReadsAsBefore level chunk i v (record i { number = m }) v)
+  number-kept (Ok n) refused = tt
+  number-kept (Err e) refused = record {
+    goes = λ t outer at r.
+        (number-stays (document i (filled outer v)) m t (come-here level chunk i v h is (filled outer v) t r) h.unset is
+        refused.0 refused.1).read;
+    free = ahead-number i chunk i.at is;
+    still = (refl, refl, refl, refl);
+    depth = refl;
+  }

@@ -1,36 +1,24 @@
 -- A document that is over takes whatever comes.
-use Rattle.jiter_incremental.proofs.Words.{◌≡◌, ℕ, ◌+◌, ◌-◌, ◌<◌, ◌≤◌, false, List, ◌∷◌, [], ◌++◌, length, take, refl}
-use Rattle.jiter_incremental.proofs.Words.{sym, subst, ap, ◌∙◌, arith, inl, inr, slice_get, slice_index, slice_range}
-use Rattle.jiter_incremental.proofs.Words.{Option, None, Some, Result, Ok, Err, IfOk, OnErr, is_blank, none-some}
+use Rattle.jiter_incremental.proofs.Words.{Option}
+use Rattle.jiter_incremental.proofs.Words.{is_some, true, false≢true}
+use Rattle.jiter_incremental.proofs.Words.{inr}
+use Rattle.jiter_incremental.proofs.Words.{HasArrived, IsScalar, any_bytes, length-append}
+use Rattle.jiter_incremental.proofs.Documents.{known-as}
+use Rattle.jiter_incremental.proofs.Settling.{calm_nothing}
+use Rattle.jiter_incremental.proofs.Words.{◌≡◌, ℕ, ◌+◌, ◌-◌, ◌<◌, false, List, ◌∷◌, [], ◌++◌, length, take, refl}
+use Rattle.jiter_incremental.proofs.Words.{sym, subst, ap, ◌∙◌, arith, inl, slice_get, slice_index, slice_range}
+use Rattle.jiter_incremental.proofs.Words.{None, Some, Result, Ok, Err, IfOk, OnErr, is_blank, none-some}
 use Rattle.jiter_incremental.proofs.Words.{slice_get-get_or, slice_range-split, Fault, Tree, Document, Follows}
 use Rattle.jiter_incremental.proofs.Words.{HasReadIn, HasTakenIn, IsOver, MayRefuseAt, Next, HasReadTo, IsAt}
-use Rattle.jiter_incremental.proofs.Words.{IsComplete, Ready, Refuses, ReadsAsBefore, Steps, Advanced, ahead, ahead_as, document}
+use Rattle.jiter_incremental.proofs.Words.{Ready, Refuses, ReadsAsBefore, Steps, ahead, ahead_as, document}
 use Rattle.jiter_incremental.proofs.Words.{next_of, OpenFrame, filled, Awaits, Reader, Token}
 use Rattle.jiter_incremental.specs.declared.reader.Awaits.TheVariants as awaits
 use Rattle.jiter_incremental.specs.declared.reader.Token.TheVariants as token
-use Rattle.jiter_incremental.proofs.Arms.{hidden-nothing}
 use Rattle.jiter_incremental.proofs.Documents.{over-takes}
-use Rattle.jiter_incremental.proofs.Leading.{counted-to}
 use Rattle.jiter_incremental.proofs.Documents.Blanks.{held-byte, refuse-after, refuse-here, refuse-inside}
-use Rattle.jiter_incremental.proofs.Settling.{apart-read, one-slice, reads-apart}
-
-over-reads : (n m : Next) (d : Document) (t w : List ℕ) → Follows n w m → IsOver d → HasReadIn n d t
-    → HasReadIn m d (t ++ w)
-over-reads n m d t w follows over h = by d.fault refl where
-  by : (x : Option Fault) → d.fault ≡ x → HasReadIn m d (t ++ w)
-  by (Some f) is =
-      let never : d.fault ≡ None → ⊥ = λ unset. none-some f (sym unset ∙ is) in
-      let taken : HasTakenIn n d t =
-      record { opened = h.opened; known = h.known; held = λ unset. absurd (never unset) } in
-      let more = over-takes n m d t w follows over taken in
-      record { opened = more.opened; known = more.known; held = λ unset. absurd (never unset) }
-  by None unset = whole over where
-    whole : IsOver d → HasReadIn m d (t ++ w)
-    whole (inl f) = absurd (none-some f.0 (sym unset ∙ f.1))
-    whole (inr f) =
-        let hidden = hidden-nothing n d t h unset f.2 in
-        let more = over-takes n m d t w follows over (apart-read n d t h hidden) in
-        reads-apart m d (t ++ w) more hidden
+use Rattle.jiter_incremental.proofs.Settling.{one-slice}
+use Rattle.jiter_incremental.proofs.Words.{IsHere}
+use Rattle.jiter_incremental.proofs.Leading.{taken-to}
 
 -- What is known to come next follows what was taken.
 follows-next : (chunk : List ℕ) (i : ℕ) (m : Next) → i < length chunk
@@ -50,6 +38,7 @@ follows-ahead token.Nothing awaits.Comma chunk i m within = follows-next chunk i
 follows-ahead token.Nothing awaits.Nothing chunk i m within = follows-next chunk i m within
 follows-ahead k a chunk i m within = λ u comes. tt
 
+-- It takes all of the chunk.
 pub over-step : (level : ℕ) (chunk : List ℕ) (i : Reader) (v : Tree) → Ready level chunk i v → i.depth ≡ level
     → i.at < length chunk → ((x : Tree) → IsOver (document i x)) → Steps level chunk i v i v (length chunk - i.at)
 over-step level chunk i v r here inside over =
@@ -58,19 +47,32 @@ over-step level chunk i v r here inside over =
       goes = λ t outer at h.
           let d = document i (filled outer v) in
           let m = ahead i chunk (length chunk) in
-          subst (λ e. HasReadIn (ahead i chunk e) d (t ++ slice_range chunk i.at e)) end
-          (over-reads (ahead i chunk i.at) m d t (slice_range chunk i.at (length chunk))
+          subst (λ e. HasTakenIn (ahead i chunk e) d (t ++ slice_range chunk i.at e)) end
+          (over-takes (ahead i chunk i.at) m d t (slice_range chunk i.at (length chunk))
           (follows-ahead i.token i.awaits chunk i.at m inside) (over (filled outer v)) h.read);
-      complete = r.complete;
       moves =
           record {
             within = omega (arith, end);
             some = inl (omega (arith, inside));
-            still = (refl, refl, refl);
+            still = (refl, refl, refl, refl);
             depth = (omega (arith, here), omega (arith, here));
             low = r.low;
             deeper = λ more. absurd (omega (arith, here, more));
           };
+    }
+
+-- A step begins in the innermost container, where what is unfinished is apart.
+pub here-of : (level : ℕ) (chunk : List ℕ) (i : Reader) (v : Tree) → Ready level chunk i v → i.depth ≡ level
+    → i.shown ≡ false → i.at < length chunk → i.fault ≡ None → IsHere level chunk i v
+here-of level chunk i v r here hidden inside unset =
+    let u = r.read.0 ++ take i.at chunk in
+    record {
+      here = here;
+      low = omega (arith, here, r.low);
+      inside = inside;
+      room = r.room;
+      unset = unset;
+      read = (u, r.read.1, r.read.2, taken-to chunk i (filled r.read.1 v) u hidden r.read.3);
     }
 
 -- Where an allocation fails the byte is not whitespace, or one came before.
@@ -115,29 +117,44 @@ module _ (level : ℕ) (chunk : List ℕ) (i : Reader) (v : Tree) (j : Reader) (
   opened-so (Ok n) here steps stays more = steps.moves.deeper more
   opened-so (Err e) here steps stays more = absurd (omega (arith, here, stays.depth, more))
 
--- A reader that is over takes the rest of the chunk.
-pub over-went : (chunk : List ℕ) (i : Reader) (v : Tree) → IsComplete i → i.at < length chunk → i.depth ≤ 201
-    → ((x : Tree) → IsOver (document i x)) → Advanced 0 chunk i v (record i { at = length chunk }) v
-over-went chunk i v full inside low over =
-    let n = length chunk - i.at in
-    let end : i.at + n ≡ length chunk = omega (arith, inside) in
+-- An allocation for it fails before a chunk.
+pub refuses-scalar : (level : ℕ) (chunk : List ℕ) (i : Reader) (v : Tree) → i.at < length chunk → i.fault ≡ None
+    → IsScalar i.token → Refuses level chunk i v i
+refuses-scalar level chunk i v inside unset is = record {
+  goes = λ t outer at h.
+      refuse-inside t chunk i.at (i.base + i.at) inside h.position
+      (refuse-read (ahead i chunk i.at) (document i (filled outer v)) (t ++ take i.at chunk) (slice_index chunk i.at) h.read
+      unset (λ none. calm_nothing i.token none is));
+  free = by is;
+} where
+  by : IsScalar i.token → ahead i chunk i.at ≡ any_bytes
+  by (inl k) = ap (λ x. ahead_as x i.awaits chunk i.at) k
+  by (inr k) = ap (λ x. ahead_as x i.awaits chunk i.at) k
+
+some-found : (x : Option Fault) → is_some x ≡ true → (f : Fault) × (x ≡ Some f)
+some-found (Some f) is = (f, refl)
+some-found None is = absurd (false≢true is)
+
+-- A chunk after an error is taken.
+pub fault-arrived : (chunk : List ℕ) (i : Reader) (v : Tree) (t : List ℕ) → is_some i.fault ≡ true → i.at ≡ 0
+    → HasArrived (document i v) t → HasArrived (document (record i { at = length chunk }) v) (t ++ chunk)
+fault-arrived chunk i v t some start h =
+    let found = some-found i.fault some in
+    let f = found.0 in
+    let is : i.fault ≡ Some f = found.1 in
+    let d = document i v in
+    let e = document (record i { at = length chunk }) v in
+    let never : i.fault ≡ None → ⊥ = λ unset. none-some f (sym unset ∙ is) in
+    let taken : HasTakenIn any_bytes d t =
+    record { opened = h.read.opened; known = h.read.known; held = λ unset. absurd (never unset) } in
+    let more = over-takes any_bytes any_bytes d t chunk (λ u c. tt) (inl (f, is)) taken in
     record {
-      after = omega (arith, inside);
-      within = omega arith;
-      same = (refl, refl);
-      depth = omega arith;
-      low = low;
-      complete = full;
-      reads = record {
-        goes = λ t outer at h.
-            let x = filled outer v in
-            let d = document i x in
-            let m = ahead i chunk (length chunk) in
-            let read = over-reads (ahead i chunk i.at) m d (t ++ take i.at chunk) (slice_range chunk i.at (length chunk))
-            (follows-ahead i.token i.awaits chunk i.at m inside) (over x) h.read in
-            let there = subst (λ e. HasReadIn (ahead i chunk e) d ((t ++ take i.at chunk) ++ slice_range chunk i.at e))
-            (sym end) read in
-            subst (λ e. HasReadTo chunk (record i { at = e }) x (t ++ take e chunk)) end
-            (counted-to chunk i i x t n (omega (arith, inside)) (omega (arith, end)) refl refl h.position there);
-      };
+      read =
+          record {
+            opened = more.opened;
+            known = known-as any_bytes d e (t ++ chunk) more.opened (refl, refl, refl) more.known;
+            held = λ unset. absurd (never unset);
+          };
+      position = omega (arith, h.position, start, length-append t chunk);
+      full = λ unset. absurd (never unset);
     }

@@ -4,22 +4,24 @@ use Rattle.jiter_incremental.proofs.Words.{subst, ap, ◌∙◌, add-one, arith,
 use Rattle.jiter_incremental.proofs.Words.{CowStr, fault_kind, FaultKind, is_blank, items_frame, members_frame}
 use Rattle.jiter_incremental.proofs.Words.{start_of, fault, opening, text_view, Text, Tree, ContainerKind, at_value}
 use Rattle.jiter_incremental.proofs.Words.{between_parts, Everywhere, TakesByte, completed, BeginsHere, Follows}
-use Rattle.jiter_incremental.proofs.Words.{HasReadIn, IsAllowed, IsNumberWithin, IsScalarWithin, StandsAt, WordBegins}
+use Rattle.jiter_incremental.proofs.Words.{IsAllowed, IsNumberWithin, IsScalarWithin, StandsAt, WordBegins}
 use Rattle.jiter_incremental.proofs.Words.{any_bytes, between_tokens, with_byte, name_start, name_word, WordValue}
-use Rattle.jiter_incremental.proofs.Words.{PartialWord, AwaitsValue, HasReadTo, IsAt, IsHere, MovesBy, Steps, after_level}
+use Rattle.jiter_incremental.proofs.Words.{PartialWord, AwaitsValue, HasTakenTo, IsAt, IsHere, MovesBy, Steps, after_level}
 use Rattle.jiter_incremental.proofs.Words.{ahead, document, refused, AwaitsPart, IsOfKey, IsPut, OpenFrame, begun}
 use Rattle.jiter_incremental.proofs.Words.{filled, empty_tree, Reader}
 use Rattle.jiter_scan.specs.declared.errors.FaultKind.TheVariants as fault_of
 use Rattle.jiter_steps.specs.declared.parse.Start.TheVariants as start
 use Rattle.jiter_incremental.specs.declared.reader.Awaits.TheVariants as awaits
 use Rattle.jiter_incremental.specs.declared.reader.Token.TheVariants as token
-use Rattle.jiter_incremental.proofs.Arms.{hidden-here, turned}
+use Rattle.jiter_incremental.proofs.Arms.{turned}
 use Rattle.jiter_incremental.proofs.Between.{no-parts, put-left, scalar-read, value-begins, value-here, value-none, value-too_deep}
 use Rattle.jiter_incremental.proofs.Documents.{begins-in, follows-byte, puts, refuses, takes-byte, wrong-refused}
 use Rattle.jiter_incremental.proofs.Documents.Bytes.{scalar-follows, scalar-reads}
 use Rattle.jiter_incremental.proofs.Documents.Tokens.{number-within-ends, word-begins, word-held}
-use Rattle.jiter_incremental.proofs.Settling.{ahead-level, moves-here, moves-one, read-any, reads-apart, shown-nothing, shown-word, steps-one}
+use Rattle.jiter_incremental.proofs.Settling.{ahead-level, moves-here, steps-one}
 use Rattle.jiter_incremental.proofs.Slots.{filled-same}
+use Rattle.jiter_incremental.proofs.Settling.{steps-here, steps-run}
+use Rattle.jiter_incremental.proofs.Words.{HasTakenIn}
 
 -- How many containers are open
 pub depth-of : (depth : ℕ) (v : Tree) (fs : List OpenFrame) → AwaitsPart depth v fs → depth ≡ length fs
@@ -59,8 +61,7 @@ module _ (level : ℕ) (chunk : List ℕ) (i : Reader) (v : Tree) (h : IsHere le
         → Steps level chunk i v (refused i kind (i.base + i.at)) v 1
     value-wrong kind wrong =
         let j = refused i kind (i.base + i.at) in
-        steps-one level chunk i v j v h.inside (moves-one level chunk i h.here h.low j h.inside (refl, refl, refl) refl) (hidden-here level chunk i v h none)
-        (λ x unset. shown-nothing (document j x) none)
+        steps-here level chunk i v j v h (refl, refl, refl, refl) refl
         (λ t outer at r.
         let x = filled outer v in
         let d = document i x in
@@ -96,13 +97,12 @@ module _ (level : ℕ) (chunk : List ℕ) (i : Reader) (v : Tree) (h : IsHere le
           record {
             within = omega (arith, h.inside);
             some = inl (omega arith);
-            still = (refl, refl, refl);
+            still = (refl, refl, refl, refl);
             depth = (omega (arith, h.here), omega (arith, h.here));
             low = omega (arith, h.here, low);
             deeper = λ more. h.unset;
           } in
-          steps-one level chunk i v j w h.inside moves (hidden-here level chunk i v h none)
-          (λ x unset. shown-nothing (document j x) none)
+          steps-one level chunk i v j w h.inside moves
           (λ t outer at r.
           let x = filled outer v in
           let d = document i x in
@@ -128,34 +128,27 @@ module _ (level : ℕ) (chunk : List ℕ) (i : Reader) (v : Tree) (h : IsHere le
       scalar-put k x w e low put within =
           let j = record (turned i (after_level level) i.depth k) { token = token.Nothing } in
           let end : i.at + (e - i.at) ≡ e = omega (arith, within.begins) in
-          record {
-            goes = λ t outer at r.
-                let y = filled outer v in
-                let d = document i y in
-                let a = awaited.goes t outer at r in
-                let fs = a.0 in
-                let deep = depth-of i.depth y fs a.1.part in
-                let held = record d.value { awaits = awaits.Value } in
-                let begins : BeginsHere c (record d { value = held }) t fs =
-                begins-in d held c t (at_value awaits.Value fs) fs a.1.known h.unset r.position
-                (refl, tt, a.1.part, a.1.key) (omega (arith, deep, h.here, low))
-                (λ p u n here. value-here p u n c here other fs) in
-                let there = put-there level i.depth v w x (text_view i.key) outer fs put at h.here a.1.part a.1.key in
-                let new = (document j (filled outer w)).value in
-                let left = put-left new x fs (deep, there) (ap after_level (sym h.here)) in
-                let bytes = slice_range chunk i.at e in
-                let all = puts (with_byte c) any_bytes (record d { value = held }) new x t bytes fs (length t) begins.known
-                (scalar-follows chunk i.at x e within) left (λ p u n m. scalar-read x p u n m fs)
-                (scalar-reads chunk i.at x e within (record d { value = held }) t (length fs) begins.low) in
-                let got = document j (filled outer w) in
-                subst (λ m. HasReadIn (ahead j chunk m) got (t ++ slice_range chunk i.at m)) (sym end)
-                (read-any (ahead j chunk e) got (t ++ bytes)
-                (reads-apart any_bytes got (t ++ bytes) all (hidden-here level chunk i v h none)));
-            complete = λ unset _. refl;
-            moves =
-                moves-here level chunk i h.here h.low j (e - i.at) (omega (arith, within.begins))
-                (omega (arith, end, within.within)) (refl, refl, refl) refl;
-          }
+          steps-run level chunk i v j w h (e - i.at) (omega (arith, within.begins)) (omega (arith, end, within.within))
+          (refl, refl, refl, refl) refl
+          (λ t outer at r.
+          let y = filled outer v in
+          let d = document i y in
+          let a = awaited.goes t outer at r in
+          let fs = a.0 in
+          let deep = depth-of i.depth y fs a.1.part in
+          let held = record d.value { awaits = awaits.Value } in
+          let begins : BeginsHere c (record d { value = held }) t fs =
+          begins-in d held c t (at_value awaits.Value fs) fs a.1.known h.unset r.position
+          (refl, tt, a.1.part, a.1.key) (omega (arith, deep, h.here, low))
+          (λ p u n here. value-here p u n c here other fs) in
+          let there = put-there level i.depth v w x (text_view i.key) outer fs put at h.here a.1.part a.1.key in
+          let new = (document j (filled outer w)).value in
+          let left = put-left new x fs (deep, there) (ap after_level (sym h.here)) in
+          let bytes = slice_range chunk i.at e in
+          let all = puts (with_byte c) any_bytes (record d { value = held }) new x t bytes fs (length t) begins.known
+          (scalar-follows chunk i.at x e within) left (λ p u n m. scalar-read x p u n m fs)
+          (scalar-reads chunk i.at x e within (record d { value = held }) t (length fs) begins.low) in
+          subst (λ m. HasTakenIn any_bytes (document j (filled outer w)) (t ++ slice_range chunk i.at m)) (sym end) all)
 
       -- A number that is complete with the byte after it is put there: that byte is known to come next.
       pub number-put : (k : CowStr Global) (x w : Tree) (e : ℕ) → level ≤ 200 → IsPut level v (text_view i.key) x w
@@ -190,18 +183,16 @@ module _ (level : ℕ) (chunk : List ℕ) (i : Reader) (v : Tree) (h : IsHere le
                 (λ p u n m. scalar-read x p u n m fs) b.reads in
                 let next : ahead j chunk e ≡ with_byte last =
                 ahead-level token.Nothing (after_level level) level chunk e refl refl within.ends.within in
-                let read = reads-apart (with_byte last) got (t ++ bytes) all (hidden-here level chunk i v h none) in
-                subst (λ m. HasReadIn (ahead j chunk m) got (t ++ slice_range chunk i.at m)) (sym end)
-                (subst (λ m. HasReadIn m got (t ++ bytes)) (sym next) read);
-            complete = λ unset _. refl;
+                subst (λ m. HasTakenIn (ahead j chunk m) got (t ++ slice_range chunk i.at m)) (sym end)
+                (subst (λ m. HasTakenIn m got (t ++ bytes)) (sym next) all);
             moves =
                 moves-here level chunk i h.here h.low j (e - i.at) (omega (arith, within.ends.begins))
-                (omega (arith, end, within.ends.within)) (refl, refl, refl) refl;
+                (omega (arith, end, within.ends.within)) (refl, refl, refl, refl) refl;
           }
 
       -- A scalar begins there.
       pub begins-there : level ≤ 200 → (t : List ℕ) (outer : List OpenFrame) → IsAt level outer
-          → HasReadTo chunk i (filled outer v) t
+          → HasTakenTo chunk i (filled outer v) t
           → (fs : List OpenFrame) × BeginsHere c (record (document i (filled outer v)) {
             value = record (document i (filled outer v)).value { awaits = awaits.Value };
           }) t fs
@@ -229,8 +220,7 @@ module _ (level : ℕ) (chunk : List ℕ) (i : Reader) (v : Tree) (h : IsHere le
           }) v 1
       word-step k o low starts allowed begins word seen =
           let j = record i { begin = i.base + i.at; token = token.Word; awaits = awaits.Value; name = k; word = o } in
-          steps-one level chunk i v j v h.inside (moves-one level chunk i h.here h.low j h.inside (refl, refl, refl) refl) (hidden-here level chunk i v h none)
-          (λ x unset. shown-word (document j x) refl)
+          steps-here level chunk i v j v h (refl, refl, refl, refl) refl
           (λ t outer at r.
           let b = begins-there low t outer at r in
           let d = document i (filled outer v) in

@@ -1,34 +1,64 @@
 -- A document whose unfinished scalar is in the value so far, or apart from it.
+use Rattle.jiter_incremental.proofs.Words.{IsComplete}
 use Rattle.jiter_incremental.proofs.Words.{◌≡◌, ℕ, zero, suc, ◌+◌, ◌-◌, ◌<◌, Bool, false, List, [], ◌∷◌, ◌++◌, length}
 use Rattle.jiter_incremental.proofs.Words.{take, drop, get_or, refl, sym, subst, ap, ◌∙◌, ◌≤◌, arith, inl, true}
 use Rattle.jiter_incremental.proofs.Words.{false≢true, nesting_limit, slice_index, slice_range, None, slice_get-get_or}
 use Rattle.jiter_incremental.proofs.Words.{slice-one, Tree, null, Document, HasReadIn, HasTakenIn, HoldsOpened, HoldsScalar}
 use Rattle.jiter_incremental.proofs.Words.{HasArrived, Parted, Settled, IsMoved, Next, Opened, any_bytes, between_tokens}
-use Rattle.jiter_incremental.proofs.Words.{in_key, in_scalar, is_shown, shown_as, with_byte, with_parts, HasReadTo}
+use Rattle.jiter_incremental.proofs.Words.{in_key, in_scalar, is_shown, shown_as, with_byte, with_parts, HasTakenTo}
 use Rattle.jiter_incremental.proofs.Words.{IsAt, IsStill, MovesBy, Steps, after_level, ahead, ahead_as, document, next_of}
 use Rattle.jiter_incremental.proofs.Words.{OpenFrame, filled, Awaits, Reader, Token}
 use Rattle.jiter_incremental.proofs.Documents.{known-any}
 use Rattle.jiter_incremental.specs.declared.reader.Token.TheVariants as token
+use Rattle.jiter_incremental.proofs.Words.{HasEnded, IsHere, IsScalar, JsonValue, KeepsRoom, inr}
+
+pub taken-any : (m : Next) (d : Document) (t : List ℕ) → HasTakenIn any_bytes d t → HasTakenIn m d t
+taken-any m d t h = record { opened = h.opened; known = known-any m d t h.opened h.known; held = h.held }
 
 pub read-any : (m : Next) (d : Document) (t : List ℕ) → HasReadIn any_bytes d t → HasReadIn m d t
 read-any m d t h = record { opened = h.opened; known = known-any m d t h.opened h.known; held = h.held }
 
--- No scalar is unfinished, or none that is a value.
+-- Where no scalar is unfinished that may be a value, none is shown.
 pub shown-nothing : (d : Document) → d.token ≡ token.Nothing → is_shown d ≡ false
 shown-nothing d is = ap (shown_as d) is
-
-pub shown-word : (d : Document) → d.token ≡ token.Word → is_shown d ≡ false
-shown-word d is = ap (shown_as d) is
 
 pub shown-key : (d : Document) → d.token ≡ token.Key → is_shown d ≡ false
 shown-key d is = ap (shown_as d) is
 
--- A scalar that is no value is not shown.
-pub not-shown : (d : Document) (t : List ℕ) (o : Opened) (s : Parted d t o) → is_shown s.apart ≡ false → d.shown ≡ false
-not-shown d t o s off = by d.shown refl where
-  by : (b : Bool) → d.shown ≡ b → d.shown ≡ false
-  by false is = is
-  by true is = absurd (false≢true (sym off ∙ s.sure is))
+pub calm-hidden : (d : Document) → ¬ IsScalar d.token → is_shown d ≡ false
+calm-hidden d calm = by d.token refl where
+  by : (k : Token) → d.token ≡ k → shown_as d k ≡ false
+  by token.Number is = absurd (calm (inl is))
+  by token.Text is = absurd (calm (inr is))
+  by token.Nothing is = refl
+  by token.Word is = refl
+  by token.Key is = refl
+
+pub ended-complete : (r : Reader) → HasEnded r → IsComplete r
+ended-complete r e unset hidden = calm-hidden (document r null) e.1
+
+-- and no room is wanted.
+pub room_other : (level : ℕ) (r : Reader) (slot : JsonValue) → ¬ IsScalar r.token → KeepsRoom level r slot
+room_other level r slot calm is = absurd (calm is)
+
+pub calm_nothing : (k : Token) → k ≡ token.Nothing → ¬ IsScalar k
+calm_nothing k a (inl b) = absurd (let no : token.Nothing ≡ token.Number = sym a ∙ b in cc)
+calm_nothing k a (inr b) = absurd (let no : token.Nothing ≡ token.Text = sym a ∙ b in cc)
+
+pub calm_word : (k : Token) → k ≡ token.Word → ¬ IsScalar k
+calm_word k a (inl b) = absurd (let no : token.Word ≡ token.Number = sym a ∙ b in cc)
+calm_word k a (inr b) = absurd (let no : token.Word ≡ token.Text = sym a ∙ b in cc)
+
+pub calm_key : (k : Token) → k ≡ token.Key → ¬ IsScalar k
+calm_key k a (inl b) = absurd (let no : token.Key ≡ token.Number = sym a ∙ b in cc)
+calm_key k a (inr b) = absurd (let no : token.Key ≡ token.Text = sym a ∙ b in cc)
+
+pub calm_other : (k : Token) → ¬ (k ≡ token.Number) → ¬ (k ≡ token.Text) → ¬ IsScalar k
+calm_other k a b (inl is) = a is
+calm_other k a b (inr is) = b is
+
+pub room_nothing : (level : ℕ) (r : Reader) (slot : JsonValue) → r.token ≡ token.Nothing → KeepsRoom level r slot
+room_nothing level r slot none = room_other level r slot (calm_nothing r.token none)
 
 -- One that stays apart is read,
 pub reads-apart : (n : Next) (d : Document) (t : List ℕ) → HasTakenIn n d t → d.shown ≡ false → HasReadIn n d t
@@ -127,29 +157,44 @@ pub moves-from : (level : ℕ) (chunk : List ℕ) (i j k : Reader) (n : ℕ) →
 moves-from level chunk i j k n still m = record {
   within = subst (λ a. a + n ≤ length chunk) still.2 m.within;
   some = m.some;
-  still = (m.still.0 ∙ still.0, m.still.1 ∙ still.1, m.still.2 ∙ still.2);
+  still = (m.still.0 ∙ still.0, m.still.1 ∙ still.1, m.still.2 ∙ still.2, m.still.3 ∙ still.3);
   depth = m.depth;
   low = m.low;
   deeper = m.deeper;
 }
 
 module _ (level : ℕ) (chunk : List ℕ) (i : Reader) (v : Tree) (j : Reader) (w : Tree) where
+  -- Bytes are taken, and the same container is open after them.
+  pub steps-run : IsHere level chunk i v → (n : ℕ) → 0 < n → i.at + n ≤ length chunk → IsStill i j → j.depth ≡ i.depth
+      → ((t : List ℕ) (outer : List OpenFrame) → IsAt level outer → HasTakenTo chunk i (filled outer v) t
+      → HasTakenIn any_bytes (document j (filled outer w)) (t ++ slice_range chunk i.at (i.at + n)))
+      → Steps level chunk i v j w n
+  steps-run h n some within still depth goes = record {
+    goes = λ t outer at r.
+        taken-any (ahead j chunk (i.at + n)) (document j (filled outer w)) (t ++ slice_range chunk i.at (i.at + n))
+        (goes t outer at r);
+    moves = moves-here level chunk i h.here h.low j n some within still depth;
+  }
+
   -- The next byte is taken,
-  pub steps-one : i.at < length chunk → MovesBy level chunk i j 1 → j.shown ≡ false
-      → ((x : Tree) → j.fault ≡ None → is_shown (document j x) ≡ false)
-      → ((t : List ℕ) (outer : List OpenFrame) → IsAt level outer → HasReadTo chunk i (filled outer v) t
+  pub steps-one : i.at < length chunk → MovesBy level chunk i j 1
+      → ((t : List ℕ) (outer : List OpenFrame) → IsAt level outer → HasTakenTo chunk i (filled outer v) t
       → HasTakenIn any_bytes (document j (filled outer w)) (t ++ slice_index chunk i.at ∷ []))
       → Steps level chunk i v j w 1
-  steps-one inside moves hidden off goes = record {
+  steps-one inside moves goes = record {
     goes = λ t outer at h.
         let d = document j (filled outer w) in
-        let u = t ++ slice_index chunk i.at ∷ [] in
-        subst (λ s. HasReadIn (ahead j chunk (i.at + 1)) d (t ++ s)) (sym (one-slice chunk i.at inside))
-        (read-any (ahead j chunk (i.at + 1)) d u
-        (reads-apart any_bytes d u (goes t outer at h) hidden));
+        subst (λ s. HasTakenIn (ahead j chunk (i.at + 1)) d (t ++ s)) (sym (one-slice chunk i.at inside))
+        (taken-any (ahead j chunk (i.at + 1)) d (t ++ slice_index chunk i.at ∷ []) (goes t outer at h));
     moves = moves;
-    complete = λ unset _. off null unset;
   }
+
+  -- and the same container is open after it.
+  pub steps-here : IsHere level chunk i v → IsStill i j → j.depth ≡ i.depth
+      → ((t : List ℕ) (outer : List OpenFrame) → IsAt level outer → HasTakenTo chunk i (filled outer v) t
+      → HasTakenIn any_bytes (document j (filled outer w)) (t ++ slice_index chunk i.at ∷ []))
+      → Steps level chunk i v j w 1
+  steps-here h still depth goes = steps-one h.inside (moves-one level chunk i h.here h.low j h.inside still depth) goes
 
 -- After a value the next byte is known to come.
 pub ahead-level : (k : Token) (a : Awaits) (n : ℕ) (chunk : List ℕ) (i : ℕ) → k ≡ token.Nothing → a ≡ after_level n

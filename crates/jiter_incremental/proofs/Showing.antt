@@ -1,13 +1,15 @@
 -- An unfinished scalar is moved into the value so far, and out of it again, in an open container whatever that is in.
+use Rattle.jiter_incremental.proofs.Words.{Refuses}
+use Rattle.jiter_incremental.proofs.Words.{IsScalar, false≢true, shown_as, take, ◌≤◌}
 use Rattle.jiter_incremental.proofs.Words.{◌≡◌, ℕ, ◌+◌, ◌<◌, true, false, List, [], ◌∷◌, length, refl, sym, subst, ap}
-use Rattle.jiter_incremental.proofs.Words.{ap₂, ◌∙◌, ◌⊎◌, ◌++◌, Bool, add-one, arith, string_bytes, slice_range, None}
-use Rattle.jiter_incremental.proofs.Words.{Result, Ok, Err, IfOk, OnErr, Global, CowStr, Number, number_value, IsBegun}
+use Rattle.jiter_incremental.proofs.Words.{ap₂, ◌∙◌, ◌++◌, add-one, arith, string_bytes, None}
+use Rattle.jiter_incremental.proofs.Words.{Global, CowStr, Number, number_value, IsBegun}
 use Rattle.jiter_incremental.proofs.Words.{number_from, PartialNumber, items_frame, members_frame, number_tree}
 use Rattle.jiter_incremental.proofs.Words.{HasTaken, text_view, Text, Tree, string, PartialString, owned_text, tree_as}
 use Rattle.jiter_incremental.proofs.Words.{IsLeft, OpenValue, at_value, text_of, Document, HasMoved, HasReadIn}
-use Rattle.jiter_incremental.proofs.Words.{HasTakenIn, HoldsOpened, HoldsScalar, IsMoved, Next, Opened, Parted, TakenFrom}
-use Rattle.jiter_incremental.proofs.Words.{any_bytes, between_tokens, in_key, in_scalar, is_shown, token_tree}
-use Rattle.jiter_incremental.proofs.Words.{with_parts, AsRead, HasReadTo, IsAt, IsComplete, IsHere, MovesBy, ReadsAsBefore, Steps}
+use Rattle.jiter_incremental.proofs.Words.{HoldsOpened, HoldsScalar, IsMoved, Next, Opened, Parted, TakenFrom}
+use Rattle.jiter_incremental.proofs.Words.{between_tokens, in_key, in_scalar, is_shown, token_tree}
+use Rattle.jiter_incremental.proofs.Words.{with_parts, AsRead, IsAt, IsComplete, IsHere}
 use Rattle.jiter_incremental.proofs.Words.{ahead, document, with_shown, AwaitsPart, HasValue, IsContainer, IsOfKey}
 use Rattle.jiter_incremental.proofs.Words.{IsPut, OpenFrame, around, begun, filled, Reader, Token}
 use Rattle.jiter_steps.specs.PartialText.{with_text}
@@ -18,8 +20,11 @@ use Rattle.jiter_incremental.specs.declared.reader.Token.TheVariants as token
 use Rattle.jiter_incremental.proofs.Documents.{known-as}
 use Rattle.jiter_incremental.proofs.Leading.{moved-key, moved-nothing, open-settled}
 use Rattle.jiter_incremental.proofs.Placing.{depth-of, put-there}
-use Rattle.jiter_incremental.proofs.Settling.{apart-read, moves-from, read-any, reads-apart}
+use Rattle.jiter_incremental.proofs.Settling.{apart-read, reads-apart}
 use Rattle.jiter_incremental.proofs.Slots.{filled-same}
+use Rattle.jiter_incremental.proofs.Words.{Advanced, HasEnded, IsPaused, JsonValue, KeepsRoom, inl, inr, null}
+use Rattle.jiter_incremental.proofs.Settling.{calm-hidden, room_other}
+use Rattle.jiter_incremental.proofs.Leading.{OpenTree, open-held}
 
 -- It is moved in,
 pub shows-moved : (level : ℕ) (i : Reader) (v w x : Tree) (n : PartialNumber) (s : PartialString) (k : CowStr Global)
@@ -223,101 +228,83 @@ hides-moved level i v w y n s k here unset on taken number text = record {
       }) refl;
 }
 
--- What is read of the other reader is read of the one.
-module _ (level : ℕ) (chunk : List ℕ) (i : Reader) (v : Tree) (j : Reader) (w : Tree) (b : Bool)
-    (read : AsRead level i v j w) (same : j ≡ with_shown i b j.number j.string j.key) where
-  abbrev j' : Reader
-  j' = with_shown i b j.number j.string j.key
+-- A number that is unfinished has begun.
+pub begun-held : (d : Document) (t : List ℕ) (o : Opened) → HoldsOpened d t o → d.token ≡ token.Number
+    → IsBegun (string_bytes d.number.text) d.number.stage
+begun-held d t (between_tokens s) h is = absurd (let no : token.Number ≡ token.Nothing = sym is ∙ h.0 in cc)
+begun-held d t (in_scalar fs b) h is =
+    let n = (subst (λ k. HoldsScalar d k h.0) is h.2).0 in
+    subst (λ w. IsBegun w d.number.stage) (sym n.text) n.begun
+begun-held d t (in_key fs ms b) h is = absurd (let no : token.Number ≡ token.Key = sym is ∙ h.2 in cc)
 
-  read-as : (t : List ℕ) (outer : List OpenFrame) → IsAt level outer → HasReadTo chunk i (filled outer v) t
-      → HasReadTo chunk j' (filled outer w) t
-  read-as t outer at r =
-      let so = subst (λ q. AsRead level i v q w) same read in
-      record { read = so.goes (ahead i chunk i.at) t outer at r.read; position = r.position }
+-- What is shown is a number or a string,
+pub shown-scalar : (d : Document) → is_shown d ≡ true → IsScalar d.token
+shown-scalar d on = by d.token refl on where
+  by : (k : Token) → d.token ≡ k → shown_as d k ≡ true → IsScalar d.token
+  by token.Number is on = inl is
+  by token.Text is on = inr is
+  by token.Nothing is on = absurd (false≢true on)
+  by token.Word is on = absurd (false≢true on)
+  by token.Key is on = absurd (false≢true on)
 
-  pub here-as : IsHere level chunk i v → IsHere level chunk j w
-  here-as h = subst (λ q. IsHere level chunk q w) (sym same) record {
-    here = h.here;
-    low = h.low;
-    inside = h.inside;
-    room = h.room;
-    unset = h.unset;
-    read = (h.read.0, h.read.1, h.read.2, read-as h.read.0 h.read.1 h.read.2 h.read.3);
-  }
+-- and the innermost slot is a container, whether a scalar is shown in it or not.
+container-of : (level depth : ℕ) (v : Tree) (outer : List OpenFrame) → depth ≡ level → IsAt level outer → 0 < level
+    → OpenTree depth (filled outer v) → IsContainer v
+container-of level depth v outer here at some o =
+    let long : length outer ≡ length o.frames = omega (arith, o.deep, here, at, some) in
+    (o.innermost, (filled-same outer o.frames v (begun o.innermost) long o.is).1)
 
-  pub steps-as : {E : Type 0} (r : Result ℕ E) (k : Reader) (x : Tree) → IfOk r (λ n. Steps level chunk j w k x n)
-      → IfOk r (λ n. Steps level chunk i v k x n)
-  steps-as (Ok n) k x s =
-      let so = subst (λ q. Steps level chunk q w k x n) same s in
-      record {
-        goes = λ t outer at r. so.goes t outer at (read-as t outer at r);
-        moves = moves-from level chunk i j' k n (refl, refl, refl) so.moves;
-        complete = so.complete;
-      }
-  steps-as (Err e) k x s = tt
+pub container-read : (level : ℕ) (i : Reader) (v : Tree) (n : Next) (t : List ℕ) (outer : List OpenFrame) → i.depth ≡ level
+    → i.fault ≡ None → IsAt level outer → HasReadIn n (document i (filled outer v)) t → 0 < level → IsContainer v
+container-read level i v n t outer here unset at h some =
+    container-of level i.depth v outer here at some
+    (open-settled (document i (filled outer v)) t h.opened (h.held unset) (omega (arith, here, some)))
 
-  pub stays-as : {E : Type 0} (r : Result ℕ E) (k : Reader) (x : Tree) → OnErr r (ReadsAsBefore level chunk j w k x)
-      → OnErr r (ReadsAsBefore level chunk i v k x)
-  stays-as (Ok n) k x s = tt
-  stays-as (Err e) k x s =
-      let so = subst (λ q. ReadsAsBefore level chunk q w k x) same s in
-      record {
-        goes = λ t outer at r. so.goes t outer at (read-as t outer at r);
-        free = so.free;
-        still = so.still;
-        depth = so.depth;
-        complete = so.complete;
-      }
+pub container-here : (level : ℕ) (chunk : List ℕ) (i : Reader) (v : Tree) → IsHere level chunk i v → 0 < level → IsContainer v
+container-here level chunk i v h some =
+    let r = h.read.3.read in
+    container-of level i.depth v h.read.1 h.here h.read.2 some
+    (open-held (document i (filled h.read.1 v)) h.read.0 r.opened (r.held h.unset) (omega (arith, h.here, some)))
 
-module _ (level : ℕ) (chunk : List ℕ) (i : Reader) (v : Tree) (h : IsHere level chunk i v) where
-  -- It is a container, whether a scalar is shown in it or not.
-  pub container-here : 0 < level → IsContainer v
-  container-here some =
-      let outer = h.read.1 in
-      let d = document i (filled outer v) in
-      let read = h.read.3.read in
-      let o = open-settled d h.read.0 read.opened (read.held h.unset) (omega (arith, h.here, some)) in
-      let long : length outer ≡ length o.frames = omega (arith, o.deep, h.here, h.read.2, some) in
-      let same = filled-same outer o.frames v (begun o.innermost) long o.is in
-      (o.innermost, same.1)
+-- Between two steps
+pub paused-so : (level : ℕ) (j : Reader) (slot : JsonValue) → j.shown ≡ false → KeepsRoom level j slot → IsPaused level j slot
+paused-so level j slot hidden room = record {
+  apart = λ _. (hidden, room);
+  complete = λ more unset off. calm-hidden (document j null) (λ is. absurd (omega (arith, more, (room is).0)));
+}
 
--- What is moved into the value so far, and shown there, is read.
-pub shown-steps : (level : ℕ) (chunk : List ℕ) (i : Reader) (v : Tree) (k : Reader) (x : Tree) (j : Reader) (w : Tree)
-    (n : ℕ) → MovesBy level chunk i k n → AsRead level k x j w → IsComplete j → j ≡ with_shown k j.shown j.number j.string j.key
-    → k.shown ≡ false
-    → ((t : List ℕ) (outer : List OpenFrame) → IsAt level outer → HasReadTo chunk i (filled outer v) t
-    → HasTakenIn any_bytes (document k (filled outer x)) (t ++ slice_range chunk i.at (i.at + n)))
-    → Steps level chunk i v j w n
-shown-steps level chunk i v k x j w n moves read full same hidden goes = record {
-  goes = λ t outer at r.
-      let d = document j (filled outer w) in
-      let u = t ++ slice_range chunk i.at (i.at + n) in
-      read-any (ahead j chunk (i.at + n)) d u
-      (read.goes any_bytes u outer at (reads-apart any_bytes (document k (filled outer x)) u (goes t outer at r) hidden));
-  complete = full;
-  moves =
-      let settings : j.settings ≡ k.settings = ap (λ (r : Reader). r.settings) same in
-      let base : j.base ≡ k.base = ap (λ (r : Reader). r.base) same in
-      let place : j.at ≡ k.at = ap (λ (r : Reader). r.at) same in
-      let depth : j.depth ≡ k.depth = ap (λ (r : Reader). r.depth) same in
-      let unset : j.fault ≡ k.fault = ap (λ (r : Reader). r.fault) same in
-      record {
-        within = moves.within;
-        some = subst (λ m. (0 < n) ⊎ (m < level)) (sym depth) moves.some;
-        still = (settings ∙ moves.still.0, base ∙ moves.still.1, place ∙ moves.still.2);
-        depth = (omega (arith, depth, moves.depth.0), omega (arith, depth, moves.depth.1));
-        low = omega (arith, depth, moves.low);
-        deeper = λ more. unset ∙ moves.deeper (omega (arith, depth, more));
+pub paused-further : (level : ℕ) (j : Reader) (slot : JsonValue) → IsComplete j → (j.depth ≤ level → HasEnded j)
+    → IsPaused level j slot
+paused-further level j slot full ended = record {
+  apart = λ low. let e = ended low in (e.0, room_other level j slot e.1);
+  complete = λ _. full;
+}
+
+pub paused-ended : (level : ℕ) (j : Reader) (slot : JsonValue) → IsPaused level j slot → j.depth < level → HasEnded j
+paused-ended level j slot p low =
+    let a = p.apart (omega (arith, low)) in (a.0, λ is. absurd (omega (arith, low, (a.1 is).0)))
+
+-- The same bytes are read by the reader that shows it, and by the one that does not.
+pub went-as : (level : ℕ) (chunk : List ℕ) (h : Reader) (u : Tree) (i : Reader) (v : Tree) (j : Reader) (w : Tree)
+    → Advanced level chunk h u i v → AsRead level i v j w → j ≡ with_shown i j.shown j.number j.string j.key
+    → Advanced level chunk h u j w
+went-as level chunk h u i v j w a read same =
+    let k = with_shown i j.shown j.number j.string j.key in
+    let so = subst (λ q. AsRead level i v q w) same read in
+    subst (λ q. Advanced level chunk h u q w) (sym same) (record {
+      after = a.after;
+      within = a.within;
+      same = a.same;
+      depth = a.depth;
+      low = a.low;
+      reads = record {
+        goes = λ t outer at r.
+            let q = a.reads.goes t outer at r in
+            record { read = so.goes (ahead i chunk i.at) (t ++ take i.at chunk) outer at q.read; position = q.position };
       };
-}
+    })
 
--- Nothing was taken.
-pub stays-here : (level : ℕ) (chunk : List ℕ) (i : Reader) (v : Tree) → ahead i chunk i.at ≡ any_bytes → IsComplete i
-    → ReadsAsBefore level chunk i v i v
-stays-here level chunk i v free full = record {
-  goes = λ t outer at r. subst (λ n. HasReadIn n (document i (filled outer v)) t) free r.read;
-  free = free;
-  still = (refl, refl, refl);
-  depth = refl;
-  complete = full;
-}
+pub refuses-as : (level : ℕ) (chunk : List ℕ) (h : Reader) (u : Tree) (i j : Reader)
+    → j ≡ with_shown i j.shown j.number j.string j.key → Refuses level chunk h u i → Refuses level chunk h u j
+refuses-as level chunk h u i j same q =
+    subst (Refuses level chunk h u) (sym same) (record { goes = q.goes; free = q.free })

@@ -1,14 +1,14 @@
 -- The open containers of a value that comes in chunks: a part is put into one, taken out of it, or changed inside it.
 use Rattle.jiter_incremental.proofs.Words.{◌≡◌, ℕ, zero, suc, ◌≤◌, ◌+◌, ◌-◌, ◌<◌, List, [], ◌∷◌, ◌++◌, length, take}
 use Rattle.jiter_incremental.proofs.Words.{get_or, refl, sym, subst, ap, ap₂, ◌∙◌, arith, length-append, Vec, rules}
-use Rattle.jiter_incremental.proofs.Words.{vec_len, Result, Ok, Err, OnErr, with_item, Global, CowStr}
+use Rattle.jiter_incremental.proofs.Words.{vec_len, with_item, Global, CowStr}
 use Rattle.jiter_incremental.proofs.Words.{get_or-append_seam, take_all, take_more, items_frame, members_frame}
-use Rattle.jiter_incremental.proofs.Words.{text_view, Text, Tree, array, object, items_of, members_of, string, text_of}
-use Rattle.jiter_incremental.proofs.Words.{IsGrown, OpenFrame, around, begun, filled, IsOfKey, Member, view, JsonValue}
+use Rattle.jiter_incremental.proofs.Words.{text_view, Text, Tree, array, object, items_of, members_of}
+use Rattle.jiter_incremental.proofs.Words.{OpenFrame, around, begun, filled, IsOfKey, Member, view, JsonValue}
 use Rattle.jiter_incremental.proofs.Words.{Array, Object, out-JsonValue, the_lemmas, JsonValue-F, view_array}
 use Rattle.jiter_incremental.proofs.Words.{view_object}
 use Rattle.std.proofs.Common.{map}
-use Rattle.std.specs.Prelude.{slice_set, OnOk}
+use Rattle.std.specs.Prelude.{slice_set}
 use Rattle.std.proofs.Math.Seq.{set-append_seam}
 use Rattle.std.proofs.lemmas.List.{map_push, length-map, same_from_push}
 use Rattle.jiter_steps.specs.Tree.{Items, no_items, item, Members, no_members, member}
@@ -258,32 +258,6 @@ object-swaps s v w size m is same n got f x h =
     (object-place s v w f x size is same n h).1 (got ∙ ap (λ (u : Vec Member Global). get_or u.items (size - 1) m) same) refl f x
     (sym (ap view is) ∙ h) in
     record { is = (swapped m.1).1; was = h ∙ ap (around f) (sym (swapped m.1).1); now = λ z. (swapped z).0 }
-
-module _ {T E : Type 0} where
-  -- Where a text goes on, so does the root,
-  pub root-grown : (r : Result T E) (level : ℕ) (v w : Tree) (bytes : List ℕ) → level ≡ 0
-      → ((u : List ℕ) → v ≡ string (text_of u) → OnOk r (w ≡ string (text_of (u ++ bytes))))
-      → OnOk r (IsGrown level v bytes w)
-  root-grown (Err e) level v w bytes none grow = tt
-  root-grown (Ok o) level v w bytes none grow =
-      record { root = λ t deep is. grow t is; part = λ t f some is. absurd (omega (arith, some, none)) }
-
-  -- or the container,
-  pub part-grown : (r : Result T E) (s y z : JsonValue) (put : JsonValue → JsonValue) (level : ℕ) (bytes : List ℕ)
-      → 0 < level → ((f : OpenFrame) (x : Tree) → view s ≡ around f x → Swaps s y put f x)
-      → ((w : List ℕ) → view y ≡ string (text_of w) → OnOk r (view z ≡ string (text_of (w ++ bytes))))
-      → OnOk r (IsGrown level (view s) bytes (view (put z)))
-  part-grown (Err e) s y z put level bytes some swaps grow = tt
-  part-grown (Ok o) s y z put level bytes some swaps grow = record {
-    root = λ t none is. absurd (omega (arith, some, none));
-    part = λ t f deep is. let q = swaps f (string (text_of t)) is in q.now z ∙ ap (around f) (grow t q.is);
-  }
-
-  -- or it stays.
-  pub part-kept : (r : Result T E) (s y z : JsonValue) (put : JsonValue → JsonValue) (f : OpenFrame) (x : Tree)
-      → Swaps s y put f x → OnErr r (view z ≡ view y) → OnErr r (view (put z) ≡ view s)
-  part-kept (Err e) s y z put f x q h = q.now z ∙ ap (around f) h ∙ sym q.was
-  part-kept (Ok o) s y z put f x q h = tt
 
 -- The container with its parts so far and one more is one.
 pub part-more : (f : OpenFrame) (x : Tree) → (g : OpenFrame) × (around f x ≡ begun g)

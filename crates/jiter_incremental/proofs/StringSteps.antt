@@ -1,13 +1,15 @@
 -- Words and strings that a chunk cut go on and end, in an open container whatever that is in.
-use Rattle.jiter_incremental.proofs.Words.{◌≡◌, ◌⊎◌, ℕ, ◌+◌, ◌-◌, ◌<◌, ◌≤◌, Bool, true, false, List, [], ◌∷◌, ◌++◌}
+use Rattle.jiter_incremental.proofs.Words.{ReadsAsBefore}
+use Rattle.jiter_incremental.proofs.Documents.Strings.{wrong-refused}
+use Rattle.jiter_incremental.proofs.Words.{◌≡◌, ℕ, ◌+◌, ◌-◌, ◌<◌, ◌≤◌, Bool, true, false, List, [], ◌∷◌, ◌++◌}
 use Rattle.jiter_incremental.proofs.Words.{length, refl, sym, subst, ap, ◌∙◌, arith, inl, inr, length-append, slice_get}
 use Rattle.jiter_incremental.proofs.Words.{slice_index, slice_range, Option, None, Some, Global, CowStr, slice-one}
 use Rattle.jiter_incremental.proofs.Words.{allows_trailing_strings, Fault, FaultKind, PartialWord, word_by, word_from}
-use Rattle.jiter_incremental.proofs.Words.{GoesOnWith, HasTaken, text_view, Tree, null, string, PartialString, text_of}
-use Rattle.jiter_incremental.proofs.Words.{Document, Follows, HasTakenAll, HasReadIn, HasTakenIn, HoldsOpened, ReadSoFar, Next}
-use Rattle.jiter_incremental.proofs.Words.{Opened, any_bytes, HoldsScalar, between_tokens, in_key, in_scalar, is_shown}
-use Rattle.jiter_incremental.proofs.Words.{noted_in, with_byte, name_tree, AsRead, HasReadTo, IsAt, IsComplete, IsHere}
-use Rattle.jiter_incremental.proofs.Words.{Steps, after_level, ahead, ahead_as, document, noted, refused, with_shown}
+use Rattle.jiter_incremental.proofs.Words.{GoesOnWith, HasTaken, text_view, Tree, string, PartialString, text_of}
+use Rattle.jiter_incremental.proofs.Words.{Follows, HasTakenAll, HasTakenIn, HoldsOpened, ReadSoFar, Next}
+use Rattle.jiter_incremental.proofs.Words.{Opened, any_bytes, HoldsScalar, between_tokens, in_key, in_scalar}
+use Rattle.jiter_incremental.proofs.Words.{noted_in, with_byte, name_tree, HasTakenTo, IsAt, IsHere}
+use Rattle.jiter_incremental.proofs.Words.{Steps, after_level, ahead, ahead_as, document, noted, refused}
 use Rattle.jiter_incremental.proofs.Words.{IsPut, OpenFrame, filled, IsClosedAs, IsOfString, IsTextAs, Reader, Token}
 use Rattle.jiter_scan.specs.Ascii as ascii
 use Rattle.jiter_scan.specs.declared.errors.FaultKind.TheVariants as fault_of
@@ -21,11 +23,10 @@ use Rattle.jiter_incremental.proofs.Documents.{known-as, puts, refuses}
 use Rattle.jiter_incremental.proofs.Documents.Strings.{closed-refused, index-low, is-held, key-taken}
 use Rattle.jiter_incremental.proofs.Documents.Strings.{noted-held, noted-known, noted-text}
 use Rattle.jiter_incremental.proofs.Documents.Strings.{taken-on, taken-same, whole-text, with_string, wrong-low}
-use Rattle.jiter_incremental.proofs.Documents.Strings.{wrong-refused}
 use Rattle.jiter_incremental.proofs.Documents.Tokens.{Unfinished, word-ends, word-goes-on, word-open, word-refused}
 use Rattle.jiter_incremental.proofs.Placing.{depth-of, put-there}
-use Rattle.jiter_incremental.proofs.Settling.{apart-read, moves-from, moves-here, moves-one, not-shown, one-slice, read-any, reads-apart, shown-nothing, shown-word, steps-one}
-use Rattle.jiter_incremental.proofs.Showing.{shown-steps}
+use Rattle.jiter_incremental.proofs.Settling.{moves-from, one-slice}
+use Rattle.jiter_incremental.proofs.Settling.{steps-here, steps-run}
 
 -- ---- words
 
@@ -37,19 +38,13 @@ module _ (level : ℕ) (chunk : List ℕ) (i : Reader) (v : Tree) (h : IsHere le
     ahead-word : ahead i chunk i.at ≡ any_bytes
     ahead-word = ap (λ k. ahead_as k i.awaits chunk i.at) word
 
-    hidden : i.shown ≡ false
-    hidden =
-        let r = h.read.3.read in
-        let s = r.held h.unset in
-        not-shown _ _ r.opened s (shown-word s.apart (sym (ap (λ (q : Document). q.token) s.same) ∙ word))
-
-    come : (t : List ℕ) (x : Tree) → HasReadTo chunk i x t → HasTakenAll (document i x) t
+    come : (t : List ℕ) (x : Tree) → HasTakenTo chunk i x t → HasTakenAll (document i x) t
     come t x r = record {
-      read = apart-read any_bytes (document i x) t (subst (λ n. HasReadIn n (document i x) t) ahead-word r.read) hidden;
+      read = subst (λ n. HasTakenIn n (document i x) t) ahead-word r.read;
       position = r.position;
     }
 
-    open-word : (t : List ℕ) (x : Tree) → HasReadTo chunk i x t → Unfinished (document i x) t token.Word
+    open-word : (t : List ℕ) (x : Tree) → HasTakenTo chunk i x t → Unfinished (document i x) t token.Word
     open-word t x r = word-open (document i x) t (come t x r) h.unset word
 
     -- A word goes on,
@@ -59,8 +54,7 @@ module _ (level : ℕ) (chunk : List ℕ) (i : Reader) (v : Tree) (h : IsHere le
         → Steps level chunk i v (record i { word = m }) v 1
     word-part m same leads =
         let j = record i { word = m } in
-        steps-one level chunk i v j v h.inside (moves-one level chunk i h.here h.low j h.inside (refl, refl, refl) refl) hidden
-        (λ x unset. shown-word (document j x) word)
+        steps-here level chunk i v j v h (refl, refl, refl, refl) refl
         (λ t outer at r.
         let x = filled outer v in
         word-goes-on (document i x) t (open-word t x r) m c word (ap (λ w. w.now) same) leads)
@@ -73,8 +67,7 @@ module _ (level : ℕ) (chunk : List ℕ) (i : Reader) (v : Tree) (h : IsHere le
         → Steps level chunk i v (record (turned i (after_level level) i.depth k) { token = token.Nothing }) w 1
     word-last m k w leads put =
         let j = record (turned i (after_level level) i.depth k) { token = token.Nothing } in
-        steps-one level chunk i v j w h.inside (moves-one level chunk i h.here h.low j h.inside (refl, refl, refl) refl) hidden
-        (λ x unset. shown-nothing (document j x) refl)
+        steps-here level chunk i v j w h (refl, refl, refl, refl) refl
         (λ t outer at r.
         let y = filled outer v in
         let d = document i y in
@@ -95,8 +88,7 @@ module _ (level : ℕ) (chunk : List ℕ) (i : Reader) (v : Tree) (h : IsHere le
     word-wrong m leads =
         let kind = fault_of.ExpectedSomeIdent in
         let j = refused i kind (i.base + i.at) in
-        steps-one level chunk i v j v h.inside (moves-one level chunk i h.here h.low j h.inside (refl, refl, refl) refl) hidden
-        (λ x unset. shown-word (document j x) word)
+        steps-here level chunk i v j v h (refl, refl, refl, refl) refl
         (λ t outer at r.
         let x = filled outer v in
         let d = document i x in
@@ -161,60 +153,48 @@ key-goes i y k s n t (in_key fs ms b) is unset named known held follows text =
     key-taken (with_string d s) new n any_bytes t (34 ∷ []) fs ms b u (known-as n d (with_string d s) t (in_key fs ms b) (refl, refl, refl) known) follows
     unset (held.4, tt, (held.5, held.6), sym named) low text (λ p t j e ms fs. key-read p t j e ms fs u)
 
+pub only-text : (k : Token) → IsOfString k → ¬ (k ≡ token.Key) → k ≡ token.Text
+only-text k (inl is) other = is
+only-text k (inr is) other = absurd (other is)
+
 pub ahead-string : (k : Token) (r : Reader) (chunk : List ℕ) (i : ℕ) → r.token ≡ k → IsOfString k
     → ahead r chunk i ≡ any_bytes
 ahead-string k r chunk i is (inl e) = ap (λ x. ahead_as x r.awaits chunk i) (is ∙ e)
 ahead-string k r chunk i is (inr e) = ap (λ x. ahead_as x r.awaits chunk i) (is ∙ e)
 
-pub ahead-scalar : (i : Reader) (chunk : List ℕ) (n : ℕ) → (i.token ≡ token.Number) ⊎ IsOfString i.token
-    → ahead i chunk n ≡ any_bytes
-ahead-scalar i chunk n (inl is) = ap (λ k. ahead_as k i.awaits chunk n) is
-ahead-scalar i chunk n (inr k) = ahead-string i.token i chunk n refl k
-
--- What was read of a string that is apart
-pub string-come : (chunk : List ℕ) (i : Reader) → i.shown ≡ false → IsOfString i.token → (t : List ℕ) (x : Tree)
-    → HasReadTo chunk i x t → HasTakenAll (document i x) t
-string-come chunk i hidden k t x r = record {
-  read = apart-read any_bytes (document i x) t
-      (subst (λ n. HasReadIn n (document i x) t) (ahead-string i.token i chunk i.at refl k) r.read) hidden;
+-- What was taken of a string
+pub string-come : (chunk : List ℕ) (i : Reader) → IsOfString i.token → (t : List ℕ) (x : Tree)
+    → HasTakenTo chunk i x t → HasTakenAll (document i x) t
+string-come chunk i k t x r = record {
+  read = subst (λ n. HasTakenIn n (document i x) t) (ahead-string i.token i chunk i.at refl k) r.read;
   position = r.position;
 }
 
-some-none : (f : Fault) → Some f ≡ None → ⊥
-some-none f e = cc
-
-module _ (level : ℕ) (chunk : List ℕ) (i : Reader) (v : Tree) (h : IsHere level chunk i v) (hidden : i.shown ≡ false)
-    (k : IsOfString i.token)
+module _ (level : ℕ) (chunk : List ℕ) (i : Reader) (v : Tree) (h : IsHere level chunk i v) (k : IsOfString i.token)
     (quote : slice_get chunk i.at ≡ Some ascii.quote) (whole : i.string.escape ≡ None)
   where
-    abbrev apart-come : (t : List ℕ) (x : Tree) → HasReadTo chunk i x t → HasTakenAll (document i x) t
-    apart-come t x r = string-come chunk i hidden k t x r
+    abbrev apart-come : (t : List ℕ) (x : Tree) → HasTakenTo chunk i x t → HasTakenAll (document i x) t
+    apart-come t x r = string-come chunk i k t x r
 
     -- The quote is taken.
     from-quote : (j : Reader) (w : Tree) → j.settings ≡ i.settings → j.base ≡ i.base → j.at ≡ i.at → j.depth ≡ i.depth
-        → j.shown ≡ false → ((x : Tree) → j.fault ≡ None → is_shown (document j x) ≡ false)
-        → ((t : List ℕ) (outer : List OpenFrame) → IsAt level outer → HasReadTo chunk i (filled outer v) t
+        → j.shown ≡ i.shown
+        → ((t : List ℕ) (outer : List OpenFrame) → IsAt level outer → HasTakenTo chunk i (filled outer v) t
         → HasTakenIn any_bytes (document j (filled outer w)) (t ++ 34 ∷ []))
         → Steps level chunk i v j w 1
-    from-quote j w settings base at depth apart off goes = record {
-      goes = λ t outer o r.
-          let d = document j (filled outer w) in
-          let u = t ++ 34 ∷ [] in
-          subst (λ s. HasReadIn (ahead j chunk (i.at + 1)) d (t ++ s)) (sym (slice-one chunk i.at 34 quote))
-          (read-any (ahead j chunk (i.at + 1)) d u
-          (reads-apart any_bytes d u (goes t outer o r) apart));
-      complete = λ unset _. off null unset;
-      moves =
-          moves-one level chunk i h.here h.low j h.inside (settings, base, at) depth;
-    }
+    from-quote j w settings base at depth shown goes =
+        steps-run level chunk i v j w h 1 (omega arith) (omega (arith, h.inside)) (settings, base, at, shown) depth
+        (λ t outer o r.
+        subst (λ s. HasTakenIn any_bytes (document j (filled outer w)) (t ++ s)) (sym (slice-one chunk i.at 34 quote))
+        (goes t outer o r))
 
     -- The text is put by a reader that noted an error or none.
     module _ (f : Option Fault) (n : Next) (follows : Follows n (34 ∷ []) any_bytes)
-        (known : (t : List ℕ) (x : Tree) (r : HasReadTo chunk i x t)
+        (known : (t : List ℕ) (x : Tree) (r : HasTakenTo chunk i x t)
         → ReadSoFar n (document (record i { first = f }) x) t (apart-come t x r).read.opened)
-        (held : (t : List ℕ) (x : Tree) (r : HasReadTo chunk i x t)
+        (held : (t : List ℕ) (x : Tree) (r : HasTakenTo chunk i x t)
         → HoldsOpened (document (record i { first = f }) x) t (apart-come t x r).read.opened)
-        (text : (t : List ℕ) (x : Tree) (r : HasReadTo chunk i x t)
+        (text : (t : List ℕ) (x : Tree) (r : HasTakenTo chunk i x t)
         → IsTextAs (document (record i { first = f }) x) any_bytes (t ++ 34 ∷ []) (apart-come t x r).read.opened i.string.text.text)
       where
         abbrev i' : Reader
@@ -225,8 +205,7 @@ module _ (level : ℕ) (chunk : List ℕ) (i : Reader) (v : Tree) (h : IsHere le
         quote-put j w (inl is) p =
             let q = p.text is in
             subst (λ j. Steps level chunk i v j w 1) (sym q.1)
-            (from-quote (after_text i' level j.key j.string) w refl refl refl refl hidden
-            (λ x unset. shown-nothing (document (after_text i' level j.key j.string) x) refl)
+            (from-quote (after_text i' level j.key j.string) w refl refl refl refl refl
             (λ t outer at r.
             let x = filled outer v in
             text-goes level i' v w j.key j.string n t outer (apart-come t x r).read.opened h.here at is q.0 (known t x r) (held t x r)
@@ -234,8 +213,7 @@ module _ (level : ℕ) (chunk : List ℕ) (i : Reader) (v : Tree) (h : IsHere le
         quote-put j w (inr is) p =
             let q = p.key is in
             subst (λ j. Steps level chunk i v j w 1) (sym q.2)
-            (from-quote (after_key i' j.key j.string) w refl refl refl refl hidden
-            (λ x unset. shown-nothing (document (after_key i' j.key j.string) x) refl)
+            (from-quote (after_key i' j.key j.string) w refl refl refl refl refl
             (λ t outer at r.
             let x = filled outer v in
             subst (λ y. HasTakenIn any_bytes (document (after_key i' j.key j.string) (filled outer y)) (t ++ 34 ∷ []))
@@ -274,9 +252,7 @@ module _ (level : ℕ) (chunk : List ℕ) (i : Reader) (v : Tree) (h : IsHere le
             → Steps level chunk i v (refused i fault_of.InvalidUnicodeCodePoint index) v 1
         quote-refused is =
             let kind = fault_of.InvalidUnicodeCodePoint in
-            let f : Fault = record { kind = kind; index = index } in
-            let j = refused i kind index in
-            from-quote j v refl refl refl refl hidden (λ x unset. absurd (some-none f unset))
+            from-quote (refused i kind index) v refl refl refl refl refl
             (λ t outer at r.
             let x = filled outer v in
             let d = document i x in
@@ -292,23 +268,22 @@ module _ (level : ℕ) (chunk : List ℕ) (i : Reader) (v : Tree) (h : IsHere le
 
 -- ---- strings that go on
 
-module _ (level : ℕ) (chunk : List ℕ) (i : Reader) (v : Tree) (h : IsHere level chunk i v) (hidden : i.shown ≡ false)
-    (k : IsOfString i.token) (s : PartialString)
+module _ (level : ℕ) (chunk : List ℕ) (i : Reader) (v : Tree) (h : IsHere level chunk i v) (k : IsOfString i.token)
+    (s : PartialString)
   where
     abbrev j : Reader
     j = record i { string = s }
 
-    come-so : (t : List ℕ) (x : Tree) → HasReadTo chunk i x t → HasTakenAll (document i x) t
-    come-so t x r = string-come chunk i hidden k t x r
+    come-so : (t : List ℕ) (x : Tree) → HasTakenTo chunk i x t → HasTakenAll (document i x) t
+    come-so t x r = string-come chunk i k t x r
 
     -- Its quote comes next.
     module _ (goes : (u : List ℕ) → HasTaken i.string u → GoesOnWith s u chunk i.at went.Quote) where
-      quote-taken : (t : List ℕ) (x : Tree) → HasReadTo chunk i x t → HasReadTo chunk j x t
+      quote-taken : (t : List ℕ) (x : Tree) → HasTakenTo chunk i x t → HasTakenTo chunk j x t
       quote-taken t x r = record {
         read =
-            subst (λ n. HasReadIn n (document j x) t) (sym (ahead-string i.token j chunk i.at refl k))
-            (reads-apart any_bytes (document j x) t
-            (taken-same (document i x) s t k h.unset (λ u y. (goes u y).0) (come-so t x r).read) hidden);
+            subst (λ n. HasTakenIn n (document j x) t) (sym (ahead-string i.token j chunk i.at refl k))
+            (taken-same (document i x) s t k h.unset (λ u y. (goes u y).0) (come-so t x r).read);
         position = r.position;
       }
 
@@ -333,20 +308,27 @@ module _ (level : ℕ) (chunk : List ℕ) (i : Reader) (v : Tree) (h : IsHere le
       pub quote-steps : (x : Reader) (y : Tree) (n : ℕ) → Steps level chunk j v x y n → Steps level chunk i v x y n
       quote-steps x y n q = record {
         goes = λ t outer at r. q.goes t outer at (quote-taken t (filled outer v) r);
-        moves = moves-from level chunk i j x n (refl, refl, refl) q.moves;
-        complete = q.complete;
+        moves = moves-from level chunk i j x n (refl, refl, refl, refl) q.moves;
       }
 
-    -- Bytes are taken into it, and it is shown again.
+    -- Bytes are taken into it,
     pub taken-steps : (n : ℕ) → ((u : List ℕ) → HasTaken i.string u → GoesOnWith s u chunk i.at (went.Taken n))
-        → IsCountAt chunk i.at n → (x : Reader) (y : Tree) → AsRead level j v x y → IsComplete x
-        → x ≡ with_shown j x.shown x.number x.string x.key → Steps level chunk i v x y n
-    taken-steps n goes part x y read full same =
-        shown-steps level chunk i v j v x y n
-        (moves-here level chunk i h.here h.low j n part.0 part.1 (refl, refl, refl) refl) read full same hidden
+        → IsCountAt chunk i.at n → Steps level chunk i v j v n
+    taken-steps n goes part =
+        steps-run level chunk i v j v h n part.0 part.1 (refl, refl, refl, refl) refl
         (λ t outer at r.
         taken-on (document i (filled outer v)) s t (slice_range chunk i.at (i.at + n)) k h.unset goes
         (come-so t (filled outer v) r).read)
+
+    -- or an allocation failed, and none is.
+    pub string-stays : s ≡ i.string → ReadsAsBefore level chunk i v j v
+    string-stays same =
+        subst (λ x. ReadsAsBefore level chunk i v (record i { string = x }) v) (sym same) (record {
+          goes = λ t outer at r. (come-so t (filled outer v) r).read;
+          free = ahead-string i.token i chunk i.at refl k;
+          still = (refl, refl, refl, refl);
+          depth = refl;
+        })
 
     -- A byte is wrong.
     module _ (kind : FaultKind) (back : ℕ)
@@ -361,9 +343,7 @@ module _ (level : ℕ) (chunk : List ℕ) (i : Reader) (v : Tree) (h : IsHere le
       wrong-steps =
           let index = i.base + i.at - back in
           let x = refused j kind index in
-          steps-one level chunk i v x v h.inside
-          (moves-one level chunk i h.here h.low x h.inside (refl, refl, refl) refl) hidden
-          (λ y unset. absurd (some-none _ unset))
+          steps-here level chunk i v x v h (refl, refl, refl, refl) refl
           (λ t outer at r.
           let d = document i (filled outer v) in
           let c = come-so t (filled outer v) r in

@@ -3,29 +3,26 @@ use Rattle.jiter_incremental.proofs.Words.{◌≡◌, ℕ, ◌+◌, ◌-◌, ◌
 use Rattle.jiter_incremental.proofs.Words.{sym, subst, ap, ◌∙◌, arith, slice_index, slice_range, Vec, Global, CowStr}
 use Rattle.jiter_incremental.proofs.Words.{is_blank, members_frame, HasTaken, IsTextWithin, text_view, Tree}
 use Rattle.jiter_incremental.proofs.Words.{PartialString, Arrived, IsLeft, at_value, TakesByte, text_of, HasTakenIn}
-use Rattle.jiter_incremental.proofs.Words.{any_bytes, in_key, with_byte, AwaitsKey, AwaitsValue, HasReadTo, AsRead, IsAt}
-use Rattle.jiter_incremental.proofs.Words.{IsComplete, IsHere, Steps, ahead, document, with_shown, OpenFrame, filled}
+use Rattle.jiter_incremental.proofs.Words.{any_bytes, in_key, with_byte, AwaitsKey, AwaitsValue, HasTakenTo, IsAt}
+use Rattle.jiter_incremental.proofs.Words.{IsHere, Steps, document, OpenFrame, filled}
 use Rattle.jiter_incremental.proofs.Words.{Reader}
 use Rattle.jiter_scan.specs.Ascii as ascii
 use Rattle.jiter_incremental.specs.declared.reader.Awaits.TheVariants as awaits
 use Rattle.jiter_incremental.specs.declared.reader.Token.TheVariants as token
-use Rattle.jiter_incremental.proofs.Arms.{hidden-here}
 use Rattle.jiter_incremental.proofs.Between.{at-value, goes-colon, key-read}
 use Rattle.jiter_incremental.proofs.Documents.{follows-byte, known-in}
 use Rattle.jiter_incremental.proofs.Documents.Bytes.{takes-here}
 use Rattle.jiter_incremental.proofs.Documents.Strings.{key-taken}
 use Rattle.jiter_incremental.proofs.Documents.Tokens.{range-after, string-begins}
 use Rattle.jiter_incremental.proofs.Documents.WholeTokens.{text-follows, text-key, text-some}
-use Rattle.jiter_incremental.proofs.Showing.{shown-steps}
 use Rattle.jiter_incremental.proofs.Placing.{begins-there}
-use Rattle.jiter_incremental.proofs.Settling.{moves-here, moves-one, one-slice, read-any, reads-apart, shown-key, shown-nothing, steps-one}
+use Rattle.jiter_incremental.proofs.Settling.{steps-here, steps-run}
 
 -- The buffer in which escapes are decoded is no part of a document.
 pub buffer-steps : (level : ℕ) (chunk : List ℕ) (i : Reader) (v : Tree) (j : Reader) (w : Tree) (n : ℕ) (s : Vec ℕ Global)
     → Steps level chunk i v j w n → Steps level chunk i v (record j { buffer = s }) w n
 buffer-steps level chunk i v j w n s h = record {
   goes = h.goes;
-  complete = h.complete;
   moves = record {
     within = h.moves.within;
     some = h.moves.some;
@@ -44,35 +41,24 @@ module _ (level : ℕ) (chunk : List ℕ) (i : Reader) (v : Tree) (h : IsHere le
 
     -- A string begins there.
     pub text-kept : AwaitsValue level chunk i v → is_blank c ≡ false → level ≤ 200 → c ≡ ascii.quote
-        → (s : PartialString) (b : Vec ℕ Global) → HasTaken s [] → (j : Reader) (w : Tree)
-        → AsRead level (record i {
+        → (s : PartialString) (b : Vec ℕ Global) → HasTaken s []
+        → Steps level chunk i v (record i {
           begin = i.base + i.at;
           token = token.Text;
           awaits = awaits.Value;
           string = s;
           buffer = b;
-        }) v j w
-        → IsComplete j
-        → j ≡ with_shown (record i {
-          begin = i.base + i.at;
-          token = token.Text;
-          awaits = awaits.Value;
-          string = s;
-          buffer = b;
-        }) j.shown j.number j.string j.key
-        → Steps level chunk i v j w 1
-    text-kept awaited other low quote s b fresh j w shows full same =
+        }) v 1
+    text-kept awaited other low quote s b fresh =
         let k = record i { begin = i.base + i.at; token = token.Text; awaits = awaits.Value; string = s; buffer = b } in
-        let moves = moves-one level chunk i h.here h.low k h.inside (refl, refl, refl) refl in
-        shown-steps level chunk i v k v j w 1 moves shows full same (hidden-here level chunk i v h none)
+        steps-here level chunk i v k v h (refl, refl, refl, refl) refl
         (λ t outer at r.
         let d = document i (filled outer v) in
         let new = document k (filled outer v) in
         let b = begins-there level chunk i v h none awaited other low t outer at r in
         let held = record d { value = record d.value { awaits = awaits.Value } } in
-        subst (λ x. HasTakenIn any_bytes new (t ++ x)) (sym (one-slice chunk i.at h.inside))
-        (string-begins held new t c b.0 b.1 (refl, refl, refl) refl refl refl quote
-        fresh))
+        string-begins held new t c b.0 b.1 (refl, refl, refl) refl refl refl quote
+        fresh)
 
     module _ (awaited : AwaitsKey level chunk i v) where
       -- A key does.
@@ -86,9 +72,7 @@ module _ (level : ℕ) (chunk : List ℕ) (i : Reader) (v : Tree) (h : IsHere le
           }) v 1
       key-kept s b fresh =
           let j = record i { begin = i.base + i.at; token = token.Key; awaits = awaits.Colon; string = s; buffer = b } in
-          let moves = moves-one level chunk i h.here h.low j h.inside (refl, refl, refl) refl in
-          steps-one level chunk i v j v h.inside moves (hidden-here level chunk i v h none)
-          (λ x unset. shown-key (document j x) refl)
+          steps-here level chunk i v j v h (refl, refl, refl, refl) refl
           (λ t outer at r.
           let d = document i (filled outer v) in
           let e = document j (filled outer v) in
@@ -118,7 +102,7 @@ module _ (level : ℕ) (chunk : List ℕ) (i : Reader) (v : Tree) (h : IsHere le
           abbrev ended : Reader
           ended = record i { awaits = awaits.Colon; key = k; buffer = s }
 
-          key-there : (t : List ℕ) (outer : List OpenFrame) → IsAt level outer → HasReadTo chunk i (filled outer v) t
+          key-there : (t : List ℕ) (outer : List OpenFrame) → IsAt level outer → HasTakenTo chunk i (filled outer v) t
               → HasTakenIn any_bytes (document ended (filled outer v)) (t ++ slice_range chunk i.at e)
           key-there t outer at r =
               let x = filled outer v in
@@ -137,20 +121,11 @@ module _ (level : ℕ) (chunk : List ℕ) (i : Reader) (v : Tree) (h : IsHere le
           pub key-whole : Steps level chunk i v ended v (e - i.at)
           key-whole =
               let end : i.at + (e - i.at) ≡ e = omega (arith, within.within.0) in
-              record {
-                complete = λ unset _. shown-nothing (document ended v) none;
-                goes = λ t outer at r.
-                    let d = document ended (filled outer v) in
-                    let u = t ++ slice_range chunk i.at (i.at + (e - i.at)) in
-                    read-any (ahead ended chunk (i.at + (e - i.at))) d u
-                    (reads-apart any_bytes d u
-                    (subst (λ m. HasTakenIn any_bytes d (t ++ slice_range chunk i.at m)) (sym end)
-                    (key-there t outer at r))
-                    (hidden-here level chunk i v h none));
-                moves =
-                    moves-here level chunk i h.here h.low ended (e - i.at) (omega (arith, within.within.0)) (omega (arith, end, within.within.1))
-                    (refl, refl, refl) refl;
-              }
+              steps-run level chunk i v ended v h (e - i.at) (omega (arith, within.within.0))
+              (omega (arith, end, within.within.1)) (refl, refl, refl, refl) refl
+              (λ t outer at r.
+              subst (λ m. HasTakenIn any_bytes (document ended (filled outer v)) (t ++ slice_range chunk i.at m)) (sym end)
+              (key-there t outer at r))
 
           -- also with its colon.
           pub key-colon : e < length chunk → get_or chunk e 0 ≡ 58
@@ -158,31 +133,22 @@ module _ (level : ℕ) (chunk : List ℕ) (i : Reader) (v : Tree) (h : IsHere le
           key-colon more colon =
               let j = record ended { awaits = awaits.Value } in
               let end : i.at + (e + 1 - i.at) ≡ e + 1 = omega (arith, within.within.0) in
-              record {
-                complete = λ unset _. shown-nothing (document j v) none;
-                goes = λ t outer at r.
-                    let x = filled outer v in
-                    let d = document j x in
-                    let was = document ended x in
-                    let new = d.value in
-                    let u = t ++ slice_range chunk i.at e in
-                    let passes : (s : Arrived) → IsLeft was.value s → TakesByte new s 58 =
-                    λ s left.
-                    let a = at-value was.value awaits.Colon s refl tt left in
-                    subst (λ y. TakesByte new y 58) (sym a.all)
-                    (goes-colon new a.frames 58 refl refl a.left a.key refl) in
-                    let one : HasTakenIn any_bytes d (u ++ 58 ∷ []) =
-                    takes-here 58 was new u (key-there t outer at r) h.unset none passes in
-                    let bytes : u ++ 58 ∷ [] ≡ t ++ slice_range chunk i.at (e + 1) =
-                    ap (λ b. u ++ b ∷ []) (sym colon)
-                    ∙ range-after t chunk i.at e (omega (arith, within.within.0)) more in
-                    let all = t ++ slice_range chunk i.at (i.at + (e + 1 - i.at)) in
-                    read-any (ahead j chunk (i.at + (e + 1 - i.at))) d all
-                    (reads-apart any_bytes d all
-                    (subst (λ m. HasTakenIn any_bytes d (t ++ slice_range chunk i.at m)) (sym end)
-                    (subst (HasTakenIn any_bytes d) bytes one))
-                    (hidden-here level chunk i v h none));
-                moves =
-                    moves-here level chunk i h.here h.low j (e + 1 - i.at) (omega (arith, within.within.0)) (omega (arith, end, more)) (refl, refl, refl)
-                    refl;
-              }
+              steps-run level chunk i v j v h (e + 1 - i.at) (omega (arith, within.within.0)) (omega (arith, end, more))
+              (refl, refl, refl, refl) refl
+              (λ t outer at r.
+              let x = filled outer v in
+              let d = document j x in
+              let was = document ended x in
+              let new = d.value in
+              let u = t ++ slice_range chunk i.at e in
+              let passes : (s : Arrived) → IsLeft was.value s → TakesByte new s 58 =
+              λ s left.
+              let a = at-value was.value awaits.Colon s refl tt left in
+              subst (λ y. TakesByte new y 58) (sym a.all)
+              (goes-colon new a.frames 58 refl refl a.left a.key refl) in
+              let one : HasTakenIn any_bytes d (u ++ 58 ∷ []) =
+              takes-here 58 was new u (key-there t outer at r) h.unset none passes in
+              let bytes : u ++ 58 ∷ [] ≡ t ++ slice_range chunk i.at (e + 1) =
+              ap (λ b. u ++ b ∷ []) (sym colon) ∙ range-after t chunk i.at e (omega (arith, within.within.0)) more in
+              subst (λ m. HasTakenIn any_bytes d (t ++ slice_range chunk i.at m)) (sym end)
+              (subst (HasTakenIn any_bytes d) bytes one))

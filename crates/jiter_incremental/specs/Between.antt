@@ -1,18 +1,17 @@
 -- A value that comes byte by byte: what the next byte makes of it, whatever comes after it.
-use Rattle.std.specs.Prelude.{◌≡◌, ◌⊎◌, ℕ, ◌+◌, true, false, List, [], ◌∷◌, ◌++◌, length, slice_get, Some}
-use Rattle.jiter_scan.specs.Ascii as ascii
+use Rattle.std.specs.Prelude.{◌≡◌, ◌⊎◌, ℕ, ◌+◌, true, false, List, [], ◌∷◌, ◌++◌, slice_get, Some}
 use Rattle.jiter_scan.specs.Kind.{Kind}
 use Rattle.jiter_scan.specs.PartialMode.{is_active}
 use Rattle.jiter_steps.specs.Blank.{is_blank}
-use Rattle.jiter_steps.specs.Frames.{items_frame, members_frame, key_from}
+use Rattle.jiter_steps.specs.Frames.{items_frame, members_frame}
 use Rattle.jiter_steps.specs.Read.{Reading, fault}
 use Rattle.jiter_steps.specs.Step.{begins_part}
-use Rattle.jiter_steps.specs.Tree.{Text, Tree, object, members_of}
+use Rattle.jiter_steps.specs.Tree.{Text, Tree}
 use Rattle.jiter_steps.specs.declared.parse.ContainerKind.TheVariants as shape
 use Rattle.jiter_steps.specs.declared.parse.Start.{Start}
 use Rattle.jiter_steps.specs.declared.parse.Start.TheVariants as start
 use Rattle.jiter_incremental.specs.Arrived.{Arrived, OpenValue, IsLeft, at_value, between_parts, at_end, leads_on, owned}
-use Rattle.jiter_incremental.specs.Slot.{OpenFrame, filled}
+use Rattle.jiter_incremental.specs.Slot.{OpenFrame}
 use Rattle.jiter_value.specs.Settings.{rules_as}
 use Rattle.jiter_incremental.specs.declared.reader.Awaits.{Awaits}
 use Rattle.jiter_incremental.specs.declared.reader.Awaits.TheVariants as awaits
@@ -64,16 +63,6 @@ IsScalarStart other = Unit {0}
 -- an item may begin with the byte: it is not whitespace, and ends no array
 abbrev pub BeginsItem : ℕ → Type 0
 BeginsItem c = (is_blank c ≡ false) × (begins_part shape.Array c ≡ true)
-
--- A key begins with the byte, in an object that has these members.
-pub record BeginsKey (new : OpenValue) (s : Arrived) (c : ℕ) : Type 0 where
-  pub frames : List OpenFrame
-  pub members : List (Text × Tree)
-  pub awaits : new.awaits ≡ awaits.Colon
-  pub deep : new.depth ≡ length frames + 1
-  pub left : new.tree ≡ filled frames (object (members_of members))
-  pub goes : Everywhere c (λ p t j. completed p t s j ≡ key_from (rules_as owned p) t frames members j)
-  pub quote : c ≡ ascii.quote
 
 -- A comma or the end is missing before the byte: in a partial mode the container ends there, else that is an error.
 pub record ClosesBefore (new : OpenValue) (s : Arrived) (c : ℕ) (k : Kind) : Type 0 where

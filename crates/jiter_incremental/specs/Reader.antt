@@ -1,26 +1,25 @@
 -- What a reader makes of a chunk, in an open container of the value so far, whatever that is in.
-use Rattle.std.specs.Prelude.{◌≡◌, ◌⊎◌, ℕ, zero, suc, ◌+◌, ◌-◌, ◌≤◌, ◌<◌, ◌^◌, List, ◌++◌, length, take, slice_get, slice_index, slice_range, Bool, false, true}
+use Rattle.std.specs.Prelude.{◌≡◌, ◌⊎◌, ℕ, zero, suc, ◌+◌, ◌-◌, ◌≤◌, ◌<◌, ◌^◌, List, ◌++◌, length, take, slice_get, slice_index, slice_range, Bool, false}
 use Rattle.std.specs.Prelude.{Option, Some, None}
 use Rattle.std.specs.declared.alloc.Global.{Global}
 use Rattle.std.specs.declared.borrow.CowStr.{CowStr}
 use Rattle.jiter_scan.specs.Ascii as ascii
-use Rattle.jiter_scan.specs.Scan.{Pass, is_plain_ascii}
 use Rattle.jiter_scan.specs.declared.partial_number.PartialNumber.{PartialNumber}
 use Rattle.jiter_steps.specs.declared.partial_string.PartialString.{PartialString}
 use Rattle.jiter_steps.specs.Node.{nesting_limit}
-use Rattle.jiter_steps.specs.PartialString.{IsEven}
 use Rattle.jiter_steps.specs.StringDecoder.{text_view}
 use Rattle.jiter_steps.specs.Tree.{Text, Tree, members_of, null, object}
 use Rattle.jiter_incremental.specs.Arrived.{at_value}
-use Rattle.jiter_incremental.specs.Document.{Document, HasReadIn, ReadSoFar, MayRefuseAt, Next, any_bytes, between_tokens, in_key, is_shown, noted_in}
+use Rattle.jiter_incremental.specs.Document.{Document, HasReadIn, HasTakenIn, ReadSoFar, MayRefuseAt, Next, any_bytes, between_tokens, in_key, is_shown, noted_in}
 use Rattle.jiter_incremental.specs.Document.{with_byte}
-use Rattle.jiter_incremental.specs.Slot.{AwaitsPart, IsOfKey, OpenFrame, filled}
+use Rattle.jiter_incremental.specs.Slot.{AwaitsPart, HasRoomAt, IsOfKey, OpenFrame, filled}
 use Rattle.jiter_scan.specs.declared.errors.FaultKind.{FaultKind}
 use Rattle.jiter_incremental.specs.declared.reader.Awaits.{Awaits}
 use Rattle.jiter_incremental.specs.declared.reader.Awaits.TheVariants as awaits
 use Rattle.jiter_incremental.specs.declared.reader.Reader.{Reader}
 use Rattle.jiter_incremental.specs.declared.reader.Token.{Token}
 use Rattle.jiter_incremental.specs.declared.reader.Token.TheVariants as token
+use Rattle.jiter_value.specs.declared.value.JsonValue.{JsonValue}
 
 -- The document of a reader and the value so far
 abbrev pub document : Reader → Tree → Document
@@ -61,9 +60,14 @@ pub record HasReadTo (chunk : List ℕ) (r : Reader) (v : Tree) (t : List ℕ) :
   pub read : HasReadIn (ahead r chunk r.at) (document r v) t
   pub position : r.base + r.at ≡ length t
 
--- It stays where it is.
+-- and what is unfinished is apart.
+pub record HasTakenTo (chunk : List ℕ) (r : Reader) (v : Tree) (t : List ℕ) : Type 0 where
+  pub read : HasTakenIn (ahead r chunk r.at) (document r v) t
+  pub position : r.base + r.at ≡ length t
+
+-- It stays where it is, and shows no more and no less.
 abbrev pub IsStill : Reader → Reader → Type 0
-IsStill i j = (j.settings ≡ i.settings) × (j.base ≡ i.base) × (j.at ≡ i.at)
+IsStill i j = (j.settings ≡ i.settings) × (j.base ≡ i.base) × (j.at ≡ i.at) × (j.shown ≡ i.shown)
 
 -- An unfinished scalar that is a value is in the value so far.
 abbrev pub IsComplete : Reader → Type 0
@@ -79,19 +83,17 @@ pub record MovesBy (level : ℕ) (chunk : List ℕ) (i j : Reader) (n : ℕ) : T
   pub deeper : level < j.depth → j.fault ≡ None
 
 pub record Steps (level : ℕ) (chunk : List ℕ) (i : Reader) (v : Tree) (j : Reader) (w : Tree) (n : ℕ) : Type 0 where
-  pub goes : (t : List ℕ) (outer : List OpenFrame) → IsAt level outer → HasReadTo chunk i (filled outer v) t
-      → HasReadIn (ahead j chunk (i.at + n)) (document j (filled outer w)) (t ++ slice_range chunk i.at (i.at + n))
+  pub goes : (t : List ℕ) (outer : List OpenFrame) → IsAt level outer → HasTakenTo chunk i (filled outer v) t
+      → HasTakenIn (ahead j chunk (i.at + n)) (document j (filled outer w)) (t ++ slice_range chunk i.at (i.at + n))
   pub moves : MovesBy level chunk i j n
-  pub complete : IsComplete j
 
 -- An allocation failed: what was read is read as before, whatever comes.
 pub record ReadsAsBefore (level : ℕ) (chunk : List ℕ) (i : Reader) (v : Tree) (j : Reader) (w : Tree) : Type 0 where
-  pub goes : (t : List ℕ) (outer : List OpenFrame) → IsAt level outer → HasReadTo chunk i (filled outer v) t
-      → HasReadIn any_bytes (document j (filled outer w)) t
+  pub goes : (t : List ℕ) (outer : List OpenFrame) → IsAt level outer → HasTakenTo chunk i (filled outer v) t
+      → HasTakenIn any_bytes (document j (filled outer w)) t
   pub free : ahead j chunk i.at ≡ any_bytes
   pub still : IsStill i j
   pub depth : j.depth ≡ i.depth
-  pub complete : IsComplete j
 
 -- A value is awaited with the byte c, which comes next, inside these containers.
 pub record ValueHere (c : ℕ) (d : Document) (t : List ℕ) (fs : List OpenFrame) : Type 0 where
@@ -102,7 +104,7 @@ pub record ValueHere (c : ℕ) (d : Document) (t : List ℕ) (fs : List OpenFram
 
 pub record AwaitsValue (level : ℕ) (chunk : List ℕ) (i : Reader) (v : Tree) : Type 0 where
   pub free : ahead i chunk i.at ≡ any_bytes
-  pub goes : (t : List ℕ) (outer : List OpenFrame) → IsAt level outer → HasReadTo chunk i (filled outer v) t
+  pub goes : (t : List ℕ) (outer : List OpenFrame) → IsAt level outer → HasTakenTo chunk i (filled outer v) t
       → (fs : List OpenFrame) × ValueHere (slice_index chunk i.at) (document i (filled outer v)) t fs
 
 -- A key begins with the byte c, which comes next, in an object that has these members.
@@ -115,7 +117,7 @@ pub record KeyHere (c : ℕ) (d : Document) (t : List ℕ) (fs : List OpenFrame)
 pub record AwaitsKey (level : ℕ) (chunk : List ℕ) (i : Reader) (v : Tree) : Type 0 where
   pub quote : slice_index chunk i.at ≡ ascii.quote
   pub free : ahead i chunk i.at ≡ any_bytes
-  pub goes : (t : List ℕ) (outer : List OpenFrame) → IsAt level outer → HasReadTo chunk i (filled outer v) t
+  pub goes : (t : List ℕ) (outer : List OpenFrame) → IsAt level outer → HasTakenTo chunk i (filled outer v) t
       → (fs : List OpenFrame) × (ms : List (Text × Tree))
       × KeyHere (slice_index chunk i.at) (document i (filled outer v)) t fs ms
 
@@ -135,7 +137,7 @@ pub record IsHere (level : ℕ) (chunk : List ℕ) (i : Reader) (v : Tree) : Typ
   pub inside : i.at < length chunk
   pub room : i.base + length chunk < 2 ^ 64
   pub unset : i.fault ≡ None
-  pub read : (t : List ℕ) × (outer : List OpenFrame) × IsAt level outer × HasReadTo chunk i (filled outer v) t
+  pub read : (t : List ℕ) × (outer : List OpenFrame) × IsAt level outer × HasTakenTo chunk i (filled outer v) t
 
 -- what comes next after a value at this level
 abbrev pub after_level : ℕ → Awaits
@@ -156,7 +158,6 @@ pub record Ready (level : ℕ) (chunk : List ℕ) (i : Reader) (v : Tree) : Type
   pub low : i.depth ≤ nesting_limit + 1
   pub within : i.at ≤ length chunk
   pub room : i.base + length chunk < 2 ^ 64
-  pub complete : IsComplete i
   pub read : (t : List ℕ) × (outer : List OpenFrame) × IsAt level outer × HasReadTo chunk i (filled outer v) (t ++ take i.at chunk)
 
 -- What it has read of the chunk leads from the one to the other, whatever the container is in and whatever came before.
@@ -171,7 +172,6 @@ pub record Advanced (level : ℕ) (chunk : List ℕ) (i : Reader) (v : Tree) (j 
   pub same : (j.settings ≡ i.settings) × (j.base ≡ i.base)
   pub depth : level ≤ j.depth + 1
   pub low : j.depth ≤ nesting_limit + 1
-  pub complete : IsComplete j
   pub reads : ReadsThrough level chunk i v j w
 
 -- An allocation failed before a byte of the chunk, and not before the first that is not whitespace.
@@ -180,11 +180,19 @@ pub record Refuses (level : ℕ) (chunk : List ℕ) (i : Reader) (v : Tree) (j :
       → HasReadTo chunk i (filled outer v) (t ++ take i.at chunk) → MayRefuseAt (t ++ chunk) (j.base + j.at)
   pub free : ahead j chunk j.at ≡ any_bytes
 
--- The bytes of the string that is shown are whole characters and whole escapes so far.
-abbrev pub IsGrowing : Reader → Type 0
-IsGrowing r = (r.shown ≡ true) × IsEven r.string
+-- A number or a string that is a value: the value so far can hold it.
+abbrev pub IsScalar : Token → Type 0
+IsScalar k = (k ≡ token.Number) ⊎ (k ≡ token.Text)
 
--- So many bytes of the chunk from a place on are plain and below 80 hex.
-pub record IsPlainRun (chunk : List ℕ) (at n : ℕ) : Type 0 where
-  pub within : at + n ≤ length chunk
-  pub plain : Pass is_plain_ascii (slice_range chunk at (at + n))
+-- The slot has room for it, where one is unfinished.
+abbrev pub KeepsRoom : ℕ → Reader → JsonValue → Type 0
+KeepsRoom level r slot = IsScalar r.token → (r.depth ≡ level) × HasRoomAt level slot
+
+-- The container at this level ended: none is unfinished.
+abbrev pub HasEnded : Reader → Type 0
+HasEnded r = (r.shown ≡ false) × ¬ IsScalar r.token
+
+-- A reader between two steps at this level: what is unfinished is apart here, and is in the value so far further in.
+pub record IsPaused (level : ℕ) (r : Reader) (slot : JsonValue) : Type 0 where
+  pub apart : r.depth ≤ level → (r.shown ≡ false) × KeepsRoom level r slot
+  pub complete : level < r.depth → IsComplete r

@@ -1,15 +1,14 @@
 -- A string or a key of a document that arrives in chunks, where it ends.
-use Rattle.std.specs.Prelude.{◌≡◌, ◌⊎◌, ℕ, ◌+◌, ◌<◌, Bool, List, ◌++◌, length, slice_get, Some, None}
+use Rattle.std.specs.Prelude.{◌≡◌, ◌⊎◌, ℕ, ◌+◌, Bool, List, ◌++◌, length, slice_get, Some, None}
 use Rattle.jiter_scan.specs.Ascii as ascii
 use Rattle.jiter_scan.specs.Scanned.{taken}
 use Rattle.jiter_steps.specs.PartialString.{HasTaken, Wherever, text_or}
 use Rattle.jiter_steps.specs.StringReading.{content_at, text_form}
-use Rattle.jiter_steps.specs.Tree.{Text, Tree, string}
+use Rattle.jiter_steps.specs.Tree.{Text, string}
 use Rattle.jiter_steps.specs.declared.partial_string.PartialString.{PartialString}
 use Rattle.jiter_incremental.specs.Arrived.{owned}
 use Rattle.jiter_incremental.specs.Document.{Document, MayFollow, IsReadAs, IsReading, Next, Opened, between_tokens, in_key, in_scalar}
 use Rattle.jiter_incremental.specs.Between.{text_of}
-use Rattle.jiter_incremental.specs.Slot.{OpenFrame, around}
 use Rattle.jiter_value.specs.Settings.{rules_as}
 use Rattle.jiter_incremental.specs.declared.reader.Token.{Token}
 use Rattle.jiter_incremental.specs.declared.reader.Token.TheVariants as token
@@ -36,15 +35,3 @@ abbrev pub IsClosedAs : PartialString → Bool → Bool → Type 0
 IsClosedAs s partial answer =
     (w : List ℕ) (h : HasTaken s w) → s.escape ≡ None → Wherever w (λ t i j. slice_get t j ≡ Some ascii.quote
     → content_at (text_form partial) t i ≡ text_or answer i h.escaped s.text.text (j + 1))
-
--- A string of these bytes is what was put into a slot at this level last.
-abbrev pub HasText : ℕ → Tree → Type 0
-HasText level v =
-    (w : List ℕ) × (level ≡ 0 → v ≡ string (text_of w))
-    × (0 < level → (f : OpenFrame) × (v ≡ around f (string (text_of w))))
-
--- It went on with these bytes.
-pub record IsGrown (level : ℕ) (v : Tree) (bytes : List ℕ) (w : Tree) : Type 0 where
-  pub root : (t : List ℕ) → level ≡ 0 → v ≡ string (text_of t) → w ≡ string (text_of (t ++ bytes))
-  pub part : (t : List ℕ) (f : OpenFrame) → 0 < level → v ≡ around f (string (text_of t))
-      → w ≡ around f (string (text_of (t ++ bytes)))

@@ -2,7 +2,7 @@
 ghost use Rattle.std.specs.Prelude.{◌≡◌, ◌+◌, ◌^◌, ◌<◌, ◌++◌, ◌∷◌, [], IfOk, List, None, OnErr, false};
 ghost use Rattle.std.specs.Prelude.{slice_index, true, ℕ};
 ghost use Rattle.jiter_incremental.specs.Words.{Arrived, IsLeft, IsAfter, IsBeforePart, HasTakenIn, StandsAt};
-ghost use Rattle.jiter_incremental.specs.Words.{any_bytes, IsHere, IsStill, ReadsAsBefore, Steps, document, comma};
+ghost use Rattle.jiter_incremental.specs.Words.{any_bytes, IsHere, IsStill, KeepsRoom, ReadsAsBefore, Steps, document, comma};
 ghost use Rattle.jiter_incremental.specs.Words.{is_blank, begins_part, closer_of, Tree, PartTree, built};
 ghost use Rattle.jiter_incremental.specs.Words.{view};
 ghost use Rattle.jiter_incremental.specs.declared.reader.Awaits.TheVariants as awaited;
@@ -41,8 +41,7 @@ impl Reader {
             → IsLeft (document self.old v).value s → self.old.awaits ≡ awaited.Nothing → is_blank c ≡ false
             → HasTakenIn any_bytes (document self.new v) (t ++ c ∷ []) }
         ensures still { IsStill self.old self.new }
-        ensures same { (self.new.depth ≡ self.old.depth) × (self.new.token ≡ self.old.token)
-            × (self.new.shown ≡ self.old.shown) }
+        ensures same { (self.new.depth ≡ self.old.depth) × (self.new.token ≡ self.old.token) }
     {
         let kind = FaultKind::TrailingCharacters;
         if self.settings.mode.is_active() {
@@ -63,7 +62,8 @@ impl Reader {
             → ¬ (slice_index chunk.now self.old.at ≡ closer_of h) }
         requires none { ¬ (slice_index chunk.now self.old.at ≡ comma) }
         requires other { is_blank (slice_index chunk.now self.old.at) ≡ false }
-        ensures { Steps level chunk.now self.old (view slot.now) self.new (view slot.now) result }
+        ensures steps { Steps level chunk.now self.old (view slot.now) self.new (view slot.now) result }
+        ensures token { self.new.token ≡ kind.Nothing }
     {
         let kind = kind_of(slot).comma_kind();
         if !self.settings.mode.is_active() {
@@ -82,7 +82,8 @@ impl Reader {
         requires token { self.old.token ≡ kind.Nothing }
         requires after { IsAfter self.old.awaits }
         requires other { is_blank (slice_index chunk.now self.old.at) ≡ false }
-        ensures { Steps level chunk.now self.old (view slot.now) self.new (view slot.now) result }
+        ensures steps { Steps level chunk.now self.old (view slot.now) self.new (view slot.now) result }
+        ensures token { self.new.token ≡ kind.Nothing }
     {
         if level == 0 {
             self.trail();
@@ -107,7 +108,8 @@ impl Reader {
         requires token { self.old.token ≡ kind.Nothing }
         requires awaits { self.old.awaits ≡ awaited.Colon }
         requires other { is_blank (slice_index chunk.now self.old.at) ≡ false }
-        ensures { Steps level chunk.now self.old (view slot.now) self.new (view slot.now) result }
+        ensures steps { Steps level chunk.now self.old (view slot.now) self.new (view slot.now) result }
+        ensures token { self.new.token ≡ kind.Nothing }
     {
         let byte = chunk[self.at];
         if byte != b':' {
@@ -127,7 +129,8 @@ impl Reader {
         requires none { (h : ContainerKind) → (xs : List (PartTree h)) → view slot.now ≡ built h xs
             → begins_part h (slice_index chunk.now self.old.at) ≡ false }
         requires other { is_blank (slice_index chunk.now self.old.at) ≡ false }
-        ensures { Steps level chunk.now self.old (view slot.now) self.new (view slot.now) result }
+        ensures steps { Steps level chunk.now self.old (view slot.now) self.new (view slot.now) result }
+        ensures token { self.new.token ≡ kind.Nothing }
     {
         let byte = chunk[self.at];
         let closer = kind_of(slot).closer();
@@ -157,6 +160,7 @@ impl Reader {
         requires other { is_blank (slice_index chunk.now self.old.at) ≡ false }
         ensures steps { IfOk result (λ n. Steps level chunk.now self.old (view slot.old) self.new (view slot.new) n) }
         ensures stays { OnErr result (ReadsAsBefore level chunk.now self.old (view slot.old) self.new (view slot.new)) }
+        ensures room { KeepsRoom level self.new slot.new }
     {
         let kind = kind_of(slot);
         if !kind.begins_part(chunk[self.at]) {
@@ -180,6 +184,7 @@ impl Reader {
         requires token { self.old.token ≡ kind.Nothing }
         ensures steps { IfOk result (λ n. Steps level chunk.now self.old (view slot.old) self.new (view slot.new) n) }
         ensures stays { OnErr result (ReadsAsBefore level chunk.now self.old (view slot.old) self.new (view slot.new)) }
+        ensures room { KeepsRoom level self.new slot.new }
         ensures wanted { OnErr result (is_blank (slice_index chunk.now self.old.at) ≡ false) }
     {
         let end = past_blanks(chunk, self.at);

@@ -1,10 +1,10 @@
 //! Reads a document that comes in chunks (RFC 8259). A push goes down the open containers by recursion and reads on.
 ghost use Rattle.std.specs.Prelude.{◌≡◌, ◌⊎◌, ◌+◌, ◌-◌, ◌^◌, ◌<◌, ◌≤◌, ◌++◌, [], IfOk, List, None, Ok, OnErr};
 ghost use Rattle.std.specs.Prelude.{OnOk, Some, length, false, take, true, ℕ};
-ghost use Rattle.jiter_incremental.specs.Words.{HasArrived, IsOver, MayRefuseAt, noted_in, ReadsThrough, Ready};
-ghost use Rattle.jiter_incremental.specs.Words.{Refuses, ReadsAsBefore, Steps, Advanced, after_level, document, noted};
-ghost use Rattle.jiter_incremental.specs.Words.{refused, HasPart, HasRoomAt, IsPut, nesting_limit, text_view};
-ghost use Rattle.jiter_incremental.specs.Words.{Tree, null, view};
+ghost use Rattle.jiter_incremental.specs.Words.{HasArrived, HasEnded, IsComplete, IsOver, IsPaused, KeepsRoom};
+ghost use Rattle.jiter_incremental.specs.Words.{MayRefuseAt, noted_in, ReadsThrough, Ready, Refuses, ReadsAsBefore};
+ghost use Rattle.jiter_incremental.specs.Words.{Steps, Advanced, after_level, document, noted, refused, HasPart};
+ghost use Rattle.jiter_incremental.specs.Words.{HasRoomAt, IsPut, nesting_limit, text_view, Tree, null, view};
 ghost use Rattle.jiter_incremental.specs.declared.reader.Awaits.TheVariants as awaited;
 ghost use Rattle.jiter_incremental.specs.declared.reader.Token.TheVariants as kind;
 
@@ -226,11 +226,14 @@ impl Reader {
     ) -> Result<usize, AllocFailed>
         requires ready { Ready level chunk.now self.old (view slot.old) }
         requires here { self.old.depth ≡ level }
+        requires hidden { self.old.shown ≡ false }
+        requires room { KeepsRoom level self.old slot.old }
         requires inside { self.old.at < length chunk.now }
         ensures steps { IfOk result (λ n. Steps level chunk.now self.old (view slot.old) self.new (view slot.new) n) }
         ensures stays { OnErr result (ReadsAsBefore level chunk.now self.old (view slot.old) self.new (view slot.new)) }
         ensures wanted { OnErr result (Refuses level chunk.now self.old (view slot.old) self.new) }
         ensures opened { level < self.new.depth → self.new.fault ≡ None }
+        ensures room { KeepsRoom level self.new slot.new }
     {
         if self.is_over() {
             return Ok(chunk.len() - self.at);
@@ -250,10 +253,12 @@ impl Reader {
     ) -> Result<(), AllocFailed>
         requires ready { Ready level chunk.now self.old (view slot.old) }
         requires here { self.old.depth ≡ level }
+        requires paused { IsPaused level self.old slot.old }
         requires inside { self.old.at < length chunk.now }
         ensures went { Advanced level chunk.now self.old (view slot.old) self.new (view slot.new) }
         ensures wanted { OnErr result (Refuses level chunk.now self.old (view slot.old) self.new) }
         ensures opened { level < self.new.depth → self.new.fault ≡ None }
+        ensures paused { IsPaused level self.new slot.new }
         ensures near { OnOk result (self.new.depth ≤ level + 1) }
         ensures progress { OnOk result ((self.old.at < self.new.at) ⊎ (self.new.depth < level)) }
     {
@@ -262,7 +267,7 @@ impl Reader {
         Ok(())
     }
 
-    // Goes on in the last item or member of a container.
+    // Goes on in the last item or member of a container. The root at level 0 is the outermost container at level 1.
     #[cycle(read)]
     fn inside(
         &mut self,
@@ -270,16 +275,21 @@ impl Reader {
         level: usize,
         chunk: &[u8],
     ) -> Result<(), AllocFailed>
-        requires some { 0 < level }
         requires ready { Ready level chunk.now self.old (view slot.old) }
         requires deeper { level < self.old.depth }
         requires unset { self.old.fault ≡ None }
-        requires part { HasPart (view slot.old) }
+        requires complete { IsComplete self.old }
+        requires inside { self.old.at < length chunk.now }
+        requires part { 0 < level → HasPart (view slot.old) }
         ensures went { Advanced level chunk.now self.old (view slot.old) self.new (view slot.new) }
         ensures wanted { OnErr result (Refuses level chunk.now self.old (view slot.old) self.new) }
+        ensures paused { IsPaused level self.new slot.new }
         ensures depth { level ≤ self.new.depth }
         ensures all { OnOk result (level < self.new.depth → self.new.at ≡ length chunk.now) }
     {
+        if level == 0 {
+            return self.parts(slot, 1, chunk);
+        }
         match slot {
             JsonValue::Array(items) => {
                 let last = items.len() - 1;
@@ -293,19 +303,20 @@ impl Reader {
         }
     }
 
-    // Goes on where the bytes so far ended, in this container or one inside it, up to its end or the chunk's.
+    // Reads on in this container and those inside it, up to its end or the chunk's.
     #[cycle(read)]
-    fn parts(
+    fn read_on(
         &mut self,
         slot: &mut JsonValue<'static>,
         level: usize,
         chunk: &[u8],
     ) -> Result<(), AllocFailed>
-        requires some { 0 < level }
         requires ready { Ready level chunk.now self.old (view slot.old) }
-        requires unset { level < self.old.depth → self.old.fault ≡ None }
+        requires unset { self.old.fault ≡ None }
+        requires paused { IsPaused level self.old slot.old }
         ensures went { Advanced level chunk.now self.old (view slot.old) self.new (view slot.new) }
         ensures wanted { OnErr result (Refuses level chunk.now self.old (view slot.old) self.new) }
+        ensures paused { IsPaused level self.new slot.new }
         ensures all { OnOk result (level ≤ self.new.depth → self.new.at ≡ length chunk.now) }
     {
         while self.at < chunk.len() && level <= self.depth {
@@ -316,6 +327,30 @@ impl Reader {
             }
         }
         Ok(())
+    }
+
+    // The unfinished token is taken out of the innermost slot before the first byte, and stored there after the last.
+    #[cycle(read)]
+    fn parts(
+        &mut self,
+        slot: &mut JsonValue<'static>,
+        level: usize,
+        chunk: &[u8],
+    ) -> Result<(), AllocFailed>
+        requires ready { Ready level chunk.now self.old (view slot.old) }
+        requires unset { self.old.fault ≡ None }
+        requires complete { IsComplete self.old }
+        requires inside { self.old.at < length chunk.now }
+        ensures went { Advanced level chunk.now self.old (view slot.old) self.new (view slot.new) }
+        ensures wanted { OnErr result (Refuses level chunk.now self.old (view slot.old) self.new) }
+        ensures complete { IsComplete self.new }
+        ensures ended { self.new.depth < level → HasEnded self.new }
+        ensures all { OnOk result (level ≤ self.new.depth → self.new.at ≡ length chunk.now) }
+    {
+        self.hide(slot, level)?;
+        let read = self.read_on(slot, level, chunk);
+        self.show(slot, level);
+        read
     }
 
     /// Counts the bytes that were taken of a chunk.
@@ -344,15 +379,13 @@ impl Reader {
         ensures within { self.new.at ≤ length chunk.now }
         ensures same { (self.new.settings ≡ self.old.settings) × (self.new.base ≡ self.old.base) }
     {
-        while self.at < chunk.len() {
-            if self.is_over() {
-                self.at = chunk.len();
-            } else if self.depth == 0 {
-                self.part(root, 0, chunk)?;
-            } else {
-                self.parts(root, 1, chunk)?;
-            }
+        if chunk.is_empty() {
+            return Ok(());
         }
-        Ok(())
+        if self.fault.is_some() {
+            self.at = chunk.len();
+            return Ok(());
+        }
+        self.parts(root, 0, chunk)
     }
 }

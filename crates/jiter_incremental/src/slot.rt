@@ -1,13 +1,11 @@
 //! The open containers of the value so far: the first is the root, and each other the last item or member of one.
 //! A slot is an open container, or the root if none is open. Its level counts the open containers down to it.
-ghost use Rattle.std.specs.Prelude.{◌≡◌, ◌+◌, ◌<◌, ◌++◌, ◌∷◌, [], List, OnErr, OnOk, length, vec_capacity};
-ghost use Rattle.std.specs.Prelude.{vec_len, ℕ, IsAscii};
-ghost use Rattle.jiter_incremental.specs.Words.{text_of, HasText, IsGrown, HasPart, HasRoomAt, IsContainer};
-ghost use Rattle.jiter_incremental.specs.Words.{IsOfKey, IsPut, IsRoomy, IsTaken, OpenFrame, around, begun};
-ghost use Rattle.jiter_incremental.specs.Words.{filled, text_view, Tree, string, PartTree, built, empty_tree};
-ghost use Rattle.jiter_incremental.specs.Words.{view, out-JsonValue};
+ghost use Rattle.std.specs.Prelude.{◌≡◌, ◌+◌, ◌<◌, ◌∷◌, [], List, OnOk, length, vec_capacity, vec_len, ℕ};
+ghost use Rattle.jiter_incremental.specs.Words.{HasPart, HasRoomAt, IsContainer, IsOfKey, IsPut, IsRoomy};
+ghost use Rattle.jiter_incremental.specs.Words.{IsTaken, OpenFrame, around, begun, filled, text_view, Tree};
+ghost use Rattle.jiter_incremental.specs.Words.{PartTree, built, empty_tree, view, out-JsonValue};
 
-use jiter_scan::memory::{AllocFailed, make_room, push_ascii, with_capacity};
+use jiter_scan::memory::{AllocFailed, make_room, with_capacity};
 use jiter_steps::parse::ContainerKind;
 use jiter_value::value::JsonValue;
 use std::alloc::Global;
@@ -130,48 +128,6 @@ pub fn take_from<'j>(slot: &mut JsonValue<'j>, level: usize, key: &mut CowStr<'j
         return mem::replace(slot, JsonValue::Null);
     }
     remove(slot, key)
-}
-
-// Bytes below 80 hex need no UTF-8 check.
-#[inline(always)]
-fn append_text(value: &mut JsonValue<'static>, bytes: &[u8]) -> Result<(), AllocFailed>
-    requires text { (w : List ℕ) × (view value.old ≡ string (text_of w)) }
-    requires ascii { IsAscii bytes.now }
-    ensures ok { (w : List ℕ) → view value.old ≡ string (text_of w)
-        → OnOk result (view value.new ≡ string (text_of (w ++ bytes.now))) }
-    ensures refused { OnErr result (view value.new ≡ view value.old) }
-{
-    match value {
-        JsonValue::Str(CowStr::Owned(text)) => push_ascii(text, bytes),
-        _ => unreachable!(),
-    }
-}
-
-/// Appends bytes below 80 hex to the string that [`put_in`] stored. If the allocation fails, nothing changes.
-pub fn append_in(
-    slot: &mut JsonValue<'static>,
-    level: usize,
-    bytes: &[u8],
-) -> Result<(), AllocFailed>
-    requires text { HasText level (view slot.old) }
-    requires ascii { IsAscii bytes.now }
-    ensures ok { OnOk result (IsGrown level (view slot.old) bytes.now (view slot.new)) }
-    ensures refused { OnErr result (view slot.new ≡ view slot.old) }
-{
-    if level == 0 {
-        return append_text(slot, bytes);
-    }
-    match slot {
-        JsonValue::Array(items) => {
-            let last = items.len() - 1;
-            append_text(&mut items[last], bytes)
-        }
-        JsonValue::Object(members) => {
-            let last = members.len() - 1;
-            append_text(&mut members[last].1, bytes)
-        }
-        _ => unreachable!(),
-    }
 }
 
 /// Returns the kind of the innermost of `depth` open containers.

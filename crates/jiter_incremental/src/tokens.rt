@@ -1,10 +1,10 @@
 //! Goes on with the token that the last chunk cut (RFC 8259, 3, 6 and 7). Numbers and strings that may end are shown.
-ghost use Rattle.std.specs.Prelude.{◌≡◌, ◌⊎◌, ◌+◌, ◌^◌, ◌<◌, IfOk, List, None, OnErr, OnOk, length};
+ghost use Rattle.std.specs.Prelude.{◌≡◌, ◌⊎◌, ◌+◌, ◌^◌, ◌<◌, ◌≤◌, IfOk, List, None, OnErr, OnOk, length};
 ghost use Rattle.std.specs.Prelude.{slice_get, slice_index, Some, string_bytes, false, true, ℕ};
 ghost use Rattle.jiter_incremental.specs.Words.{text_of, Next, HasMoved, HasReadIn, bytes_in, is_shown};
-ghost use Rattle.jiter_incremental.specs.Words.{token_tree, name_word, AsRead, IsAt, IsComplete, IsGrowing};
-ghost use Rattle.jiter_incremental.specs.Words.{IsHere, IsPlainRun, ReadsAsBefore, Steps, after_level, IsOfString};
-ghost use Rattle.jiter_incremental.specs.Words.{document, with_shown, HasRoomAt, IsContainer, IsPut};
+ghost use Rattle.jiter_incremental.specs.Words.{token_tree, name_word, AsRead, HasEnded, IsAt, IsComplete, IsPaused, IsScalar, KeepsRoom};
+ghost use Rattle.jiter_incremental.specs.Words.{IsHere, ReadsAsBefore, Steps, after_level, IsOfString};
+ghost use Rattle.jiter_incremental.specs.Words.{document, with_shown, HasRoomAt, IsPut};
 ghost use Rattle.jiter_incremental.specs.Words.{OpenFrame, filled, Number, allows_trailing_strings, Fits};
 ghost use Rattle.jiter_incremental.specs.Words.{IsBegun, is_whole, kept_bytes, own_view, number_tree};
 ghost use Rattle.jiter_incremental.specs.Words.{with_text, text_view, Tree, null, string, owned_text};
@@ -17,13 +17,12 @@ ghost use Rattle.jiter_scan.specs.PartialNumber.{StepsTo};
 use crate::names::WordValue;
 use crate::punctuation::is_blank;
 use crate::reader::{Reader, Token};
-use crate::slot::{append_in, put_in, reserve_in, take_from};
+use crate::slot::{put_in, reserve_in, take_from};
 use crate::values::text_value;
 use jiter_scan::errors::FaultKind;
 use jiter_scan::memory::AllocFailed;
 use jiter_scan::partial_number::{NumberStep, OwnNumber};
 use jiter_scan::partial_word::WordStep;
-use jiter_scan::simd::scan_string;
 use jiter_steps::partial_string::StringStep;
 use jiter_value::value::JsonValue;
 use std::alloc::Global;
@@ -129,19 +128,20 @@ impl Reader {
         }
     }
 
-    /// Stores the unfinished token, if it is a value already. The slot has capacity for it.
+    /// Stores the unfinished token in the innermost slot, if it is a value already. Does not allocate.
     pub fn show(&mut self, slot: &mut JsonValue<'static>, level: usize)
-        requires here { self.old.depth ≡ level }
-        requires unset { self.old.fault ≡ None }
-        requires hidden { self.old.shown ≡ false }
-        requires room { HasRoomAt level slot.old }
-        requires begun { self.old.token ≡ token_kind.Number
-            → IsBegun (string_bytes self.old.number.text) self.old.number.stage }
+        requires paused { IsPaused level self.old slot.old }
+        requires read { (n : Next) × (t : List ℕ) × (outer : List OpenFrame) × IsAt level outer
+            × HasReadIn n (document self.old (filled outer (view slot.old))) t }
         ensures shows { AsRead level self.old (view slot.old) self.new (view slot.new) }
         ensures complete { IsComplete self.new }
+        ensures ended { self.new.depth < level → HasEnded self.new }
         ensures same { self.new
             ≡ with_shown self.old self.new.shown self.new.number self.new.string self.new.key }
     {
+        if level != self.depth || self.fault.is_some() {
+            return;
+        }
         if self.is_showable() {
             let value = self.shown_value();
             put_in(slot, level, &mut self.key, value);
@@ -149,26 +149,33 @@ impl Reader {
         }
     }
 
-    /// Takes out what [`show`](Reader::show) stored, whose capacity stays. If nothing is stored, reserves the capacity.
+    /// Takes out of the innermost slot what [`show`](Reader::show) stored, whose capacity stays. Reserves it for a token
+    /// that wasn't stored.
     pub fn hide(&mut self, slot: &mut JsonValue<'static>, level: usize) -> Result<(), AllocFailed>
-        requires here { self.old.depth ≡ level }
+        requires above { level ≤ self.old.depth }
         requires unset { self.old.fault ≡ None }
+        requires complete { IsComplete self.old }
         requires read { (n : Next) × (t : List ℕ) × (outer : List OpenFrame) × IsAt level outer
             × HasReadIn n (document self.old (filled outer (view slot.old))) t }
-        requires container { 0 < level → IsContainer (view slot.old) }
         ensures hides { AsRead level self.old (view slot.old) self.new (view slot.new) }
-        ensures hidden { self.new.shown ≡ false }
-        ensures room { OnOk result (HasRoomAt level slot.new) }
-        ensures same { self.new ≡ with_shown self.old false self.new.number self.new.string self.new.key }
-        ensures refused { OnErr result ((self.new ≡ self.old) × (view slot.new ≡ view slot.old)) }
+        ensures paused { OnOk result (IsPaused level self.new slot.new) }
+        ensures same { self.new
+            ≡ with_shown self.old self.new.shown self.new.number self.new.string self.new.key }
+        ensures refused { OnErr result ((self.new ≡ self.old) × IsScalar self.old.token) }
     {
+        if level < self.depth {
+            return Ok(());
+        }
         if self.shown {
             let value = take_from(slot, level, &mut self.key);
             self.give_back(value);
             self.shown = false;
             return Ok(());
         }
-        reserve_in(slot)
+        match self.token {
+            Token::Number | Token::Text => reserve_in(slot),
+            _ => Ok(()),
+        }
     }
 
     fn take_word(
@@ -181,6 +188,7 @@ impl Reader {
         requires token { self.old.token ≡ token_kind.Word }
         ensures steps { IfOk result (λ n. Steps level chunk.now self.old (view slot.old) self.new (view slot.new) n) }
         ensures stays { OnErr result (ReadsAsBefore level chunk.now self.old (view slot.old) self.new (view slot.new)) }
+        ensures token { ¬ IsScalar self.new.token }
     {
         let mut word = self.word;
         match word.next(chunk[self.at]) {
@@ -198,11 +206,12 @@ impl Reader {
     // The byte is the `I` of `-Infinity`.
     fn take_name(&mut self, slot: &JsonValue<'static>, level: usize, chunk: &[u8]) -> usize
         requires here { IsHere level chunk.now self.old (view slot.now) }
-        requires hidden { self.old.shown ≡ false }
         requires token { self.old.token ≡ token_kind.Number }
         requires leads { StepsTo self.old.number.stage (slice_index chunk.now self.old.at) number_went.Named }
         requires fits { Fits self.old.number.stage (slice_index chunk.now self.old.at) number_went.Named }
-        ensures { Steps level chunk.now self.old (view slot.now) self.new (view slot.now) result }
+        requires room { KeepsRoom level self.old slot.now }
+        ensures steps { Steps level chunk.now self.old (view slot.now) self.new (view slot.now) result }
+        ensures room { KeepsRoom level self.new slot.now }
     {
         if self.settings.allow_inf_nan {
             self.name = WordValue::MinusInfinity;
@@ -217,12 +226,12 @@ impl Reader {
     // The byte isn't part of the number, which ends before it. Takes the byte too.
     fn end_number(&mut self, slot: &mut JsonValue<'static>, level: usize, chunk: &[u8]) -> usize
         requires here { IsHere level chunk.now self.old (view slot.old) }
-        requires hidden { self.old.shown ≡ false }
         requires token { self.old.token ≡ token_kind.Number }
         requires leads { StepsTo self.old.number.stage (slice_index chunk.now self.old.at) number_went.Over }
         requires fits { Fits self.old.number.stage (slice_index chunk.now self.old.at) number_went.Over }
         requires space { HasRoomAt level slot.old }
-        ensures { Steps level chunk.now self.old (view slot.old) self.new (view slot.new) result }
+        ensures steps { Steps level chunk.now self.old (view slot.old) self.new (view slot.new) result }
+        ensures token { self.new.token ≡ token_kind.Nothing }
     {
         let value = number_value(self.number.take_value());
         self.put(slot, level, value);
@@ -241,12 +250,13 @@ impl Reader {
         went: NumberStep,
     ) -> usize
         requires here { IsHere level chunk.now self.old (view slot.now) }
-        requires hidden { self.old.shown ≡ false }
         requires token { self.old.token ≡ token_kind.Number }
         requires leads { StepsTo self.old.number.stage (slice_index chunk.now self.old.at) went }
         requires fits { Fits self.old.number.stage (slice_index chunk.now self.old.at) went }
         requires wrong { (went ≡ number_went.Invalid) ⊎ (went ≡ number_went.TooLong) }
-        ensures { Steps level chunk.now self.old (view slot.now) self.new (view slot.now) result }
+        requires room { KeepsRoom level self.old slot.now }
+        ensures steps { Steps level chunk.now self.old (view slot.now) self.new (view slot.now) result }
+        ensures room { KeepsRoom level self.new slot.now }
     {
         match went {
             NumberStep::TooLong => self.refuse(FaultKind::NumberOutOfRange, self.position() + 1),
@@ -256,6 +266,7 @@ impl Reader {
     }
 
     // Takes bytes of the number, or the byte after it. `NumberOutOfRange` is at one past the first digit too many.
+    #[inline(never)]
     fn take_number(
         &mut self,
         slot: &mut JsonValue<'static>,
@@ -263,18 +274,14 @@ impl Reader {
         chunk: &[u8],
     ) -> Result<usize, AllocFailed>
         requires here { IsHere level chunk.now self.old (view slot.old) }
-        requires hidden { self.old.shown ≡ false }
         requires token { self.old.token ≡ token_kind.Number }
-        requires space { HasRoomAt level slot.old }
+        requires room { KeepsRoom level self.old slot.old }
         ensures steps { IfOk result (λ n. Steps level chunk.now self.old (view slot.old) self.new (view slot.new) n) }
         ensures stays { OnErr result (ReadsAsBefore level chunk.now self.old (view slot.old) self.new (view slot.new)) }
+        ensures room { KeepsRoom level self.new slot.new }
     {
         match self.number.next(chunk[self.at]) {
-            NumberStep::Taken(stage) => {
-                let taken = self.number.more(stage, chunk, self.at);
-                self.show(slot, level);
-                taken
-            }
+            NumberStep::Taken(stage) => self.number.more(stage, chunk, self.at),
             NumberStep::Over => Ok(self.end_number(slot, level, chunk)),
             NumberStep::Named => Ok(self.take_name(slot, level, chunk)),
             wrong => Ok(self.end_invalid(slot, level, chunk, wrong)),
@@ -282,7 +289,8 @@ impl Reader {
     }
 
     fn put_text(&mut self, slot: &mut JsonValue<'static>, level: usize)
-        requires space { HasRoomAt level slot.old }
+        requires token { IsOfString self.old.token }
+        requires room { KeepsRoom level self.old slot.old }
         ensures text { self.old.token ≡ token_kind.Text
             → IsPut level (view slot.old) (text_view self.old.key) (string (text_of self.old.string.text.text)) (view slot.new)
             × (self.new ≡ record self.old {
@@ -307,12 +315,12 @@ impl Reader {
     // `TrailingStrings` drops an incomplete character before the quote. With partial reading off it is an error.
     fn close_string(&mut self, slot: &mut JsonValue<'static>, level: usize, chunk: &[u8]) -> usize
         requires here { IsHere level chunk.now self.old (view slot.old) }
-        requires hidden { self.old.shown ≡ false }
-        requires token { (self.old.token ≡ token_kind.Text) ⊎ (self.old.token ≡ token_kind.Key) }
+        requires token { IsOfString self.old.token }
         requires quote { slice_get chunk.now self.old.at ≡ Some ascii.quote }
         requires whole { self.old.string.escape ≡ None }
-        requires space { HasRoomAt level slot.old }
-        ensures { Steps level chunk.now self.old (view slot.old) self.new (view slot.new) result }
+        requires room { KeepsRoom level self.old slot.old }
+        ensures steps { Steps level chunk.now self.old (view slot.old) self.new (view slot.new) result }
+        ensures room { KeepsRoom level self.new slot.new }
     {
         let index = self.begin + 1 + self.string.text().len();
         let kind = FaultKind::InvalidUnicodeCodePoint;
@@ -328,72 +336,8 @@ impl Reader {
         1
     }
 
-    // How many bytes can be appended to the string in the value: plain ASCII, after complete characters and escapes.
-    #[inline(always)]
-    fn growth(&self, chunk: &[u8]) -> usize
-        requires { self.now.at < length chunk.now }
-        ensures { 0 < result → IsGrowing self.now × IsPlainRun chunk.now self.now.at result }
-    {
-        if !self.shown || !self.string.is_even() {
-            return 0;
-        }
-        let (stop, low) = scan_string(chunk, self.at);
-        if low { stop - self.at } else { 0 }
-    }
-
     // A wrong byte counts as taken: the error is final.
-    fn move_string(
-        &mut self,
-        slot: &mut JsonValue<'static>,
-        level: usize,
-        chunk: &[u8],
-    ) -> Result<usize, AllocFailed>
-        requires here { IsHere level chunk.now self.old (view slot.old) }
-        requires hidden { self.old.shown ≡ false }
-        requires token { (self.old.token ≡ token_kind.Text) ⊎ (self.old.token ≡ token_kind.Key) }
-        requires space { HasRoomAt level slot.old }
-        ensures steps { IfOk result (λ n. Steps level chunk.now self.old (view slot.old) self.new (view slot.new) n) }
-        ensures stays { OnErr result (ReadsAsBefore level chunk.now self.old (view slot.old) self.new (view slot.new)) }
-    {
-        match self.string.next(chunk, self.at) {
-            Ok(StringStep::Taken(count)) => {
-                self.show(slot, level);
-                Ok(count)
-            }
-            Ok(StringStep::Quote) => Ok(self.close_string(slot, level, chunk)),
-            Ok(StringStep::Wrong(kind, back)) => {
-                self.refuse(kind, self.position() - back);
-                Ok(1)
-            }
-            Err(error) => {
-                self.show(slot, level);
-                Err(error)
-            }
-        }
-    }
-
-    // The number or the string is moved out of the value. If it goes on after the chunk, it is moved in again.
     #[inline(never)]
-    fn move_on(
-        &mut self,
-        slot: &mut JsonValue<'static>,
-        level: usize,
-        chunk: &[u8],
-    ) -> Result<usize, AllocFailed>
-        requires here { IsHere level chunk.now self.old (view slot.old) }
-        requires token { (self.old.token ≡ token_kind.Number) ⊎ IsOfString self.old.token }
-        requires complete { IsComplete self.old }
-        ensures steps { IfOk result (λ n. Steps level chunk.now self.old (view slot.old) self.new (view slot.new) n) }
-        ensures stays { OnErr result (ReadsAsBefore level chunk.now self.old (view slot.old) self.new (view slot.new)) }
-    {
-        self.hide(slot, level)?;
-        if matches!(self.token, Token::Number) {
-            self.take_number(slot, level, chunk)
-        } else {
-            self.move_string(slot, level, chunk)
-        }
-    }
-
     fn take_string(
         &mut self,
         slot: &mut JsonValue<'static>,
@@ -401,17 +345,21 @@ impl Reader {
         chunk: &[u8],
     ) -> Result<usize, AllocFailed>
         requires here { IsHere level chunk.now self.old (view slot.old) }
-        requires token { (self.old.token ≡ token_kind.Text) ⊎ (self.old.token ≡ token_kind.Key) }
-        requires complete { IsComplete self.old }
+        requires token { IsOfString self.old.token }
+        requires room { KeepsRoom level self.old slot.old }
         ensures steps { IfOk result (λ n. Steps level chunk.now self.old (view slot.old) self.new (view slot.new) n) }
         ensures stays { OnErr result (ReadsAsBefore level chunk.now self.old (view slot.old) self.new (view slot.new)) }
+        ensures room { KeepsRoom level self.new slot.new }
     {
-        let count = self.growth(chunk);
-        if count == 0 {
-            return self.move_on(slot, level, chunk);
+        match self.string.next(chunk, self.at) {
+            Ok(StringStep::Taken(count)) => Ok(count),
+            Ok(StringStep::Quote) => Ok(self.close_string(slot, level, chunk)),
+            Ok(StringStep::Wrong(kind, back)) => {
+                self.refuse(kind, self.position() - back);
+                Ok(1)
+            }
+            Err(error) => Err(error),
         }
-        append_in(slot, level, &chunk[self.at..self.at + count])?;
-        Ok(count)
     }
 
     /// Takes bytes of the unfinished token.
@@ -424,13 +372,14 @@ impl Reader {
     ) -> Result<usize, AllocFailed>
         requires here { IsHere level chunk.now self.old (view slot.old) }
         requires token { ¬ (self.old.token ≡ token_kind.Nothing) }
-        requires complete { IsComplete self.old }
+        requires room { KeepsRoom level self.old slot.old }
         ensures steps { IfOk result (λ n. Steps level chunk.now self.old (view slot.old) self.new (view slot.new) n) }
         ensures stays { OnErr result (ReadsAsBefore level chunk.now self.old (view slot.old) self.new (view slot.new)) }
+        ensures room { KeepsRoom level self.new slot.new }
     {
         match self.token {
             Token::Word => self.take_word(slot, level, chunk),
-            Token::Number => self.move_on(slot, level, chunk),
+            Token::Number => self.take_number(slot, level, chunk),
             _ => self.take_string(slot, level, chunk),
         }
     }

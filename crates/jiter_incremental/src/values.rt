@@ -1,7 +1,7 @@
 //! Begins containers, keys and scalars (RFC 8259, 3 to 7). A scalar or key that is all in the chunk is read at once.
 ghost use Rattle.std.specs.Prelude.{◌≡◌, ◌+◌, ◌-◌, ◌^◌, ◌<◌, ◌≤◌, ◌++◌, [], IfOk, OnErr, OnOk, length};
 ghost use Rattle.std.specs.Prelude.{slice_index, true, false, string_bytes};
-ghost use Rattle.jiter_incremental.specs.Words.{text_of, name_word, AwaitsKey, AwaitsValue, IsHere, ReadsAsBefore};
+ghost use Rattle.jiter_incremental.specs.Words.{text_of, name_word, AwaitsKey, AwaitsValue, IsHere, IsScalar, KeepsRoom, ReadsAsBefore};
 ghost use Rattle.jiter_incremental.specs.Words.{Steps, HasRoomAt, quote, number_view, begins_decimal};
 ghost use Rattle.jiter_incremental.specs.Words.{is_blank, start_of, nesting_limit, number_tree, HasTaken};
 ghost use Rattle.jiter_incremental.specs.Words.{opening, string, owned_text, tree_as, view};
@@ -79,7 +79,8 @@ impl Reader {
         requires space { HasRoomAt level slot.old }
         requires low { level ≤ nesting_limit }
         requires starts { start_of (slice_index chunk.now self.old.at) ≡ opening kind }
-        ensures { Steps level chunk.now self.old (view slot.old) self.new (view slot.new) result }
+        ensures steps { Steps level chunk.now self.old (view slot.old) self.new (view slot.new) result }
+        ensures token { self.new.token ≡ token_kind.Nothing }
     {
         self.put(slot, level, empty(self.alloc, kind));
         self.depth += 1;
@@ -113,7 +114,8 @@ impl Reader {
         requires low { level ≤ nesting_limit }
         requires starts { start_of (slice_index chunk.now self.old.at) ≡ start.Number }
         requires named { begins_decimal (slice_index chunk.now self.old.at) ≡ false }
-        ensures { Steps level chunk.now self.old (view slot.now) self.new (view slot.now) result }
+        ensures steps { Steps level chunk.now self.old (view slot.now) self.new (view slot.now) result }
+        ensures token { ¬ IsScalar self.new.token }
     {
         if !self.settings.allow_inf_nan {
             self.refuse(FaultKind::ExpectedSomeValue, self.position());
@@ -129,26 +131,26 @@ impl Reader {
     #[inline(never)]
     fn begin_number(
         &mut self,
-        slot: &mut JsonValue<'static>,
+        slot: &JsonValue<'static>,
         level: usize,
         chunk: &[u8],
     ) -> Result<usize, AllocFailed>
-        requires here { IsHere level chunk.now self.old (view slot.old) }
+        requires here { IsHere level chunk.now self.old (view slot.now) }
         requires token { self.old.token ≡ token_kind.Nothing }
-        requires awaited { AwaitsValue level chunk.now self.old (view slot.old) }
+        requires awaited { AwaitsValue level chunk.now self.old (view slot.now) }
         requires other { is_blank (slice_index chunk.now self.old.at) ≡ false }
-        requires space { HasRoomAt level slot.old }
+        requires space { HasRoomAt level slot.now }
         requires low { level ≤ nesting_limit }
         requires begins { begins_decimal (slice_index chunk.now self.old.at) ≡ true }
-        ensures steps { IfOk result (λ n. Steps level chunk.now self.old (view slot.old) self.new (view slot.new) n) }
-        ensures stays { OnErr result (ReadsAsBefore level chunk.now self.old (view slot.old) self.new (view slot.new)) }
+        ensures steps { IfOk result (λ n. Steps level chunk.now self.old (view slot.now) self.new (view slot.now) n) }
+        ensures stays { OnErr result (ReadsAsBefore level chunk.now self.old (view slot.now) self.new (view slot.now)) }
+        ensures room { KeepsRoom level self.new slot.now }
     {
         let (stage, end) = begun_at(chunk, self.at);
         self.number.clear();
         self.number.begin(chunk, self.at, stage, end)?;
         self.begin_token(Token::Number);
         self.awaits = Awaits::Value;
-        self.show(slot, level);
         Ok(end - self.at)
     }
 
@@ -168,6 +170,7 @@ impl Reader {
         requires begins { begins_decimal (slice_index chunk.now self.old.at) ≡ true }
         ensures steps { IfOk result (λ n. Steps level chunk.now self.old (view slot.old) self.new (view slot.new) n) }
         ensures stays { OnErr result (ReadsAsBefore level chunk.now self.old (view slot.old) self.new (view slot.new)) }
+        ensures room { KeepsRoom level self.new slot.new }
     {
         match number_within(chunk, self.at) {
             Some((number, end)) => {
@@ -208,6 +211,7 @@ impl Reader {
         requires quote { slice_index chunk.now self.old.at ≡ quote }
         ensures steps { IfOk result (λ n. Steps level chunk.now self.old (view slot.old) self.new (view slot.new) n) }
         ensures stays { OnErr result (ReadsAsBefore level chunk.now self.old (view slot.old) self.new (view slot.new)) }
+        ensures room { KeepsRoom level self.new slot.new }
     {
         match text_within(self.alloc, &mut self.buffer, chunk, self.at)? {
             Some((text, end)) => {
@@ -217,7 +221,6 @@ impl Reader {
             None => {
                 self.begin_string(Token::Text);
                 self.awaits = Awaits::Value;
-                self.show(slot, level);
                 Ok(1)
             }
         }
@@ -238,7 +241,8 @@ impl Reader {
         requires space { HasRoomAt level slot.old }
         requires low { level ≤ nesting_limit }
         requires starts { start_of (slice_index chunk.now self.old.at) ≡ start.Literal literal }
-        ensures { Steps level chunk.now self.old (view slot.old) self.new (view slot.new) result }
+        ensures steps { Steps level chunk.now self.old (view slot.old) self.new (view slot.new) result }
+        ensures token { ¬ IsScalar self.new.token }
     {
         match fast_literal_end(chunk, self.at, literal) {
             Some(end) => {
@@ -268,6 +272,7 @@ impl Reader {
         requires other { is_blank (slice_index chunk.now self.old.at) ≡ false }
         ensures steps { IfOk result (λ n. Steps level chunk.now self.old (view slot.old) self.new (view slot.new) n) }
         ensures stays { OnErr result (ReadsAsBefore level chunk.now self.old (view slot.old) self.new (view slot.new)) }
+        ensures room { KeepsRoom level self.new slot.new }
     {
         if level > NESTING_LIMIT {
             self.refuse(FaultKind::RecursionLimitExceeded, self.position());
@@ -303,6 +308,7 @@ impl Reader {
         requires awaited { AwaitsKey level chunk.now self.old (view slot.now) }
         ensures steps { IfOk result (λ n. Steps level chunk.now self.old (view slot.now) self.new (view slot.now) n) }
         ensures stays { OnErr result (ReadsAsBefore level chunk.now self.old (view slot.now) self.new (view slot.now)) }
+        ensures token { ¬ IsScalar self.new.token }
     {
         match text_within(self.alloc, &mut self.buffer, chunk, self.at)? {
             Some((text, end)) => {

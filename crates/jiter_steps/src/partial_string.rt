@@ -52,6 +52,17 @@ fn plain_run(chunk: &[u8], at: usize, most: usize) -> &[u8]
     &near[at..string_stop(near, at)]
 }
 
+// Whether a quote ends the string in the chunk. So a string that is cut isn't decoded twice.
+fn is_closed(chunk: &[u8], stop: usize) -> bool
+    requires { stop ≤ length chunk.now }
+{
+    let mut at = stop;
+    while at < chunk.len() && chunk[at] == b'\\' {
+        at = string_stop(chunk, chunk.len().min(at + 2));
+    }
+    at < chunk.len() && chunk[at] == b'"'
+}
+
 #[inline(never)]
 fn decoded_within(
     alloc: Global,
@@ -115,8 +126,10 @@ pub fn text_within(
             Ok(text) => closed_within(alloc, chunk, at, to, text),
             Err(_) => Ok(None),
         },
-        (stop, Look::Escaped(low)) => decoded_within(alloc, buffer, chunk, at, stop, low),
-        (_, Look::Fault(_)) => Ok(None),
+        (stop, Look::Escaped(low)) if is_closed(chunk, stop) => {
+            decoded_within(alloc, buffer, chunk, at, stop, low)
+        }
+        _ => Ok(None),
     }
 }
 

@@ -1,4 +1,5 @@
 -- What the bytes of a string or a key make of a document that arrives in chunks.
+use Rattle.jiter_incremental.proofs.Documents.{same-inside}
 use Rattle.jiter_incremental.proofs.Words.{◌≡◌, ℕ, ◌+◌, ◌-◌, ◌<◌, ◌≤◌, inl, inr, Bool, true, false, List, [], ◌∷◌, ◌++◌}
 use Rattle.jiter_incremental.proofs.Words.{get_or, length, refl, sym, ap, subst, ◌∙◌, arith, append_assoc, append-nil}
 use Rattle.jiter_incremental.proofs.Words.{length-append, get_or-append_seam, slice_get, slice_range, Option, Some}
@@ -29,7 +30,7 @@ use Rattle.jiter_steps.specs.declared.parse.Start.TheVariants as start
 use Rattle.jiter_steps.proofs.Grammar.Places.{IsPlaceKind}
 use Rattle.jiter_steps.proofs.Reading.Bodies.{StopWithin, body_at-long, body_at-within}
 use Rattle.jiter_steps.proofs.Reading.StringForms.{content-kept}
-use Rattle.jiter_incremental.proofs.Documents.{IsInside, ends-inside, known-as, known-in, known-on, noted-some, reads-after, same-inside}
+use Rattle.jiter_incremental.proofs.Documents.{IsInside, ends-inside, known-as, known-in, known-on, noted-some, reads-after}
 use Rattle.jiter_incremental.specs.declared.reader.Token.TheVariants as token
 use Rattle.jiter_incremental.specs.declared.reader.Awaits.TheVariants as awaits
 
@@ -183,9 +184,6 @@ module _ (s : PartialString) (t : List ℕ) (b : ℕ) (h : InString s t b) where
 
     rest-stand : Stands T (b + 1) (b + 1 + length h.rest) h.rest
     rest-stand = subst (λ j. Stands T (b + 1) j h.rest) size all-stand.1
-
-    within : b < length T
-    within = slice_get_within T b 34 quote-here
 
   next-byte : (T u : List ℕ) (c : ℕ) → T ≡ t ++ c ∷ u → slice_get T (b + 1 + length h.rest) ≡ Some c
   next-byte T u c text =

@@ -4,14 +4,14 @@ use Rattle.jiter_incremental.proofs.Arms.{comma-of, comma-passed, container-ends
 use Rattle.jiter_incremental.proofs.Between.{row-end}
 use Rattle.jiter_incremental.proofs.reader.Reader.after.Goals as goal
 
-pub returns-then-level-eq0 : goal.returns-then-level-eq0
-returns-then-level-eq0 c =
+pub returns-then-level-eq0-clause-steps : goal.returns-then-level-eq0-clause-steps
+returns-then-level-eq0-clause-steps c =
     trailed c.args.level c.args.chunk.now c.args.self.now (view c.args.slot.now) c.requires.here c.requires.token
     c.trail.new.self c.if-level-eq0.true c.requires.after c.requires.other c.trail.ensures.still c.trail.ensures.same
     c.trail.ensures.taken
 
-pub returns-then-byte-eq44 : goal.returns-then-byte-eq44
-returns-then-byte-eq44 c =
+pub returns-then-byte-eq44-clause-steps : goal.returns-then-byte-eq44-clause-steps
+returns-then-byte-eq44-clause-steps c =
     let i = c.args.self.now in
     let v = view c.args.slot.now in
     let level = c.args.level in
@@ -21,8 +21,8 @@ returns-then-byte-eq44 c =
     (comma-of level chunk i v c.requires.here c.requires.token some c.requires.after) tt c.requires.other refl
     c.if-byte-eq44.true
 
-pub returns-then-byte-closer : goal.returns-then-byte-closer
-returns-then-byte-closer c =
+pub returns-then-byte-closer-clause-steps : goal.returns-then-byte-closer-clause-steps
+returns-then-byte-closer-clause-steps c =
     let i = c.args.self.now in
     let v = view c.args.slot.now in
     let level = c.args.level in

@@ -6,8 +6,8 @@ use Rattle.jiter_incremental.proofs.NumberBegins.{name-of, name-refused}
 use Rattle.jiter_incremental.proofs.Placing.{word-step}
 use Rattle.jiter_incremental.proofs.reader.Reader.begin_float_name.Goals as goal
 
-pub returns-then-not-self : goal.returns-then-not-self
-returns-then-not-self c =
+pub returns-then-not-self-clause-steps : goal.returns-then-not-self-clause-steps
+returns-then-not-self-clause-steps c =
     let i = c.args.self.now in
     let level = c.args.level in
     let chunk = c.args.chunk.now in
@@ -19,8 +19,8 @@ returns-then-not-self c =
     (name-refused level chunk i v c.requires.here c.requires.token c.requires.awaited c.requires.other c.requires.low
     k.0 k.1 c.if-not-self.true)
 
-pub returns-then-chunk-self-eq78 : goal.returns-then-chunk-self-eq78
-returns-then-chunk-self-eq78 c =
+pub returns-then-chunk-self-eq78-clause-steps : goal.returns-then-chunk-self-eq78-clause-steps
+returns-then-chunk-self-eq78-clause-steps c =
     let i = c.args.self.now in
     let level = c.args.level in
     let chunk = c.args.chunk.now in
@@ -31,8 +31,8 @@ returns-then-chunk-self-eq78 c =
     c.begin_word.new.self.word c.requires.low c.requires.starts c.if-not-self.false
     (subst (WordBegins name.NaN) (sym is) nan-begins.allowed) c.begin_word.ensures.word.0 c.begin_word.ensures.word.1)
 
-pub returns-else-chunk-self-eq78 : goal.returns-else-chunk-self-eq78
-returns-else-chunk-self-eq78 c =
+pub returns-else-chunk-self-eq78-clause-steps : goal.returns-else-chunk-self-eq78-clause-steps
+returns-else-chunk-self-eq78-clause-steps c =
     let i = c.args.self.now in
     let level = c.args.level in
     let chunk = c.args.chunk.now in

@@ -1,7 +1,8 @@
-use Rattle.jiter_incremental.proofs.Words.{◌-◌, ap, subst, sym, ◌∙◌, view, AsRead, Steps, with_shown, Reader}
+use Rattle.jiter_incremental.proofs.NumberBegins.{number-kept}
+use Rattle.jiter_incremental.proofs.Words.{◌-◌, subst, sym, view, Steps, Reader}
 use Rattle.jiter_incremental.specs.declared.reader.Awaits.TheVariants as awaits
 use Rattle.jiter_incremental.proofs.Documents.Blanks.{if-refused}
-use Rattle.jiter_incremental.proofs.NumberBegins.{number-kept, stays-so}
+use Rattle.jiter_incremental.proofs.NumberBegins.{stays-so}
 use Rattle.jiter_incremental.proofs.reader.Reader.begin_number.Goals as goal
 
 pub returns-in_err-begin-clause-stays : goal.returns-in_err-begin-clause-stays
@@ -17,15 +18,9 @@ returns-clause-steps c =
     let level = c.args.level in
     let chunk = c.args.chunk.now in
     let v = view c.args.slot.now in
-    let j = c.show.new.self in
-    let w = view c.show.new.slot in
     let e = c.begun_at-stage.result.1 in
     let begun = λ (r : Reader). record r { awaits = awaits.Value } in
     let there = c.begun_at-stage.ensures in
-    let is = c.begin_token.ensures in
-    let same = c.show.ensures.same ∙ ap (λ r. with_shown (begun r) j.shown j.number j.string j.key) is in
-    let place = ap (λ (r : Reader). r.at) same in
-    let shows = subst (λ r. AsRead level (begun r) v j w) is c.show.ensures.shows in
-    subst (λ n. Steps level chunk i v j w (e - n)) (sym place)
+    subst (λ r. Steps level chunk i v (begun r) v (e - (begun r).at)) (sym c.begin_token.ensures)
     (number-kept level chunk i v c.requires.here c.requires.token c.requires.awaited c.requires.other c.requires.low
-    c.requires.begins c.begin.new.self e there.ahead there.within c.in_ok-begin.ensures.held j w shows c.show.ensures.complete same)
+    c.requires.begins c.begin.new.self e there.ahead there.within c.in_ok-begin.ensures.held)

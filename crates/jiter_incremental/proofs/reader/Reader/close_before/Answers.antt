@@ -4,8 +4,8 @@ use Rattle.jiter_incremental.specs.declared.reader.Awaits.TheVariants as awaits
 use Rattle.jiter_incremental.proofs.Arms.{between-some, container-misses, container-refused, comma-between}
 use Rattle.jiter_incremental.proofs.reader.Reader.close_before.Goals as goal
 
-pub returns-then-not-is_active : goal.returns-then-not-is_active
-returns-then-not-is_active c =
+pub returns-then-not-is_active-clause-steps : goal.returns-then-not-is_active-clause-steps
+returns-then-not-is_active-clause-steps c =
     let i = c.args.self.now in
     let v = view c.args.slot.now in
     let level = c.args.level in
@@ -20,8 +20,8 @@ returns-then-not-is_active c =
     (c.requires.missing b xs whole, c.comma_kind-kind.ensures ∙ ap comma_kind_of (c.kind_of.ensures b xs whole)))
     (sym c.is_active.ensures ∙ c.if-not-is_active.true))
 
-pub returns : goal.returns
-returns c =
+pub returns-clause-steps : goal.returns-clause-steps
+returns-clause-steps c =
     let i = c.args.self.now in
     let v = view c.args.slot.now in
     let level = c.args.level in

@@ -6,37 +6,37 @@ pub overflow_add-index-2 : goal.overflow_add-index-2
 overflow_add-index-2 c =
     let h = c.requires.here in
     let low =
-    quote-low c.args.level c.args.chunk.now c.args.self.now (view c.args.slot.now) h c.requires.hidden c.requires.token c.requires.quote
+    quote-low c.args.level c.args.chunk.now c.args.self.now (view c.args.slot.now) h c.requires.token c.requires.quote
     c.requires.whole in
     omega (arith, low, ap length c.text.ensures, h.room, h.inside)
 
-pub returns-then-is_text : goal.returns-then-is_text
-returns-then-is_text c =
+pub returns-then-is_text-clause-steps : goal.returns-then-is_text-clause-steps
+returns-then-is_text-clause-steps c =
     quote-whole-put c.args.level c.args.chunk.now c.args.self.now (view c.args.slot.now) c.requires.here
-    c.requires.hidden c.requires.token c.requires.quote c.requires.whole c.if-is_text.ensures.closed c.put_text.new.self
+    c.requires.token c.requires.quote c.requires.whole c.if-is_text.ensures.closed c.put_text.new.self
     (view c.put_text.new.slot)
     record { text = c.put_text.ensures.text; key = c.put_text.ensures.key }
 
-pub returns-then-is_text-2 : goal.returns-then-is_text-2
-returns-then-is_text-2 c =
+pub returns-then-is_text-2-clause-steps : goal.returns-then-is_text-2-clause-steps
+returns-then-is_text-2-clause-steps c =
     let i = c.args.self.now in
     let place = ap (λ (x : List ℕ). i.begin + 1 + length x) c.text.ensures in
     let put : IsPutSo c.args.level c.note.new.self (view c.args.slot.now) c.put_text-then-is_text-2.new.self
     (view c.put_text-then-is_text-2.new.slot) =
     record { text = c.put_text-then-is_text-2.ensures.text; key = c.put_text-then-is_text-2.ensures.key } in
-    quote-kept-put c.args.level c.args.chunk.now i (view c.args.slot.now) c.requires.here c.requires.hidden c.requires.token
+    quote-kept-put c.args.level c.args.chunk.now i (view c.args.slot.now) c.requires.here c.requires.token
     c.requires.quote c.requires.whole c.keeps-kept.result c.keeps-kept.ensures.text c.keeps-kept.ensures.key
     c.if-is_text.ensures.closed _ place c.if-is_text-2.ensures.closed c.put_text-then-is_text-2.new.self
     (view c.put_text-then-is_text-2.new.slot)
     (subst (λ (r : Reader). IsPutSo c.args.level r (view c.args.slot.now) c.put_text-then-is_text-2.new.self
     (view c.put_text-then-is_text-2.new.slot)) c.note.ensures put)
 
-pub returns-else-is_text-2 : goal.returns-else-is_text-2
-returns-else-is_text-2 c =
+pub returns-else-is_text-2-clause-steps : goal.returns-else-is_text-2-clause-steps
+returns-else-is_text-2-clause-steps c =
     let i = c.args.self.now in
     let v = view c.args.slot.now in
     let place = ap (λ (x : List ℕ). i.begin + 1 + length x) c.text.ensures in
     subst (λ (j : Reader). Steps c.args.level c.args.chunk.now i v j v 1) (sym c.refuse.ensures)
-    (quote-refused c.args.level c.args.chunk.now i v c.requires.here c.requires.hidden c.requires.token
+    (quote-refused c.args.level c.args.chunk.now i v c.requires.here c.requires.token
     c.requires.quote c.requires.whole c.keeps-kept.result c.keeps-kept.ensures.text c.keeps-kept.ensures.key
     c.if-is_text.ensures.closed _ place c.if-is_text-2.ensures.closed)

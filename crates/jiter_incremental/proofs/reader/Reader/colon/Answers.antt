@@ -3,8 +3,8 @@ use Rattle.jiter_scan.specs.declared.errors.FaultKind.TheVariants as fault_of
 use Rattle.jiter_incremental.proofs.Arms.{colon-missed, colon-passed}
 use Rattle.jiter_incremental.proofs.reader.Reader.colon.Goals as goal
 
-pub returns-then-byte-ne58 : goal.returns-then-byte-ne58
-returns-then-byte-ne58 c =
+pub returns-then-byte-ne58-clause-steps : goal.returns-then-byte-ne58-clause-steps
+returns-then-byte-ne58-clause-steps c =
     let i = c.args.self.now in
     let v = view c.args.slot.now in
     let chunk = c.args.chunk.now in
@@ -13,8 +13,8 @@ returns-then-byte-ne58 c =
     (colon-missed c.args.level chunk i v c.requires.here c.requires.token c.requires.awaits c.requires.other
     (ne_eqb (slice_index chunk i.at) 58 c.if-byte-ne58.true))
 
-pub returns : goal.returns
-returns c =
+pub returns-clause-steps : goal.returns-clause-steps
+returns-clause-steps c =
     let i = c.args.self.now in
     let chunk = c.args.chunk.now in
     colon-passed c.args.level chunk i (view c.args.slot.now) c.requires.here c.requires.token c.requires.awaits

@@ -3,8 +3,8 @@ use Rattle.jiter_incremental.proofs.Words.{text_view, Tree, owned_text, tree_as,
 use Rattle.jiter_incremental.proofs.NumberSteps.{ended-blank, ended-here, ended-then}
 use Rattle.jiter_incremental.proofs.reader.Reader.end_number.Goals as goal
 
-pub returns-then-is_blank : goal.returns-then-is_blank
-returns-then-is_blank c =
+pub returns-then-is_blank-clause-steps : goal.returns-then-is_blank-clause-steps
+returns-then-is_blank-clause-steps c =
     let i = c.args.self.now in
     let level = c.args.level in
     let chunk = c.args.chunk.now in
@@ -15,7 +15,7 @@ returns-then-is_blank c =
     ∙ ap (λ (x : Number). tree_as owned_text (number_tree x)) c.take_value.ensures.value in
     let put = subst (λ (x : Tree). IsPut level v (text_view i.key) x w) tree c.put.ensures.put in
     subst (λ (j : Reader). Steps level chunk i v j w 1) (sym c.put.ensures.is)
-    (ended-blank level chunk i v r.here r.hidden r.token r.leads c.take_value.new.self c.put.new.self.key w put
+    (ended-blank level chunk i v r.here r.token r.leads c.take_value.new.self c.put.new.self.key w put
     (subst (λ (j : Reader). is_blank (slice_index chunk j.at) ≡ true) c.put.ensures.is
     (sym c.is_blank.ensures ∙ c.if-is_blank.true)))
 
@@ -31,10 +31,10 @@ after-requires-clause-here c =
     ∙ ap (λ (x : Number). tree_as owned_text (number_tree x)) c.take_value.ensures.value in
     let put = subst (λ (x : Tree). IsPut level v (text_view i.key) x w) tree c.put.ensures.put in
     subst (λ (j : Reader). IsHere level chunk j w) (sym c.put.ensures.is)
-    (ended-here level chunk i v r.here r.hidden r.token r.leads c.take_value.new.self c.put.new.self.key w put)
+    (ended-here level chunk i v r.here r.token r.leads c.take_value.new.self c.put.new.self.key w put)
 
-pub returns : goal.returns
-returns c =
+pub returns-clause-steps : goal.returns-clause-steps
+returns-clause-steps c =
     let i = c.args.self.now in
     let level = c.args.level in
     let chunk = c.args.chunk.now in
@@ -46,5 +46,5 @@ returns c =
     let put = subst (λ (x : Tree). IsPut level v (text_view i.key) x w) tree c.put.ensures.put in
     let j = c.after.new.self in
     let n = c.after.result in
-    ended-then level chunk i v r.here r.hidden r.token r.leads c.take_value.new.self c.put.new.self.key w put j w n
-    (subst (λ (m : Reader). Steps level chunk m w j w n) c.put.ensures.is c.after.ensures)
+    ended-then level chunk i v r.here r.token r.leads c.take_value.new.self c.put.new.self.key w put j w n
+    (subst (λ (m : Reader). Steps level chunk m w j w n) c.put.ensures.is c.after.ensures.steps)

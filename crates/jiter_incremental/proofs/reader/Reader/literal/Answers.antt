@@ -5,8 +5,8 @@ use Rattle.jiter_incremental.specs.declared.names.WordValue.TheVariants as name
 use Rattle.jiter_incremental.proofs.Documents.WholeTokens.{literal-scalar}
 use Rattle.jiter_incremental.proofs.reader.Reader.literal.Goals as goal
 
-pub returns-in-Some : goal.returns-in-Some
-returns-in-Some c =
+pub returns-in-Some-clause-steps : goal.returns-in-Some-clause-steps
+returns-in-Some-clause-steps c =
     let i = c.args.self.now in
     let level = c.args.level in
     let chunk = c.args.chunk.now in
@@ -19,8 +19,8 @@ returns-in-Some c =
     (scalar-put level chunk i v c.requires.here c.requires.token c.requires.awaited c.requires.other c.put.new.self.key _ w e
     c.requires.low put (literal-scalar chunk i.at c.args.literal e c.requires.starts found.value found.within.0 found.within.1))
 
-pub returns-in-None : goal.returns-in-None
-returns-in-None c =
+pub returns-in-None-clause-steps : goal.returns-in-None-clause-steps
+returns-in-None-clause-steps c =
     let i = c.args.self.now in
     let level = c.args.level in
     let chunk = c.args.chunk.now in

@@ -5,8 +5,8 @@ use Rattle.jiter_incremental.proofs.Arms.{before-some, container-ends, part-refu
 use Rattle.jiter_incremental.proofs.Between.{RowIs, between-of, next-of, row-first-end, row-next-end, row-no-part}
 use Rattle.jiter_incremental.proofs.reader.Reader.no_part.Goals as goal
 
-pub returns-then-byte-closer : goal.returns-then-byte-closer
-returns-then-byte-closer c =
+pub returns-then-byte-closer-clause-steps : goal.returns-then-byte-closer-clause-steps
+returns-then-byte-closer-clause-steps c =
     let i = c.args.self.now in
     let v = view c.args.slot.now in
     let level = c.args.level in
@@ -21,8 +21,8 @@ returns-then-byte-closer c =
     (λ same.
     c.if-byte-closer.true (same ∙ sym (c.closer-closer.ensures ∙ ap closer_of (c.kind_of.ensures b xs whole))))))
 
-pub returns-then-is_first : goal.returns-then-is_first
-returns-then-is_first c =
+pub returns-then-is_first-clause-steps : goal.returns-then-is_first-clause-steps
+returns-then-is_first-clause-steps c =
     let i = c.args.self.now in
     let v = view c.args.slot.now in
     let level = c.args.level in
@@ -37,8 +37,8 @@ returns-then-is_first c =
     (row-first-end b byte (c.requires.none b xs whole)
     (c.if-byte-closer.false ∙ c.closer-closer.ensures ∙ ap closer_of (c.kind_of.ensures b xs whole)))))
 
-pub returns : goal.returns
-returns c =
+pub returns-clause-steps : goal.returns-clause-steps
+returns-clause-steps c =
     let i = c.args.self.now in
     let v = view c.args.slot.now in
     let level = c.args.level in

@@ -4,8 +4,8 @@ use Rattle.jiter_incremental.proofs.Arms.{turned}
 use Rattle.jiter_incremental.proofs.Placing.{container-opens}
 use Rattle.jiter_incremental.proofs.reader.Reader.open.Goals as goal
 
-pub returns : goal.returns
-returns c =
+pub returns-clause-steps : goal.returns-clause-steps
+returns-clause-steps c =
     let i = c.args.self.now in
     let put = subst (λ (x : Tree). IsPut c.args.level (view c.args.slot.now) (text_view i.key) x (view c.put.new.slot))
     c.empty.ensures c.put.ensures.put in

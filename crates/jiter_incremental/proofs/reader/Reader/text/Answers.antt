@@ -1,5 +1,5 @@
-use Rattle.jiter_incremental.proofs.Words.{◌-◌, ◌∙◌, ap, subst, sym, string_bytes, text_view, Tree, view, AsRead, Steps}
-use Rattle.jiter_incremental.proofs.Words.{with_shown, IsPut, Reader}
+use Rattle.jiter_incremental.proofs.Words.{◌-◌, subst, sym, string_bytes, text_view, Tree, view, Steps}
+use Rattle.jiter_incremental.proofs.Words.{IsPut, Reader}
 use Rattle.jiter_incremental.specs.declared.reader.Awaits.TheVariants as awaits
 use Rattle.jiter_incremental.proofs.Documents.Blanks.{if-refused}
 use Rattle.jiter_incremental.proofs.Documents.WholeTokens.{text-scalar}
@@ -36,11 +36,7 @@ returns-in-None-clause-steps c =
     let level = c.args.level in
     let chunk = c.args.chunk.now in
     let v = view c.args.slot.now in
-    let j = c.show.new.self in
-    let w = view c.show.new.slot in
     let begun = λ (r : Reader). record r { awaits = awaits.Value } in
-    let is = c.begin_string.ensures.is in
-    let same = c.show.ensures.same ∙ ap (λ r. with_shown (begun r) j.shown j.number j.string j.key) is in
-    let shows = subst (λ r. AsRead level (begun r) v j w) is c.show.ensures.shows in
-    text-kept level chunk i v c.requires.here c.requires.token c.requires.awaited c.requires.other c.requires.low
-    c.requires.quote c.begin_string.new.self.string c.text_within.new.buffer c.begin_string.ensures.string j w shows c.show.ensures.complete same
+    subst (λ r. Steps level chunk i v (begun r) v 1) (sym c.begin_string.ensures.is)
+    (text-kept level chunk i v c.requires.here c.requires.token c.requires.awaited c.requires.other c.requires.low
+    c.requires.quote c.begin_string.new.self.string c.text_within.new.buffer c.begin_string.ensures.string)
