@@ -1,9 +1,9 @@
 -- Where a node of a document comes next, calls of the pull reader reply by its value.
-use Rattle.jiter.proofs.Words.{◌≡◌, ◌∙◌, ◌≤◌, ℕ, Bool, true, false, List, length, arith, refl, sym, ap, subst, Option}
+use Rattle.jiter.proofs.Words.{◌≡◌, ◌∙◌, ◌≤◌, ℕ, Bool, true, false, List, length, arith, refl, sym, ap, subst}
 use Rattle.jiter.proofs.Words.{slice_get, slice_index, slice_range, if◌then◌else◌, get_or_from_slice_get, Number}
 use Rattle.jiter.proofs.Words.{integer, big, float, number_value, Integer, int_seen, float_seen, int_at, number_at}
 use Rattle.jiter.proofs.Words.{Scanned, taken, failed, seen_as, start_of, Node, begin, end, value_of, Form, kept}
-use Rattle.jiter.proofs.Words.{string_at, Text, begins-value, start_is, ValueType, null, string, bool, array, object}
+use Rattle.jiter.proofs.Words.{string_at, begins-value, start_is, ValueType, null, string, bool, array, object}
 use Rattle.jiter.proofs.Words.{wrong_type, ReaderState, gave, refused, next, refused_as, array_read, integer_reply}
 use Rattle.jiter.proofs.Words.{scalar_reply, string_read, str_read, bool_read, int_read, object_read, if_byte}
 use Rattle.jiter.proofs.Words.{null_read, number_read, number_bytes_read, peek, value_read, value_reply}
@@ -22,7 +22,7 @@ use Rattle.jiter.specs.Telling.{tree_start, tree_type, other_type, str_told, boo
 use Rattle.jiter.specs.Telling.{number_told, number_bytes_told, Tells}
 use Rattle.jiter.proofs.Integers.{AgreeAsInteger, IsWhole, int_at-number}
 use Rattle.jiter.proofs.Members.{read-spelled}
-use Rattle.jiter.proofs.Walking.{ComesNext, IsNoArray, IsNoObject, gave-refused, next-reads, skip-passes}
+use Rattle.jiter.proofs.Walking.{ComesNext, IsNoArray, IsNoObject, next-reads, skip-passes}
 
 type-is : (n : Number) → number_type n ≡ tree_type (number_tree n)
 type-is (integer z) = refl
@@ -240,8 +240,3 @@ module _ (s : ReaderState) where
     by (grammar.string ps b e) h other = refl
     by (grammar.object b e ms) h other = refl
     by (grammar.array b e ns) h other = absurd other
-
--- It gives no key.
-pub no_object-refused : (f : Form) (s : ReaderState) (n : Node) (o : Option Text) (i : ℕ) → ComesNext s n
-    → IsNoObject n → next s (object_read f s) ≡ gave o i → ⊥
-no_object-refused f s n o i h other is = gave-refused (sym is ∙ object-refused s f n h other)
