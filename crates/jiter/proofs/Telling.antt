@@ -29,33 +29,20 @@ type-is (integer z) = refl
 type-is (big w) = refl
 type-is (float w) = refl
 
--- a number is neither a text nor a truth
-no_text : (n : Number) (b e : ℕ) → str_told (number_tree n) b e ≡ other_type string (number_tree n) b
-no_text (integer z) b e = refl
-no_text (big w) b e = refl
-no_text (float w) b e = refl
-
-no_truth : (n : Number) (b e : ℕ) → bool_told (number_tree n) b e ≡ other_type bool (number_tree n) b
-no_truth (integer z) b e = refl
-no_truth (big w) b e = refl
-no_truth (float w) b e = refl
-
-no_null : (n : Number) (b e : ℕ) → null_told (number_tree n) b e ≡ other_type null (number_tree n) b
-no_null (integer z) b e = refl
-no_null (big w) b e = refl
-no_null (float w) b e = refl
+-- a number is no text, no truth value and no null
+no_other : (n : Number) (b e : ℕ) → (str_told (number_tree n) b e ≡ other_type string (number_tree n) b)
+    × (bool_told (number_tree n) b e ≡ other_type bool (number_tree n) b)
+    × (null_told (number_tree n) b e ≡ other_type null (number_tree n) b)
+no_other (integer z) b e = (refl, refl, refl)
+no_other (big w) b e = (refl, refl, refl)
+no_other (float w) b e = (refl, refl, refl)
 
 -- what a number gives
-number-gives : (n : Number) (b e : ℕ) → number_told (number_tree n) b e ≡ gave n e
-number-gives (integer z) b e = refl
-number-gives (big w) b e = refl
-number-gives (float w) b e = refl
-
-number_bytes-gives : (t : List ℕ) (n : Number) (b e : ℕ)
-    → number_bytes_told t (number_tree n) b e ≡ gave (slice_range t b e) e
-number_bytes-gives t (integer z) b e = refl
-number_bytes-gives t (big w) b e = refl
-number_bytes-gives t (float w) b e = refl
+number-gives : (t : List ℕ) (n : Number) (b e : ℕ) → (number_told (number_tree n) b e ≡ gave n e)
+    × (number_bytes_told t (number_tree n) b e ≡ gave (slice_range t b e) e)
+number-gives t (integer z) b e = (refl, refl)
+number-gives t (big w) b e = (refl, refl)
+number-gives t (float w) b e = (refl, refl)
 
 number-starts : (n : Number) → start.Number ≡ tree_start (number_tree n)
 number-starts (integer z) = refl
@@ -111,7 +98,7 @@ module _ (s : ReaderState) where
   string-told f whole (grammar.literal literal.True b e) h = refl
   string-told f whole (grammar.literal literal.False b e) h = refl
   string-told f whole (grammar.number b e) h =
-      refusal-told string (grammar.number b e) h ∙ sym (no_text (number_value (slice_range s.text b e)) b e)
+      refusal-told string (grammar.number b e) h ∙ sym (no_other (number_value (slice_range s.text b e)) b e).0
   string-told f whole (grammar.array b e ns) h = refl
   string-told f whole (grammar.object b e ms) h = refl
 
@@ -125,7 +112,7 @@ module _ (s : ReaderState) where
       ap (λ x. scalar_reply b (seen_as (λ u e. false) x))
       (word_at-complete s.text (word_of literal.False) b e h.stands.spelled)
   truth-told (grammar.number b e) h =
-      refusal-told bool (grammar.number b e) h ∙ sym (no_truth (number_value (slice_range s.text b e)) b e)
+      refusal-told bool (grammar.number b e) h ∙ sym (no_other (number_value (slice_range s.text b e)) b e).1
   truth-told (grammar.string ps b e) h = refl
   truth-told (grammar.array b e ns) h = refl
   truth-told (grammar.object b e ms) h = refl
@@ -150,7 +137,7 @@ module _ (s : ReaderState) where
   null-told (grammar.literal literal.True b e) h = refl
   null-told (grammar.literal literal.False b e) h = refl
   null-told (grammar.number b e) h =
-      refusal-told null (grammar.number b e) h ∙ sym (no_null (number_value (slice_range s.text b e)) b e)
+      refusal-told null (grammar.number b e) h ∙ sym (no_other (number_value (slice_range s.text b e)) b e).2
   null-told (grammar.string ps b e) h = refl
   null-told (grammar.array b e ns) h = refl
   null-told (grammar.object b e ms) h = refl
@@ -158,7 +145,7 @@ module _ (s : ReaderState) where
   number-told : (n : Node) → ComesNext s n
       → number_read s (begin n) (start_is n) ≡ number_told (value_of s.text n) (begin n) (end n)
   number-told (grammar.number b e) h =
-      ap (scalar_reply b) (number-read b e h) ∙ sym (number-gives (number_value (slice_range s.text b e)) b e)
+      ap (scalar_reply b) (number-read b e h) ∙ sym (number-gives s.text (number_value (slice_range s.text b e)) b e).0
   number-told (grammar.literal literal.Null b e) h = refl
   number-told (grammar.literal literal.True b e) h = refl
   number-told (grammar.literal literal.False b e) h = refl
@@ -170,7 +157,7 @@ module _ (s : ReaderState) where
       → number_bytes_read s (begin n) (start_is n) ≡ number_bytes_told s.text (value_of s.text n) (begin n) (end n)
   number_bytes-told (grammar.number b e) h =
       ap (λ x. scalar_reply b (seen_as (λ n i. slice_range s.text b i) x)) (number-read b e h)
-      ∙ sym (number_bytes-gives s.text (number_value (slice_range s.text b e)) b e)
+      ∙ sym (number-gives s.text (number_value (slice_range s.text b e)) b e).1
   number_bytes-told (grammar.literal literal.Null b e) h = refl
   number_bytes-told (grammar.literal literal.True b e) h = refl
   number_bytes-told (grammar.literal literal.False b e) h = refl
