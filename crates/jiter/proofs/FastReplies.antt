@@ -5,7 +5,7 @@ use Rattle.jiter.proofs.Words.{get_or_from_slice_get, slice_get-get_or, slice_ge
 use Rattle.jiter.proofs.Words.{number_at, with_value, Scanned, taken, failed, seen_as, start_of, ReadError, colon, more}
 use Rattle.jiter.proofs.Words.{step, WantsMemory, between, Form, string_at, text_form, whole, Text, past_blanks-after}
 use Rattle.jiter.proofs.Words.{string_at-within, false, IsErrorAt, MovesOn, key_bytes, reply_seen, text_bytes}
-use Rattle.jiter.proofs.Words.{ReaderState, Refusal, Reply, gave, refused, scalar_reply, colon_reply, key_reply}
+use Rattle.jiter.proofs.Words.{ReaderState, Refusal, gave, refused, scalar_reply, colon_reply, key_reply}
 use Rattle.jiter.proofs.Words.{with_position, value_place, next, if_byte, member_reply, number_bytes_read, str_read}
 use Rattle.jiter.proofs.Words.{Reads, never, string_memory, JiterError, option_map}
 use Rattle.std.proofs.Common.{Bor}
@@ -254,22 +254,6 @@ undecoded view seen v s i x e is place quote needs wrong = subst P (sym is) (by 
           ),
         );
       }
-
--- The number at the reader's position ends at e.
-pub number-given : {X A : Type 0} (view : X → A) (a : X) (reply : ReaderState → Reply A) (v s : ReaderState) (i j e : ℕ)
-    → v ≡ s → v.position ≡ i → i ≤ j → j < e → e ≤ length v.text → reply v ≡ gave (view a) e
-    → Reads never view (reply s) (Ok a) s (with_position v e)
-number-given view a reply v s i j e is here start some within value = subst P is by-v where
-  P : ReaderState → Type 0
-  P s = Reads never view (reply s) (Ok a) s (with_position v e)
-
-  by-v : P v
-  by-v = record {
-    moves = record { same = refl; forward = omega (arith, here, start, some); within = within };
-    value = value;
-    index = tt;
-    memory = tt;
-  }
 
 -- The text of a string whose closing quote is at e, as it is in the document.
 pub plain-closed : (t : List ℕ) (i e : ℕ) (text : List ℕ) → text ≡ slice_range t (i + 1) e

@@ -12,5 +12,4 @@ pub mod Refusals
 pub mod SkipReplies
 pub mod Telling
 pub mod Walking
-mod Rows
 pub mod Words

@@ -1,9 +1,9 @@
 -- Where a node of a document comes next, calls of the pull reader reply by its value.
-use Rattle.jiter.proofs.Words.{◌≡◌, ◌∙◌, ◌≤◌, ℕ, Bool, true, false, List, length, arith, refl, sym, ap, subst, Option}
+use Rattle.jiter.proofs.Words.{◌≡◌, ◌∙◌, ◌≤◌, ℕ, Bool, true, false, List, length, arith, refl, sym, ap, subst}
 use Rattle.jiter.proofs.Words.{slice_get, slice_index, slice_range, if◌then◌else◌, get_or_from_slice_get, Number}
 use Rattle.jiter.proofs.Words.{integer, big, float, number_value, Integer, int_seen, float_seen, int_at, number_at}
 use Rattle.jiter.proofs.Words.{Scanned, taken, failed, seen_as, start_of, Node, begin, end, value_of, Form, kept}
-use Rattle.jiter.proofs.Words.{string_at, Text, begins-value, start_is, ValueType, null, string, bool, array, object}
+use Rattle.jiter.proofs.Words.{string_at, begins-value, start_is, ValueType, null, string, bool, array, object}
 use Rattle.jiter.proofs.Words.{wrong_type, ReaderState, gave, refused, next, refused_as, array_read, integer_reply}
 use Rattle.jiter.proofs.Words.{scalar_reply, string_read, str_read, bool_read, int_read, object_read, if_byte}
 use Rattle.jiter.proofs.Words.{null_read, number_read, number_bytes_read, peek, value_read, value_reply}
@@ -22,40 +22,27 @@ use Rattle.jiter.specs.Telling.{tree_start, tree_type, other_type, str_told, boo
 use Rattle.jiter.specs.Telling.{number_told, number_bytes_told, Tells}
 use Rattle.jiter.proofs.Integers.{AgreeAsInteger, IsWhole, int_at-number}
 use Rattle.jiter.proofs.Members.{read-spelled}
-use Rattle.jiter.proofs.Walking.{ComesNext, IsNoArray, IsNoObject, gave-refused, next-reads, skip-passes}
+use Rattle.jiter.proofs.Walking.{ComesNext, IsNoArray, IsNoObject, next-reads, skip-passes}
 
 type-is : (n : Number) → number_type n ≡ tree_type (number_tree n)
 type-is (integer z) = refl
 type-is (big w) = refl
 type-is (float w) = refl
 
--- a number is neither a text nor a truth
-no_text : (n : Number) (b e : ℕ) → str_told (number_tree n) b e ≡ other_type string (number_tree n) b
-no_text (integer z) b e = refl
-no_text (big w) b e = refl
-no_text (float w) b e = refl
-
-no_truth : (n : Number) (b e : ℕ) → bool_told (number_tree n) b e ≡ other_type bool (number_tree n) b
-no_truth (integer z) b e = refl
-no_truth (big w) b e = refl
-no_truth (float w) b e = refl
-
-no_null : (n : Number) (b e : ℕ) → null_told (number_tree n) b e ≡ other_type null (number_tree n) b
-no_null (integer z) b e = refl
-no_null (big w) b e = refl
-no_null (float w) b e = refl
+-- a number is no text, no truth value and no null
+no_other : (n : Number) (b e : ℕ) → (str_told (number_tree n) b e ≡ other_type string (number_tree n) b)
+    × (bool_told (number_tree n) b e ≡ other_type bool (number_tree n) b)
+    × (null_told (number_tree n) b e ≡ other_type null (number_tree n) b)
+no_other (integer z) b e = (refl, refl, refl)
+no_other (big w) b e = (refl, refl, refl)
+no_other (float w) b e = (refl, refl, refl)
 
 -- what a number gives
-number-gives : (n : Number) (b e : ℕ) → number_told (number_tree n) b e ≡ gave n e
-number-gives (integer z) b e = refl
-number-gives (big w) b e = refl
-number-gives (float w) b e = refl
-
-number_bytes-gives : (t : List ℕ) (n : Number) (b e : ℕ)
-    → number_bytes_told t (number_tree n) b e ≡ gave (slice_range t b e) e
-number_bytes-gives t (integer z) b e = refl
-number_bytes-gives t (big w) b e = refl
-number_bytes-gives t (float w) b e = refl
+number-gives : (t : List ℕ) (n : Number) (b e : ℕ) → (number_told (number_tree n) b e ≡ gave n e)
+    × (number_bytes_told t (number_tree n) b e ≡ gave (slice_range t b e) e)
+number-gives t (integer z) b e = (refl, refl)
+number-gives t (big w) b e = (refl, refl)
+number-gives t (float w) b e = (refl, refl)
 
 number-starts : (n : Number) → start.Number ≡ tree_start (number_tree n)
 number-starts (integer z) = refl
@@ -111,7 +98,7 @@ module _ (s : ReaderState) where
   string-told f whole (grammar.literal literal.True b e) h = refl
   string-told f whole (grammar.literal literal.False b e) h = refl
   string-told f whole (grammar.number b e) h =
-      refusal-told string (grammar.number b e) h ∙ sym (no_text (number_value (slice_range s.text b e)) b e)
+      refusal-told string (grammar.number b e) h ∙ sym (no_other (number_value (slice_range s.text b e)) b e).0
   string-told f whole (grammar.array b e ns) h = refl
   string-told f whole (grammar.object b e ms) h = refl
 
@@ -125,7 +112,7 @@ module _ (s : ReaderState) where
       ap (λ x. scalar_reply b (seen_as (λ u e. false) x))
       (word_at-complete s.text (word_of literal.False) b e h.stands.spelled)
   truth-told (grammar.number b e) h =
-      refusal-told bool (grammar.number b e) h ∙ sym (no_truth (number_value (slice_range s.text b e)) b e)
+      refusal-told bool (grammar.number b e) h ∙ sym (no_other (number_value (slice_range s.text b e)) b e).1
   truth-told (grammar.string ps b e) h = refl
   truth-told (grammar.array b e ns) h = refl
   truth-told (grammar.object b e ms) h = refl
@@ -150,7 +137,7 @@ module _ (s : ReaderState) where
   null-told (grammar.literal literal.True b e) h = refl
   null-told (grammar.literal literal.False b e) h = refl
   null-told (grammar.number b e) h =
-      refusal-told null (grammar.number b e) h ∙ sym (no_null (number_value (slice_range s.text b e)) b e)
+      refusal-told null (grammar.number b e) h ∙ sym (no_other (number_value (slice_range s.text b e)) b e).2
   null-told (grammar.string ps b e) h = refl
   null-told (grammar.array b e ns) h = refl
   null-told (grammar.object b e ms) h = refl
@@ -158,7 +145,7 @@ module _ (s : ReaderState) where
   number-told : (n : Node) → ComesNext s n
       → number_read s (begin n) (start_is n) ≡ number_told (value_of s.text n) (begin n) (end n)
   number-told (grammar.number b e) h =
-      ap (scalar_reply b) (number-read b e h) ∙ sym (number-gives (number_value (slice_range s.text b e)) b e)
+      ap (scalar_reply b) (number-read b e h) ∙ sym (number-gives s.text (number_value (slice_range s.text b e)) b e).0
   number-told (grammar.literal literal.Null b e) h = refl
   number-told (grammar.literal literal.True b e) h = refl
   number-told (grammar.literal literal.False b e) h = refl
@@ -170,7 +157,7 @@ module _ (s : ReaderState) where
       → number_bytes_read s (begin n) (start_is n) ≡ number_bytes_told s.text (value_of s.text n) (begin n) (end n)
   number_bytes-told (grammar.number b e) h =
       ap (λ x. scalar_reply b (seen_as (λ n i. slice_range s.text b i) x)) (number-read b e h)
-      ∙ sym (number_bytes-gives s.text (number_value (slice_range s.text b e)) b e)
+      ∙ sym (number-gives s.text (number_value (slice_range s.text b e)) b e).1
   number_bytes-told (grammar.literal literal.Null b e) h = refl
   number_bytes-told (grammar.literal literal.True b e) h = refl
   number_bytes-told (grammar.literal literal.False b e) h = refl
@@ -240,8 +227,3 @@ module _ (s : ReaderState) where
     by (grammar.string ps b e) h other = refl
     by (grammar.object b e ms) h other = refl
     by (grammar.array b e ns) h other = absurd other
-
--- It gives no key.
-pub no_object-refused : (f : Form) (s : ReaderState) (n : Node) (o : Option Text) (i : ℕ) → ComesNext s n
-    → IsNoObject n → next s (object_read f s) ≡ gave o i → ⊥
-no_object-refused f s n o i h other is = gave-refused (sym is ∙ object-refused s f n h other)

@@ -1,14 +1,14 @@
 -- A key that its object has already, and what its reading is.
-use Rattle.jiter_value.proofs.Words.{◌≡◌, ◌≢◌, ℕ, zero, suc, ◌<◌, true, false, List, [], ◌∷◌, length, take, drop, map}
+use Rattle.jiter_value.proofs.Words.{◌≡◌, ℕ, zero, suc, ◌<◌, true, false, List, [], ◌∷◌, length, take, drop, map}
 use Rattle.jiter_value.proofs.Words.{refl, sym, ap, ◌∙◌, arith, cond, subst, ◌||◌, Bool, reverse, string_bytes, Option}
 use Rattle.jiter_value.proofs.Words.{Some, None, Result, Err, bytes_eq, Kind, duplicate_key, taken, failed, PartialMode}
 use Rattle.jiter_value.proofs.Words.{Off, On, TrailingStrings, resume, object_in, Reading, Rules, Container, fault}
 use Rattle.jiter_value.proofs.Words.{value_at, step, colon, value_first, text_view, string_at, whole, Text, Tree}
 use Rattle.jiter_value.proofs.Words.{own_bytes, if_forgiven-no, resume-fault, TextPolicy, lent_unique, forgives, rules_as}
 use Rattle.jiter_value.proofs.Words.{answer_as, Member, member_view, frames, HaveKeyBase, IsFree, StandsAtKey}
-use Rattle.jiter_value.proofs.Words.{refused_in, key_in, denotes, IsKeyRead, Proceeds, IsWithin, has_key}
+use Rattle.jiter_value.proofs.Words.{refused_in, key_in, denotes, IsKeyRead, IsWithin, has_key}
 use Rattle.jiter_value.proofs.Words.{WhereUniqueRefused, GivesUniqueWhole, object_has_key, GivesWhole, past_blanks}
-use Rattle.jiter_value.proofs.Words.{unique_answer_in, ReadError, Settings, OpenContainer, Stacks, State, Interrupted, JsonValue}
+use Rattle.jiter_value.proofs.Words.{unique_answer_in, ReadError, Settings, OpenContainer, Stacks, Interrupted, JsonValue}
 use Rattle.jiter_steps.specs.Read.{if_forgiven, parts_at}
 use Rattle.jiter_steps.specs.Unique.{is_among, after_its_colon}
 use Rattle.jiter_value.specs.UniqueKeys.{innermost_base, StopsAtKey, GivesUnique}
@@ -117,17 +117,6 @@ pub stops-grows : (x : Interrupted) (P : Type 0) → P → WhereUniqueRefused (E
 stops-grows (stopped.Read (error.Fault f)) P h = tt
 stops-grows (stopped.Read (error.Memory m)) P h = h
 stops-grows (stopped.Repeated k) P h = tt
-
--- A turn that goes on: what is awaited then is the reading,
-pub goes-on : (policy : TextPolicy) (p : Settings) (t : List ℕ) (i l h : ℕ) (x : Reading Tree) (s : Stacks) (j : ℕ)
-    (a : State) → Proceeds policy p t i l h x s (j, a) → a ≢ state.Done → a ≢ state.GivenUp
-    → (x ≡ denotes policy p t s a j) × IsWithin t s a j
-goes-on policy p t i l h x s j state.Root leads more kept = leads.reaches
-goes-on policy p t i l h x s j state.Item leads more kept = leads.reaches
-goes-on policy p t i l h x s j state.Member leads more kept = leads.reaches
-goes-on policy p t i l h x s j state.Key leads more kept = leads.reaches
-goes-on policy p t i l h x s j state.Done leads more kept = absurd (more refl)
-goes-on policy p t i l h x s j state.GivenUp leads more kept = absurd (kept refl)
 
 -- The answer of a whole text: where its value is stopped, and where it is read and what follows it is looked at.
 pub whole-stopped : (p : Settings) (t : List ℕ) → past_blanks t 0 < length t → (x : Interrupted) (j : ℕ)

@@ -1,5 +1,5 @@
 -- A turn at a key: it leads on, or it is stopped.
-use Rattle.jiter_value.proofs.Words.{◌≡◌, ◌+◌, ◌++◌, ◌∙◌, ℕ, Bool, true, false, List, ap, OnOk, Kind, taken, failed}
+use Rattle.jiter_value.proofs.Words.{◌≡◌, ◌+◌, ◌++◌, ◌∙◌, ℕ, Bool, false, List, ap, OnOk, Kind, taken, failed}
 use Rattle.jiter_value.proofs.Words.{colon, object_colon, step, value_first, TextPolicy, HaveKeys, LeavesKeys, Member}
 use Rattle.jiter_value.proofs.Words.{keys_of, Proceeds, work_left, outcome, Settings, Stacks, State}
 use Rattle.jiter_scan.specs.NumberReading.{span_then}
@@ -21,14 +21,6 @@ module _ (policy : TextPolicy) (p : Settings) (t : List ℕ) (i : ℕ) (old new 
     keys = λ _. keys;
     refused = λ h. absurd (cc (going, h));
     same = λ h. absurd (cc (going, h));
-  }
-
-  pub taken-back : stopped ≡ true → Refuses → new ≡ old → HasTakenKey policy p t i old new r stopped Knows Refuses
-  taken-back stop refused same = record {
-    leads = λ h. absurd (cc (stop, h));
-    keys = λ h. absurd (cc (stop, h));
-    refused = λ _. refused;
-    same = λ _. same;
   }
 
 -- The members that are left have keys that are known.

@@ -45,7 +45,6 @@ pub use Rattle.jiter_steps.specs.declared.read_error.ReadError.{ReadError}
 pub use Rattle.jiter_value.specs.Access.{item_of, last_such}
 pub use Rattle.jiter_value.specs.DuplicateKeys.{AreTaken, HasKeys, IsNowhere, IsPlaceOf, IsUpToDate, has_text}
 unfoldable pub use Rattle.jiter_value.specs.DuplicateKeys.{mark_on}
-pub use Rattle.jiter_value.specs.Machine.{IsReadingOn}
 pub use Rattle.jiter_value.specs.Owned.{HoldSame, as_it_is, owned_member, owned_text, owned_tree, tree_as}
 pub use Rattle.jiter_value.specs.Parses.{AnswersBy, Parses, as_read, reading_as}
 pub use Rattle.jiter_value.specs.ParsesUnique.{refusing_repeats}

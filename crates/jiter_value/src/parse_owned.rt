@@ -148,6 +148,14 @@ pub(crate) fn own_answer(
 }
 
 /// Reads the value at the reader's position, each of its texts owned.
+///
+/// # Errors
+///
+/// - any error of the value; `Memory` only if it may grow, or holds a part or a borrowed text
+///
+/// # Requires
+///
+/// The reader's position is before the length.
 pub fn read_owned(
     alloc: Global,
     parser: &mut Parser<'_>,

@@ -54,6 +54,14 @@ pub(crate) fn finish_whole<'s, T: StringStorage<'s>>(
 }
 
 /// Reads the value at the reader's position.
+///
+/// # Errors
+///
+/// - any error of the value; `Memory` only if it may grow
+///
+/// # Requires
+///
+/// The reader's position is before the length.
 pub fn read_value<'j>(
     alloc: Global,
     parser: &mut Parser<'j>,

@@ -140,6 +140,10 @@ pub fn has_room(stacks: &Stacks<'_>, shape: ContainerKind) -> bool
 }
 
 /// Reserves capacity for one more part in the stack of this kind.
+///
+/// # Errors
+///
+/// - a failed allocation, only if the stack has to grow
 pub fn reserve_part(stacks: &mut Stacks<'_>, shape: ContainerKind) -> Result<(), AllocFailed>
     ensures same { HoldsSame stacks.old stacks.new }
     ensures room { OnOk result (HasRoomIn shape stacks.new) }
@@ -151,6 +155,10 @@ pub fn reserve_part(stacks: &mut Stacks<'_>, shape: ContainerKind) -> Result<(),
 }
 
 /// Puts the expected value into its slot, which has the capacity for it.
+///
+/// # Requires
+///
+/// The stacks await a value for this slot. An item's stack has the capacity for it.
 #[inline(always)]
 pub fn put_reserved<'j>(stacks: &mut Stacks<'j>, slot: Slot, value: JsonValue<'j>)
     requires stands { Stands stacks.old slot }
@@ -166,11 +174,22 @@ pub fn put_reserved<'j>(stacks: &mut Stacks<'j>, slot: Slot, value: JsonValue<'j
     match slot {
         Slot::Item => stacks.items.push_reserved(value),
         Slot::Member => set_last(&mut stacks.members, value),
-        Slot::Root => stacks.root = value,
+        Slot::Root => {
+            drop_root(stacks);
+            stacks.root = value;
+        }
     }
 }
 
 /// Puts the expected value into its slot. Only an item may need an allocation.
+///
+/// # Errors
+///
+/// - a failed allocation, only if the stack of items has to grow
+///
+/// # Requires
+///
+/// The stacks await a value for this slot.
 #[inline(always)]
 pub fn put<'j>(stacks: &mut Stacks<'j>, slot: Slot, value: JsonValue<'j>) -> Result<(), AllocFailed>
     requires { Stands stacks.old slot }
@@ -200,6 +219,14 @@ pub fn object_of<'j>(members: JsonObject<'j>) -> JsonValue<'j>
 }
 
 /// Closes the innermost container, puts it into its slot and returns that slot.
+///
+/// # Errors
+///
+/// - a failed allocation, of the parts that are split off or of the stack of items
+///
+/// # Requires
+///
+/// The innermost container is of this kind, and awaits no value.
 #[inline(never)]
 pub fn close<'j>(
     alloc: Global,
@@ -278,7 +305,7 @@ pub fn take_root<'j>(stacks: &mut Stacks<'j>) -> JsonValue<'j>
     mem::replace(&mut stacks.root, JsonValue::Null)
 }
 
-/// Drops the value of the document, if there is one. Between turns there is none, and a test costs less than a drop.
+/// Drops the value of the document, if there is one. Before it is put there is none, and a test costs less than a drop.
 #[inline(always)]
 pub fn drop_root<'j>(stacks: &mut Stacks<'j>)
     ensures { stacks.new ≡ without_root stacks.old }

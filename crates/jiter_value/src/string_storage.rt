@@ -109,6 +109,14 @@ impl<'s> StringStorage<'s> for Owning {
 }
 
 /// Returns the borrowed text that begins at `from` as the value keeps it.
+///
+/// # Errors
+///
+/// - a failed allocation, only if the text is copied
+///
+/// # Requires
+///
+/// `texts` is for these bytes. The text is in them from `from` on.
 #[inline(always)]
 pub fn store_borrowed<'s, T: StringStorage<'s>>(
     texts: T,

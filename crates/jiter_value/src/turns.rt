@@ -18,7 +18,7 @@ ghost use Rattle.jiter_value.specs.Value.{view, MayGrowBy};
 ghost use Rattle.jiter_value.specs.declared.stacks.Stacks.{Stacks as StacksView};
 
 use crate::settings::Settings;
-use crate::stacks::{Slot, Stacks, State, no_error, take_error, take_root};
+use crate::stacks::{Slot, Stacks, State, drop_root, no_error, take_error, take_root};
 use crate::string_storage::StringStorage;
 use crate::turns::key_turns::key_turn;
 use crate::turns::scalars::turn_into;
@@ -185,6 +185,10 @@ impl<'s> Reading<'s> {
     }
 
     /// Takes one turn if `ONCE`, otherwise all turns. Stops before a key that `keys` doesn't allow.
+    ///
+    /// # Requires
+    ///
+    /// `texts` and `keys` are for these bytes, and `keys` stopped at none. Turns led here, and more is expected.
     #[inline(never)]
     pub fn go<T: StringStorage<'s>, K: KeyPolicy<'s>, const ONCE: bool>(
         &mut self,
@@ -234,6 +238,16 @@ impl<'s> Reading<'s> {
     }
 
     /// Reads the value at the reader's position. `texts` decides how its texts are stored; duplicate keys are kept.
+    ///
+    /// # Errors
+    ///
+    /// - any error of the value; `Memory` only if it may grow, or `texts` allocates
+    ///
+    /// # Requires
+    ///
+    /// `texts` is for the reader's bytes and keeps duplicate keys. The reader's position is before the length, and the
+    /// stacks are empty.
+    #[inline(always)]
     pub fn run<T: StringStorage<'s>>(
         &mut self,
         texts: T,
@@ -259,7 +273,10 @@ impl<'s> Reading<'s> {
         parser.index = self.at;
         match state {
             State::Done => Ok(take_root(&mut self.stacks)),
-            _ => Err(take_error(&mut self.stacks)),
+            _ => {
+                drop_root(&mut self.stacks);
+                Err(take_error(&mut self.stacks))
+            }
         }
     }
 }

@@ -159,6 +159,10 @@ fn slow_key_turn<'s, T: StringStorage<'s>, K: KeyPolicy<'s>>(
 }
 
 /// Takes one turn at a key. If `keys` doesn't allow the key, nothing changes.
+///
+/// # Requires
+///
+/// A key begins at `at`, and the stack of members has the capacity for it. `keys` knows the keys before it.
 #[inline(always)]
 pub fn key_turn<'s, T: StringStorage<'s>, K: KeyPolicy<'s>>(
     reading: &mut Reading<'s>,

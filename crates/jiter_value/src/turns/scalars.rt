@@ -23,7 +23,7 @@ use jiter_scan::{NumberAny, NumberInt};
 use jiter_steps::fast::fast_literal_end;
 use jiter_steps::parse::{ContainerKind, Literal, Start, literal_end, start_of};
 use jiter_steps::read_error::ReadError;
-use jiter_steps::string_decoder::{checked_text, decode_inline, string_from};
+use jiter_steps::string_decoder::{decode_inline, string_from};
 use std::borrow::CowStr;
 
 #[inline(always)]
@@ -85,38 +85,6 @@ fn put_and_go_on<'s, T: StringStorage<'s>>(
     after_value::<T>(reading, bytes, end, slot)
 }
 
-// The string at `at`, whose closing quote is at `to`, if its bytes are UTF-8. They are not all below 80 hex.
-#[cold]
-#[inline(never)]
-fn utf8_turn<'s, T: StringStorage<'s>>(
-    reading: &mut Reading<'s>,
-    texts: T,
-    bytes: &[u8],
-    at: usize,
-    to: usize,
-    slot: Slot,
-) -> (usize, State)
-    requires texts { T.of texts bytes.now }
-    requires at_value { IsAtValue bytes.now reading.old.stacks slot at }
-    requires begins { start_of (slice_index bytes.now at) ≡ Start.String }
-    requires within { (at < to) × (to < length bytes.now) }
-    requires stop { to ≡ scan_stop bytes.now (at + 1) }
-    requires quote { IsLook bytes.now (at + 1) to Look.Utf8 }
-    ensures { Turned T.policy T.wants bytes.now at slot reading.old reading.new result }
-{
-    let keep = reading.settings.mode.allow_trailing_str();
-    match checked_text(bytes, at + 1, to, keep) {
-        Ok(plain) => match store_borrowed(texts, bytes, at + 1, plain) {
-            Ok(text) => put_and_go_on::<T>(reading, bytes, at, to + 1, slot, JsonValue::Str(text)),
-            Err(refused) => no_memory(&mut reading.stacks, refused, to + 1),
-        },
-        Err(index) => {
-            let kind = FaultKind::InvalidUnicodeCodePoint;
-            fault_in_value::<T>(reading, bytes, at, index, kind, slot)
-        }
-    }
-}
-
 // The string at `at`, whose first backslash is at `stop`. `ascii` says whether all bytes before it are below 80 hex.
 #[cold]
 #[inline(never)]
@@ -158,27 +126,25 @@ fn escaped_turn<'s, T: StringStorage<'s>>(
     }
 }
 
-// The string at `at` has an error at `index`, or the input ends there, which may be forgiven.
+// The string at `at`, if it isn't plain ASCII up to its quote, or has an error. `found` is what a look at it found.
 #[cold]
 #[inline(never)]
-fn faulty_text_turn<'s, T: StringStorage<'s>>(
+fn slow_text_turn<'s, T: StringStorage<'s>>(
     reading: &mut Reading<'s>,
     texts: T,
     bytes: &[u8],
     at: usize,
-    index: usize,
-    kind: FaultKind,
+    found: (usize, Look),
     slot: Slot,
 ) -> (usize, State)
     requires texts { T.of texts bytes.now }
     requires at_value { IsAtValue bytes.now reading.old.stacks slot at }
     requires begins { start_of (slice_index bytes.now at) ≡ Start.String }
-    requires stop { index ≡ scan_stop bytes.now (at + 1) }
-    requires found { IsLook bytes.now (at + 1) index (Look.Fault kind) }
+    requires stop { found.0 ≡ scan_stop bytes.now (at + 1) }
+    requires found { IsLook bytes.now (at + 1) found.0 found.1 }
     ensures { Turned T.policy T.wants bytes.now at slot reading.old reading.new result }
 {
     let keep = reading.settings.mode.allow_trailing_str();
-    let found = (index, Look::Fault(kind));
     match string_from(reading.alloc, &mut reading.buffer, bytes, at, found, keep) {
         Ok((text, end)) => match texts.store(bytes, at + 1, text) {
             Ok(kept) => { put_and_go_on::<T>(reading, bytes, at, end, slot, JsonValue::Str(kept)) }
@@ -210,9 +176,8 @@ fn text_turn<'s, T: StringStorage<'s>>(
             Ok(text) => put_and_go_on::<T>(reading, bytes, at, to + 1, slot, JsonValue::Str(text)),
             Err(refused) => no_memory(&mut reading.stacks, refused, to + 1),
         },
-        Look::Utf8 => utf8_turn(reading, texts, bytes, at, to, slot),
         Look::Escaped(ascii) => escaped_turn(reading, texts, bytes, at, to, ascii, slot),
-        Look::Fault(kind) => faulty_text_turn(reading, texts, bytes, at, to, kind, slot),
+        _ => slow_text_turn(reading, texts, bytes, at, (to, look), slot),
     }
 }
 
@@ -422,6 +387,10 @@ fn other_turn<'s, T: StringStorage<'s>>(
 ///
 /// The compiler inlines a large function only if it has one caller. So each caller passes its own `ONCE` and `SLOT`,
 /// which no line reads, and gets a copy of its own.
+///
+/// # Requires
+///
+/// A value for this slot begins at `at`, and its stack has the capacity for it.
 #[inline(always)]
 pub fn turn_into<'s, T: StringStorage<'s>, const ONCE: bool, const SLOT: u8>(
     reading: &mut Reading<'s>,

@@ -32,16 +32,8 @@ invariant_of-parser g c =
     c.requires.holds c.requires.within in
     record { within = (c.go-state.ensures.gone i first).within.1 }
 
-pub returns-in-Done-clause-moves : goal.returns-in-Done-clause-moves
-returns-in-Done-clause-moves g c =
-    let t = c.args.parser.now.bytes.now in
-    let i = c.args.parser.now.index in
-    let first = come-first g.T.StringStorage.policy g.T.StringStorage.wants c.args.self.now.settings t c.args.self.now.stacks i
-    c.requires.holds c.requires.within in
-    record { same = refl; forward = (c.go-state.ensures.gone i first).within.0 }
-
-pub returns-in-Done-clause-value : goal.returns-in-Done-clause-value
-returns-in-Done-clause-value g c =
+pub returns-in-Done : goal.returns-in-Done
+returns-in-Done g c =
     let policy = g.T.StringStorage.policy in
     let W = g.T.StringStorage.wants in
     let t = c.args.parser.now.bytes.now in
@@ -50,22 +42,17 @@ returns-in-Done-clause-value g c =
     let e = c.go-state.ensures in
     let first = come-first policy W c.args.self.now.settings t c.args.self.now.stacks i c.requires.holds
     c.requires.within in
-    let come = subst (λ p. HasReached policy W t i p r.stacks r.at r.state) e.settings (e.gone i first) in
-    whole-value policy W t i c.args.self.now.settings r.stacks r.at r.state come (sym e.state ∙ c.in-Done.is)
-    ∙ ap (λ v. done (view v) r.at) (sym c.take_root.ensures.value)
-
-pub returns-in-Done-clause-cleared : goal.returns-in-Done-clause-cleared
-returns-in-Done-clause-cleared g c =
-    let policy = g.T.StringStorage.policy in
-    let W = g.T.StringStorage.wants in
-    let t = c.args.parser.now.bytes.now in
-    let i = c.args.parser.now.index in
-    let r = c.go-state.new.self in
-    let e = c.go-state.ensures in
-    let first = come-first policy W c.args.self.now.settings t c.args.self.now.stacks i c.requires.holds
-    c.requires.within in
-    c.take_root.ensures.cleared (whole-holds policy W t i r.settings r.stacks r.at r.state (e.gone i first)
-    (sym e.state ∙ c.in-Done.is))
+    let gone = e.gone i first in
+    let come = subst (λ p. HasReached policy W t i p r.stacks r.at r.state) e.settings gone in
+    let over = sym e.state ∙ c.in-Done.is in
+    record {
+      moves = record { same = refl; forward = gone.within.0 };
+      value = whole-value policy W t i c.args.self.now.settings r.stacks r.at r.state come over
+          ∙ ap (λ v. done (view v) r.at) (sym c.take_root.ensures.value);
+      memory = tt;
+      cleared = c.take_root.ensures.cleared (whole-holds policy W t i r.settings r.stacks r.at r.state gone over);
+      settings = e.settings;
+    }
 
 pub returns-in_default : goal.returns-in_default
 returns-in_default g c =
@@ -82,9 +69,9 @@ returns-in_default g c =
     let over = given-up r.state (λ h. c.in_default.not-Done (e.state ∙ h)) (λ on. (e.ended refl on).1) in
     record {
       moves = record { same = refl; forward = gone.within.0 };
-      value = rw c.take_error.ensures
+      value = rw (c.take_error.ensures, c.drop_root.ensures)
           (failed-value policy W t i c.args.self.now.settings r.stacks r.at r.state come over);
-      memory = rw c.take_error.ensures
+      memory = rw (c.take_error.ensures, c.drop_root.ensures)
           (failed-memory policy W t i c.args.self.now.settings r.stacks r.at r.state come over);
       cleared = tt;
       settings = e.settings;

@@ -49,9 +49,8 @@ returns-in-End g c =
     let size = after-part-size h (reverse s.nest.items) s.items.items s.members.items s.root stands in
     let some = c.in-Some.ensures.some in
     record {
-      leads = leads-weaker c.close_and_go_on.ensures.leads forward (omega (arith, forward))
-          (rw c.in-Some.ensures.some (omega (arith, size)))
-          (rw c.in-Some.ensures.some (after-closed g.T.StringStorage.policy p t h s.items.items s.members.items s.root a.from
+      leads = leads-weaker c.close_and_go_on.ensures.leads forward (omega (arith, forward)) (rw some (omega (arith, size)))
+          (rw some (after-closed g.T.StringStorage.policy p t h s.items.items s.members.items s.root a.from
           (reverse s.nest.items) j stands (ap (resolve_step (forgives p.mode)) found)));
       memory = refused-inside _ c.args.slot (λ root. not-root h (sym some ∙ root));
       root = λ root. absurd (not-root h (sym some ∙ root));
@@ -74,9 +73,8 @@ returns-in-Fault g c =
     let size = after-part-size h (reverse s.nest.items) s.items.items s.members.items s.root stands in
     let some = c.in-Some.ensures.some in
     record {
-      leads = leads-weaker c.fault_inside.ensures.leads forward (omega (arith, forward))
-          (rw c.in-Some.ensures.some (omega (arith, size)))
-          (rw c.in-Some.ensures.some (after-stuck g.T.StringStorage.policy p t h s.items.items s.members.items s.root a.from
+      leads = leads-weaker c.fault_inside.ensures.leads forward (omega (arith, forward)) (rw some (omega (arith, size)))
+          (rw some (after-stuck g.T.StringStorage.policy p t h s.items.items s.members.items s.root a.from
           (reverse s.nest.items) k j stands found));
       memory = refused-inside _ c.args.slot (λ root. not-root h (sym some ∙ root));
       root = λ root. absurd (not-root h (sym some ∙ root));

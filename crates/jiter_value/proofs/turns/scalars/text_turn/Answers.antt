@@ -65,41 +65,9 @@ utf8_text-requires g c =
     let found = rw c.in-Plain.is at c.look_at-to.ensures.means in
     plain-utf8 _ found.1
 
-pub utf8_turn-requires : goal.utf8_turn-requires
-utf8_turn-requires g c κs =
-    let a = c.args in
-    let to = c.look_at-to.result.0 in
-    let found = rw c.in-Utf8.is at c.look_at-to.ensures.means in
-    let before = c.look_at-to.ensures.within.0 in (
-      (refl, tt),
-      (
-        c.requires.texts,
-        (
-          c.requires.at_value,
-          (
-            c.requires.begins,
-            (
-              (omega (arith, before), slice_get_within a.bytes.now to 34 found),
-              (c.look_at-to.ensures.stop, found),
-            ),
-          ),
-        ),
-      ),
-    )
-
 pub escaped_turn-requires : goal.escaped_turn-requires
 escaped_turn-requires g c κs =
     let found = rw c.in-Escaped.is at c.look_at-to.ensures.means in (
-      (refl, tt),
-      (
-        c.requires.texts,
-        (c.requires.at_value, (c.requires.begins, (c.look_at-to.ensures.stop, found))),
-      ),
-    )
-
-pub faulty_text_turn-requires : goal.faulty_text_turn-requires
-faulty_text_turn-requires g c κs =
-    let found = rw c.in-Fault.is at c.look_at-to.ensures.means in (
       (refl, tt),
       (
         c.requires.texts,

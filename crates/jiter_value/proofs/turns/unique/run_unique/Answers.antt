@@ -36,25 +36,23 @@ invariant_of-parser c =
     c.requires.within in
     record { within = (c.go-state.ensures.gone i first).within.1 }
 
-pub returns-in-Done-clause-moves : goal.returns-in-Done-clause-moves
-returns-in-Done-clause-moves c =
-    let t = c.args.parser.now.bytes.now in
-    let i = c.args.parser.now.index in
-    let first = come-first lent_unique ⊥ c.args.reading.now.settings t c.args.reading.now.stacks i c.requires.holds
-    c.requires.within in
-    record { same = refl; forward = (c.go-state.ensures.gone i first).within.0 }
-
-pub returns-in-Done-clause-value : goal.returns-in-Done-clause-value
-returns-in-Done-clause-value c =
+pub returns-in-Done : goal.returns-in-Done
+returns-in-Done c =
     let t = c.args.parser.now.bytes.now in
     let i = c.args.parser.now.index in
     let p = c.args.reading.now.settings in
     let r = c.go-state.new.self in
     let e = c.go-state.ensures in
     let first = come-first lent_unique ⊥ p t c.args.reading.now.stacks i c.requires.holds c.requires.within in
-    let come = subst (λ p. HasReached lent_unique ⊥ t i p r.stacks r.at r.state) e.settings (e.gone i first) in
-    whole-value lent_unique ⊥ t i p r.stacks r.at r.state come (sym e.state ∙ c.in-Done.is)
-    ∙ ap (λ v. done (view v) r.at) (sym c.take_root.ensures.value)
+    let gone = e.gone i first in
+    let come = subst (λ p. HasReached lent_unique ⊥ t i p r.stacks r.at r.state) e.settings gone in
+    record {
+      moves = record { same = refl; forward = gone.within.0 };
+      value = whole-value lent_unique ⊥ t i p r.stacks r.at r.state come (sym e.state ∙ c.in-Done.is)
+          ∙ ap (λ v. done (view v) r.at) (sym c.take_root.ensures.value);
+      memory = tt;
+      settings = e.settings;
+    }
 
 pub invariant_of-parser-in-GivenUp : goal.invariant_of-parser-in-GivenUp
 invariant_of-parser-in-GivenUp c =
@@ -64,35 +62,23 @@ invariant_of-parser-in-GivenUp c =
     c.requires.within in
     record { within = (c.go-state.ensures.gone i first).within.1 }
 
-pub returns-in-GivenUp-clause-moves : goal.returns-in-GivenUp-clause-moves
-returns-in-GivenUp-clause-moves c =
-    let t = c.args.parser.now.bytes.now in
-    let i = c.args.parser.now.index in
-    let first = come-first lent_unique ⊥ c.args.reading.now.settings t c.args.reading.now.stacks i c.requires.holds
-    c.requires.within in
-    record { same = refl; forward = (c.go-state.ensures.gone i first).within.0 }
-
-pub returns-in-GivenUp-clause-value : goal.returns-in-GivenUp-clause-value
-returns-in-GivenUp-clause-value c =
+pub returns-in-GivenUp : goal.returns-in-GivenUp
+returns-in-GivenUp c =
     let t = c.args.parser.now.bytes.now in
     let i = c.args.parser.now.index in
     let p = c.args.reading.now.settings in
     let r = c.go-state.new.self in
     let e = c.go-state.ensures in
     let first = come-first lent_unique ⊥ p t c.args.reading.now.stacks i c.requires.holds c.requires.within in
-    let come = subst (λ p. HasReached lent_unique ⊥ t i p r.stacks r.at r.state) e.settings (e.gone i first) in
-    rw c.take_error.ensures (failed-value lent_unique ⊥ t i p r.stacks r.at r.state come (sym e.state ∙ c.in-GivenUp.is))
-
-pub returns-in-GivenUp-clause-memory : goal.returns-in-GivenUp-clause-memory
-returns-in-GivenUp-clause-memory c =
-    let t = c.args.parser.now.bytes.now in
-    let i = c.args.parser.now.index in
-    let p = c.args.reading.now.settings in
-    let r = c.go-state.new.self in
-    let e = c.go-state.ensures in
-    let first = come-first lent_unique ⊥ p t c.args.reading.now.stacks i c.requires.holds c.requires.within in
-    rw c.take_error.ensures (failed-memory lent_unique ⊥ t i r.settings r.stacks r.at r.state (e.gone i first)
-    (sym e.state ∙ c.in-GivenUp.is))
+    let gone = e.gone i first in
+    let come = subst (λ p. HasReached lent_unique ⊥ t i p r.stacks r.at r.state) e.settings gone in
+    let over = sym e.state ∙ c.in-GivenUp.is in
+    record {
+      moves = record { same = refl; forward = gone.within.0 };
+      value = rw (c.take_error.ensures, c.drop_root.ensures) (failed-value lent_unique ⊥ t i p r.stacks r.at r.state come over);
+      memory = rw (c.take_error.ensures, c.drop_root.ensures) (failed-memory lent_unique ⊥ t i r.settings r.stacks r.at r.state gone over);
+      settings = e.settings;
+    }
 
 pub returns-in-Some : goal.returns-in-Some
 returns-in-Some c =

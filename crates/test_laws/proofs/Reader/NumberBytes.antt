@@ -1,7 +1,7 @@
 -- The bytes of numbers whose digits come in runs of some lengths, by computation.
 use Rattle.jiter.proofs.Words.{ℕ, List, [], ◌∷◌, ◌++◌, length, map, refl, codes, replicate, flat_map, gave, next}
 use Rattle.jiter.proofs.Words.{number_bytes_read}
-use Rattle.jiter.proofs.Rows.Tables.{Row, RepliesOn, computed_replies, at}
+use Rattle.test_laws.proofs.Reader.Tables.{Row, RepliesOn, computed_replies, at}
 
 -- numbers of the digits d: alone, after a minus, of a fraction, of a power, and all at once
 abbrev numbers_of : List ℕ → List (List ℕ)

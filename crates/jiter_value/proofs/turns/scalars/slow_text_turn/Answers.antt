@@ -4,7 +4,7 @@ use Rattle.jiter_value.proofs.LentTexts.{string-lent}
 use Rattle.jiter_value.proofs.Placed.{text-failed, text-taken}
 use Rattle.jiter_value.proofs.TurnOutcomes.{grows-decoded, grows-kept, refused-turned}
 use Rattle.jiter_value.proofs.Views.{view_str}
-use Rattle.jiter_value.proofs.turns.scalars.faulty_text_turn.Goals as goal
+use Rattle.jiter_value.proofs.turns.scalars.slow_text_turn.Goals as goal
 
 pub store-requires : goal.store-requires
 store-requires g c κs =

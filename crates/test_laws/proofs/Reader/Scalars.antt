@@ -6,7 +6,7 @@ use Rattle.jiter.proofs.Words.{bool_read, number_read, int_read, number_bytes_re
 use Rattle.std.proofs.Common.{negsuc}
 use Rattle.jiter_scan.specs.Number as number
 use Rattle.jiter.specs.Cause.{float}
-use Rattle.jiter.proofs.Rows.Tables.{RepliesOn, computed_replies, at, named, partly, borrowed, owned}
+use Rattle.test_laws.proofs.Reader.Tables.{RepliesOn, computed_replies, at, named, partly, borrowed, owned}
 
 nulls : RepliesOn (λ s. next s (null_read s)) (
     (at (codes " null,") 0, gave tt 5) ∷

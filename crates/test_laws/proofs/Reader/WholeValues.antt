@@ -7,7 +7,7 @@ use Rattle.jiter_scan.specs.Kind.{control_character, lone_surrogate}
 use Rattle.jiter_scan.specs.Kind.{end_of_hex_escape}
 use Rattle.jiter_steps.specs.Tree.{items_of}
 use Rattle.jiter_steps.specs.Tree as tree
-use Rattle.jiter.proofs.Rows.Tables.{Row, RepliesOn, computed_replies, at, partly, borrowed}
+use Rattle.test_laws.proofs.Reader.Tables.{Row, RepliesOn, computed_replies, at, partly, borrowed}
 
 abbrev a_list : Tree
 a_list = tree.array (items_of (tree.int (pos 1) ∷ tree.string (borrowed (codes "a")) ∷ []))

@@ -2,7 +2,7 @@
 use Rattle.jiter.proofs.Words.{◌≡◌, ℕ, pos, ◌∷◌, refl, codes, Some, None, whole, ReaderState, gave, next, known}
 use Rattle.jiter.proofs.Words.{int_read, str_read, array_read, item_step, object_read, key_step, finish}
 use Rattle.jiter_scan.specs.Number as number
-use Rattle.jiter.proofs.Rows.Tables.{computed_replies, named, borrowed}
+use Rattle.test_laws.proofs.Reader.Tables.{computed_replies, named, borrowed}
 
 -- the reader of the document, at a place
 abbrev person : ℕ → ReaderState

@@ -3,14 +3,15 @@
 use Rattle.jiter.proofs.Words.{◌≡◌, ℕ, List, refl, arith, codes, Ok, Err, Some, None, Result, subst, slice_get, Option}
 use Rattle.jiter.proofs.Words.{trailing_comma, past_blanks, Text, json_error, wrong_type, int, string, reply_seen}
 use Rattle.jiter.proofs.Words.{text_bytes, ReaderState, Reply, gave, refused, next, str_read, Reads, never}
-use Rattle.jiter.proofs.Words.{string_memory, JiterError}
+use Rattle.jiter.proofs.Words.{string_memory}
 use Rattle.jiter_scan.specs.declared.errors.JsonErrorType.TheVariants as kind
 use Rattle.jiter.specs.Jiter.{TellsHere, EndsWithColon}
+use Rattle.jiter.specs.declared.errors.JiterError.{JiterError}
 use Rattle.jiter.specs.declared.errors.JiterErrorType.{JiterErrorType}
 use Rattle.jiter.specs.declared.errors.JiterErrorType.TheVariants as error
 use Rattle.jiter.specs.declared.errors.JsonType.TheVariants as type
 use Rattle.jiter.specs.declared.peek.TheConstants.Peek as of
-use Rattle.jiter.proofs.Rows.Tables.{computed_replies, at, borrowed}
+use Rattle.test_laws.proofs.Reader.Tables.{computed_replies, at, borrowed}
 
 abbrev error_at : JiterErrorType → ℕ → JiterError
 error_at t i = record { error_type = t; index = i }

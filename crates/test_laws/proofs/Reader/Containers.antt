@@ -5,7 +5,7 @@ use Rattle.jiter.proofs.Words.{object, gave, refused, peek, next, array_read, it
 use Rattle.jiter_scan.specs.Kind.{eof_list, eof_object}
 use Rattle.jiter_scan.specs.Kind.{expected_colon, expected_list_comma_or_end, expected_object_comma_or_end}
 use Rattle.jiter_scan.specs.Kind.{key_must_be_a_string, trailing_characters}
-use Rattle.jiter.proofs.Rows.Tables.{RepliesOn, computed_replies, at, partly, borrowed, owned}
+use Rattle.test_laws.proofs.Reader.Tables.{RepliesOn, computed_replies, at, partly, borrowed, owned}
 
 arrays : RepliesOn (λ s. next s (array_read s)) (
     (at (codes " [ 1]") 0, gave (Some 49) 3) ∷
