@@ -167,19 +167,17 @@ module _ (t : List ℕ) where
     all : Stands t i e (d.minus ++ (d.int_part ++ (d.fraction ++ d.exponent)))
     all = subst (Stands t i e) d.is h
 
+    rest : (j : ℕ) → Stands t j e (d.int_part ++ (d.fraction ++ d.exponent)) → decimal_at t j ≡ taken tt e
+    rest j s =
+        decimal_at-complete j e d.int_part d.fraction d.exponent d.is_int_part d.limit d.is_fraction d.is_exponent s n
+
     by : IsMinus d.minus → number_span names t i ≡ taken tt e
     by (inl m) =
-        let s : Stands t i e (d.int_part ++ (d.fraction ++ d.exponent)) =
-        subst (λ x. Stands t i e (x ++ (d.int_part ++ (d.fraction ++ d.exponent)))) m all in
-        span-decimal t names i e
-        (decimal_at-complete i e d.int_part d.fraction d.exponent d.is_int_part d.limit d.is_fraction d.is_exponent s n)
+        span-decimal t names i e (rest i (subst (λ x. Stands t i e (x ++ (d.int_part ++ (d.fraction ++ d.exponent)))) m all))
     by (inr m) =
         let s : Stands t i e (45 ∷ (d.int_part ++ (d.fraction ++ d.exponent))) =
         subst (λ x. Stands t i e (x ++ (d.int_part ++ (d.fraction ++ d.exponent)))) m all in
-        span-minus t names i e s.0
-        (decimal_at-complete (i + 1) e d.int_part d.fraction d.exponent d.is_int_part d.limit d.is_fraction
-        d.is_exponent
-        s.1 n)
+        span-minus t names i e s.0 (rest (i + 1) s.1)
 
   span-name : (i e : ℕ) (w : List ℕ) → Stands t i e w → IsName w → number_span true t i ≡ taken tt e
   span-name i e w h (inl is) =

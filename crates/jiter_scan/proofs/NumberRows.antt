@@ -61,7 +61,7 @@ sign-is c h = elim (or_cases (c == 43) (c == 45) h) [
   | inr e ↦ inr (inr (ap (λ x. x ∷ []) (eqb-true c 45 e)))
 ]
 
-power-is : (c : ℕ) → ((c == 101) || (c == 69)) ≡ true → (v : List ℕ) → Power v → IsExponent (c ∷ v)
+pub power-is : (c : ℕ) → ((c == 101) || (c == 69)) ≡ true → (v : List ℕ) → Power v → IsExponent (c ∷ v)
 power-is c h v p = inr (record {
   letter = c;
   sign = p.0;

@@ -1,4 +1,4 @@
--- A number that arrives in chunks: what its reading is from the byte at a place on, and at the end of the input.
+-- A number in chunks: what its reading is from the byte at an index on, and at the end of the input.
 use Rattle.jiter_scan.proofs.Words.{◌≡◌, ℕ, ◌+◌, ◌-◌, ◌<◌, ◌==◌, ◌||◌, Bool, true, false, List, [], ◌∷◌, ◌++◌, length}
 use Rattle.jiter_scan.proofs.Words.{refl, sym, ap, ◌∙◌, arith, nat_le, slice_get, Some, None, if◌then◌else◌, nat_tests}
 use Rattle.jiter_scan.proofs.Words.{is_digit, digit_run_end, number_out_of_range, span_then, after_minus, after_zero}

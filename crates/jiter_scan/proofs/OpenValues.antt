@@ -13,7 +13,7 @@ use Rattle.jiter_scan.proofs.NumberValues.{number_value-tail}
 use Rattle.jiter_scan.proofs.Standing.{stands-length, stands-slice, stands-split}
 use Rattle.jiter_scan.proofs.OpenNumbers.{ended}
 
--- ---- a number that is whole
+-- ---- a number that is complete
 nothing-after : (w : List ℕ) → slice_get w (length w) ≡ None
 nothing-after [] = refl
 nothing-after (c ∷ w) = nothing-after w

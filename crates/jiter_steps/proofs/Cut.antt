@@ -7,7 +7,7 @@
 -- cut (PrefixNodes). In a partial mode a number is read up to the cut where its bytes up to there are a number's text
 -- (NumberCutLaws), a string is kept as its pieces before the cut (CutCharacters, StringCut, StringCutLaws), a container
 -- keeps the parts that end by the cut and what is left of the next (CutNodes). Where the reading halts no container
--- round it takes a byte (Halting), so that the law goes up the nesting (CutLaw). A later cut goes on where an earlier
+-- around it takes a byte (Halting), so that the law goes up the nesting (CutLaw). A later cut goes on where an earlier
 -- one stopped (LaterCuts). A prefix without its last bracket fails, since the input ends too early: an error of a byte
 -- would be one of the text (Prefixes, by Fault.Dead).
 pub mod CutCharacters

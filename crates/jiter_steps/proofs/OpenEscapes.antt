@@ -1,4 +1,4 @@
--- An escape that arrives in pieces: while it is cut it is short, and what ends it is found wherever it is.
+-- An escape in chunks: while it is truncated it is short, and what ends it is found wherever it is.
 use Rattle.jiter_steps.proofs.Words.{◌≡◌, inl, inr, ℕ, zero, suc, ◌+◌, ◌-◌, ◌<◌, ◌≤◌, true, List, [], ◌∷◌, ◌++◌}
 use Rattle.jiter_steps.proofs.Words.{length, sym, ap, ◌∙◌, subst, arith, length-append, encode_utf8, slice_get}
 use Rattle.jiter_steps.proofs.Words.{Some, take-append_seam, cases_lt, slice_get_within, slice_get-get_or, take_all}

@@ -1,16 +1,16 @@
--- A string that arrives in chunks: what its next bytes make of it, and what ends it.
+-- A string in chunks: what its next bytes make of it, and what ends it.
 use Rattle.jiter_steps.proofs.Words.{◌≡◌, ℕ, zero, suc, ◌+◌, ◌-◌, ◌<◌, ◌≤◌, ◌||◌, Bool, true, false, List, [], ◌∷◌}
 use Rattle.jiter_steps.proofs.Words.{◌++◌, length, take, drop, refl, sym, ap, ap₂, ◌∙◌, subst, arith, append-nil}
-use Rattle.jiter_steps.proofs.Words.{append_assoc, length-append, take-take, slice_get, slice_range, Option, Some, None}
-use Rattle.jiter_steps.proofs.Words.{IfOk, IfSome, Result, Ok, Err, is_some, encode_utf8, IsAscii, IsUtf8, and_parts}
-use Rattle.jiter_steps.proofs.Words.{false≢true, lt-ltb, ltb-true, ne_eqb, nat_tests, slice_get_within, fault_kind}
-use Rattle.jiter_steps.proofs.Words.{control_character, eof_string, is_plain, scan_stop, failed, taken, Stands}
-use Rattle.jiter_steps.proofs.Words.{prefix_len-pass, stands-length, stands-append, stands-slice, stands-split}
+use Rattle.jiter_steps.proofs.Words.{append_assoc, length-append, take-take, slice_get, slice_range, Option, Some}
+use Rattle.jiter_steps.proofs.Words.{None, IfOk, IfSome, Result, Ok, Err, is_some, encode_utf8, IsAscii, IsUtf8}
+use Rattle.jiter_steps.proofs.Words.{and_parts, false≢true, lt-ltb, ltb-true, ne_eqb, nat_tests, slice_get_within}
+use Rattle.jiter_steps.proofs.Words.{fault_kind, control_character, eof_string, is_plain, scan_stop, failed, taken}
+use Rattle.jiter_steps.proofs.Words.{Stands, prefix_len-pass, stands-length, stands-append, stands-slice, stands-split}
 use Rattle.jiter_steps.proofs.Words.{slice-one, slice-stands, IsSpelled, HasTaken, IsTextWithin, HoldsBytes, HoldsText}
 use Rattle.jiter_steps.proofs.Words.{SoFar, Body, Form, Stop, before, body_at, checked, content_at, cut, is_cut, kept}
 use Rattle.jiter_steps.proofs.Words.{over, part, event_at, text_form, text_in_form, unclosed, whole, wrong, FaultKind}
-use Rattle.jiter_steps.proofs.Words.{length-take, length-drop, IsAscii-cons, IsAscii-nil, Pass, is_plain_ascii, GoesOnWith}
-use Rattle.jiter_steps.proofs.Words.{HasTakenFrom, IsEven, grown, held_bytes, with_text, PartialString}
+use Rattle.jiter_steps.proofs.Words.{length-take, length-drop, IsAscii-cons, IsAscii-nil, Pass, is_plain_ascii}
+use Rattle.jiter_steps.proofs.Words.{GoesOnWith, HasTakenFrom, IsEven, grown, held_bytes, with_text, PartialString}
 use Rattle.jiter_steps.specs.StringReading.{closed}
 use Rattle.jiter_steps.specs.declared.partial_escape.EscapeStep.TheVariants as spelled
 use Rattle.jiter_steps.specs.declared.partial_string.StringStep.TheVariants as went
@@ -252,7 +252,7 @@ module _ (old : PartialString) (w : List ℕ) (h : HasTaken old w) where
     abbrev from : ℕ
     from = i + length h.prefix
 
-    -- what was decoded is kept, or the end is told
+    -- what was decoded is kept, or the end is reported
     abbrev IsEnded : Option (List ℕ) → Type 0
     IsEnded o =
         (content_at kept t i ≡ checked true i (h.escaped || is_some o) h.decoded (i + length w))
@@ -300,7 +300,7 @@ module _ (old : PartialString) (w : List ℕ) (h : HasTaken old w) where
         ∙ ap (λ x. failed x m) (sym kind) ∙ ap (failed (fault_kind k)) place,
   )
 
-  -- an escape that is whole is its character,
+  -- a complete escape is its character,
   pub escape-whole : (chunk : List ℕ) (at end c n : ℕ) (text : SoFar) (o : Option (List ℕ)) → o ≡ None
       → old.escape ≡ None → part (encode_utf8 c) true end ≡ event_at chunk at → n ≡ end - at
       → HoldsText text (h.decoded ++ encode_utf8 c)
@@ -339,7 +339,7 @@ pub ascii-of : (v : List ℕ) → Pass is_plain_ascii v → IsAscii v
 ascii-of [] h = IsAscii-nil
 ascii-of (c ∷ v) h = IsAscii-cons c v (ltb-true c 128 (and_parts _ _ h.0).1) (ascii-of v h.1)
 
--- Plain bytes after whole characters are taken.
+-- Plain bytes after complete characters are taken.
 pub grown-taken : (s : PartialString) (w v : List ℕ) → IsEven s → Pass is_plain v → HasTaken s w → HasTaken (grown s v) (w ++ v)
 grown-taken s w v even pass h =
     let new = grown s v in
@@ -359,7 +359,7 @@ run-goes s w h chunk run at n new none pass is within holds =
     subst (λ v. HasTaken (record { text = new; escape = s.escape }) (w ++ v)) (run-range chunk run at n is within)
     (plain-goes s w h (take n run) new s.escape none none (pass-take is_plain n run pass) holds)
 
--- The same of a run of which some bytes are taken, where memory was not refused.
+-- The same of a run of which some bytes are taken, where no allocation failed.
 pub run-goes-if : {E : Type 0} → (s : PartialString) (w : List ℕ) (h : HasTaken s w) (chunk run : List ℕ) (at : ℕ) (new : SoFar)
     → s.escape ≡ None → Pass is_plain run → run ≡ slice_range chunk at (at + length run) → (r : Result ℕ E)
     → IfOk r (λ n. HoldsText new (h.decoded ++ take n run)) → IfOk r (λ n. n ≤ length run)
@@ -373,14 +373,14 @@ pub range-length : (chunk : List ℕ) (at to : ℕ) → at ≤ to → to ≤ len
 range-length chunk at to ahead within =
     omega (arith, length-take (to - at) (drop at chunk), length-drop at chunk)
 
--- so it is told by its length
+-- so it is known by its length
 pub run-whole : (chunk : List ℕ) (at to : ℕ) → at ≤ to → to ≤ length chunk
     → slice_range chunk at to ≡ slice_range chunk at (at + length (slice_range chunk at to))
 run-whole chunk at to ahead within =
     let same : to ≡ at + length (slice_range chunk at to) = omega (arith, range-length chunk at to ahead within) in
     ap (slice_range chunk at) same
 
--- Plain bytes of a chunk after whole characters are taken.
+-- Plain bytes of a chunk after complete characters are taken.
 pub grown-range : (s : PartialString) (w : List ℕ) (h : HasTaken s w) (chunk : List ℕ) (at to : ℕ) → IsEven s → at ≤ to
     → Pass is_plain (slice_range chunk at to) → (new : SoFar)
     → new ≡ with_text s.text (s.text.text ++ slice_range chunk at to) → (n : ℕ) → n ≡ to - at

@@ -1,4 +1,4 @@
--- A string that lies whole in a chunk is read as the same text wherever its bytes are.
+-- A string that is complete in a chunk is read as the same text wherever its bytes are.
 use Rattle.jiter_steps.proofs.Words.{◌≡◌, ℕ, ◌+◌, ◌-◌, ◌<◌, ◌≤◌, Bool, List, ◌∷◌, ◌++◌, length, sym, ap}
 use Rattle.jiter_steps.proofs.Words.{◌∙◌, subst, arith, slice_get, slice_range, Some, IsUtf8, slice-one}
 use Rattle.jiter_steps.proofs.Words.{slice_range-split, stands-slice, stands-length, taken, Stands, IsTextWithin, Body}
@@ -24,16 +24,17 @@ body-again chunk m e stop t i k s =
     let there = stands-from w t i k n s in
     let end : 0 + e - m ≡ n = omega (arith, stands-length chunk m e w stands) in
     let last : i + n - 0 ≡ k = omega (arith, stands-length t i k w s) in
-    let taken_alone = (body-same chunk w 0 m e alone m 0 (omega arith) (subst (ShownStop e) (sym stop) (omega arith))).1 in
+    let shown = subst (ShownStop e) (sym stop) (omega arith) in
+    let cut_out = (body-same chunk w 0 m e alone m 0 (omega arith) shown).1 in
     let first : body_at w 0 ≡ record { bytes = b.bytes; owned = b.owned; stop = closed n } =
-    subst (λ x. EndsBy chunk w 0 m e alone x b (body_at w 0)) stop taken_alone
+    subst (λ x. EndsBy chunk w 0 m e alone x b (body_at w 0)) stop cut_out
     ∙ ap (λ x. record { bytes = b.bytes; owned = b.owned; stop = closed x }) end in
     let stops = ap (λ (d : Body). d.stop) first in
     let found = (body-same w t i 0 n there 0 i (omega arith) (subst (ShownStop n) (sym stops) (omega arith))).1 in
     subst (λ x. EndsBy w t i 0 n there x (body_at w 0) (body_at t i)) stops found
     ∙ (λ x. record { bytes = (first x).bytes; owned = (first x).owned; stop = closed (last x) })
 
--- So the string whose opening quote is at a place is the same text, where the chunk reads it whole.
+-- So the string whose opening quote is at a place is the same text, where the chunk reads all of it.
 module _ (chunk : List ℕ) (at e : ℕ) (x : Text) (utf8 : IsUtf8 x.bytes)
     (reads : string_at whole chunk at ≡ taken x e) where
   text-again : (partial : Bool) (t : List ℕ) (i k : ℕ) → Stands t (i + 1) k (slice_range chunk (at + 1) e)

@@ -1,5 +1,5 @@
 -- The cut law. A document that is an array or an object is cut anywhere after its bracket: then a partial reading of
--- the prefix answers exactly what the cut leaves of the document, with the marks of its texts, and never an error.
+-- the prefix returns exactly what the cut leaves of the document, with the marks of its strings, and never an error.
 -- The prefix is read along the node (ReadPrefix): what ends by the cut is read whole, and what the cut falls into leaves
 -- what `Leaves` says, a scalar by its own laws and a container by induction over its parts.
 use Rattle.jiter_steps.proofs.Words.{◌≡◌, ◌⊎◌, inl, inr, ℕ, ◌+◌, ◌<◌, ◌≤◌, Bool, true, false, Option, Some, None, List}
@@ -39,7 +39,7 @@ use Rattle.jiter_steps.proofs.Cut.StringCutLaws.{string_at-cut, string_at-cut_wh
 use Rattle.jiter_steps.proofs.Reading.Values.{Goes, parts-part, parts-fault}
 
 -- The induction hypothesis: what the reading of a value leaves that the prefix u cuts. Where the value has a cut, it is
--- read; where it has none, the error is one that the container round it forgives. Either way the reading halts where no
+-- read; where it has none, the error is one that the container around it forgives. Either way the reading halts where no
 -- container takes a byte.
 abbrev pub Leaves : {A : Type 0} → List ℕ → Option A → Reading A → Type 0
 Leaves u (Some v) (done w p) = (w ≡ v) × Halts u p
@@ -127,7 +127,7 @@ module _ (names : Bool) (t : List ℕ) (k : ℕ) (within : k ≤ length t) (mode
       (sticks : (p : ℕ) → Halts prefix p → StuckAt p (step prefix c.next p))
       (leaves : (p : P) (x : Reading Q) → Spells names t (value p) → IsCut p x
       → Leaves prefix (part_left names t k mode value seen p) x) where
-    -- a part as it is in the whole text, and what is left of parts
+    -- a part as it is in the complete text, and what is left of parts
     abbrev as_whole : P → Q
     as_whole p = seen p (value_of t (value p))
 
@@ -140,7 +140,7 @@ module _ (names : Bool) (t : List ℕ) (k : ℕ) (within : k ≤ length t) (mode
     abbrev After : List Q → Step → Reading Tree
     After qs s = follow rules (At qs) (λ e. c.build e qs) s
 
-    -- the container is closed round these parts
+    -- the container is closed around these parts
     abbrev Closes : List Q → Reading Tree → Type 0
     Closes qs x = (p : ℕ) × (x ≡ done (c.build p qs) p) × Halts prefix p
 
@@ -180,7 +180,7 @@ module _ (names : Bool) (t : List ℕ) (k : ℕ) (within : k ≤ length t) (mode
     inside : (j : ℕ) → j < k → j < length prefix
     inside j lt = omega (arith, prefix-length t k within)
 
-    -- After the parts so far, the container is closed round those that the cut leaves.
+    -- After the parts so far, the container is closed around those that the cut leaves.
     parts-close : (levels i e : ℕ) (ps : List P) (row : ℕ → Option ℕ → Step) (m : ℕ) (qs : List Q)
         → InOrder names t levels value i ps e → CutParts t k within c value as_whole IsCut row m ps
         → Closes (qs ++ left ps) (After qs (step prefix row m))
@@ -280,12 +280,12 @@ module _ (names : Bool) (t : List ℕ) (k : ℕ) (within : k ≤ length t) (mode
   left-answered v (done w p) h = (p, ap (λ a. done a p) h.0)
   left-answered v (fault kind i stop) h = absurd h
 
-  -- the cut is answered
+  -- the cut is returned
   abbrev IsCutBy : Node → Reading Tree → Type 0
   IsCutBy n x = (v : Tree) × (e : ℕ) × (x ≡ done v e) × (cut names t n k mode ≡ Some v)
 
 -- The cut law: of a document that is an array or an object, cut at k after its bracket, a partial reading of the prefix
--- answers what the cut leaves.
+-- returns what the cut leaves.
 pub cut-law : (names : Bool) (t : List ℕ) (n : Node) (k : ℕ) (mode : PartialMode) → IsDocument names t n
     → IsContainer n → begin n < k → k ≤ length t
     → (v : Tree) × (e : ℕ) × (partial_answer names mode (take k t) ≡ done v e) × (cut names t n k mode ≡ Some v)
@@ -304,7 +304,7 @@ cut-law names t n k mode d is lt within = by (cases_lt k (end n)) where
       let read = left-answered names t k within mode left.0 x leaves in
       (left.0, read.0, read.1, left.1)
 
--- What a document stands for is answered in a partial mode too, with its end.
+-- A document's value is returned in a partial mode too, with its end.
 pub partial_answer-of : (names : Bool) (t : List ℕ) (mode : PartialMode) (n : Node) → IsDocument names t n
     → partial_answer names mode t ≡ done (value_of t n) (end n)
 partial_answer-of names t mode n d =
@@ -312,7 +312,7 @@ partial_answer-of names t mode n d =
     subst (λ u. partial_answer names mode u ≡ done (value_of t n) (end n)) (take_all (length t) t (omega arith))
     (reads.0 (node-within names t n d.spelled))
 
--- As a parse in this mode answers. The cut of a prefix:
+-- What a parse in this mode returns. The cut of a prefix:
 abbrev pub AnswersCut : (names : Bool) (u : List ℕ) → PartialMode → IsBegunContainer names u → Reading Tree
     → Type 0
 AnswersCut names u mode f (done v e) = cut names f.text f.node f.place mode ≡ Some v

@@ -1,4 +1,4 @@
--- A prefix of an array or an object that lacks its last bracket is refused: the input ends too early.
+-- A prefix of an array or an object that lacks its last bracket fails: the input ends too early.
 use Rattle.jiter_steps.proofs.Words.{◌≡◌, ℕ, ◌+◌, ◌<◌, ◌≤◌, Bool, true, false, List, length, take, sym, ◌∙◌, subst}
 use Rattle.jiter_steps.proofs.Words.{arith, is_end_kind, answer, Node, begin, end, nesting_limit, IsContainer}
 use Rattle.jiter_steps.proofs.Words.{IsDocument, Reading, done, fault, Tree, past_blanks, IsBlank}
@@ -82,7 +82,7 @@ module _ (names : Bool) (t : List ℕ) (k : ℕ) (within : k ≤ length t) where
         let shown = subst (ShownFault prefix (k + 1)) (sym found) (omega arith, (e, λ utf8. omega arith)) in
         absurd (subst IsFault (answer-of names t n d) (answer-stays names prefix t (k + 1) same shown))
 
--- Of a document that is an array or an object, each prefix that lacks the last bracket is refused: the input ends too
+-- Of a document that is an array or an object, each prefix that lacks the last bracket fails: the input ends too
 -- early.
 pub prefix-refused : (names : Bool) (t : List ℕ) (n : Node) (k : ℕ) → IsDocument names t n → IsContainer n → k < end n
     → EndsEarly (answer names (take k t))

@@ -1,4 +1,4 @@
--- Where an error of a byte is answered, no document begins with the bytes up to its index.
+-- Where an error of a byte is returned, no document begins with the bytes up to its index.
 use Rattle.jiter_steps.proofs.Words.{◌≡◌, ◌≢◌, ℕ, ◌+◌, Bool, false, List, ◌++◌, take, refl, sym, ap, ◌∙◌, subst, arith}
 use Rattle.jiter_steps.proofs.Words.{Some, get_or-take, length-take, slice_get_within, slice_get-get_or}
 use Rattle.jiter_steps.proofs.Words.{get_or_from_slice_get, none-some, Kind, is_end_kind, invalid_code_point, number_at}
@@ -51,7 +51,7 @@ prefix-same t k rest j c le e =
     let here = slice_get-get_or (take k t) j 0 (omega (arith, length-take k t)) in
     longer-same (take k t) rest k j c le (here ∙ ap Some (get_or-take k t j 0 le ∙ get_or_from_slice_get t j c 0 e))
 
--- Where an error is answered that is neither one of the input's end nor one of UTF-8, no document begins with the bytes
+-- Where an error is returned that is neither one of the input's end nor one of UTF-8, no document begins with the bytes
 -- of the text up to and including the one at the error's index.
 pub dead : (names : Bool) (t : List ℕ) (k : Kind) (i stop : ℕ) → answer names t ≡ fault k i stop
     → is_end_kind k ≡ false → k ≢ invalid_code_point → BeginsNoDocument names (take (i + 1) t)

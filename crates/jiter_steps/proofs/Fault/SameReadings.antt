@@ -45,7 +45,7 @@ pub record KeepsScalars {K A : Type 0} (r : Rules K A) (t u : List ℕ) (m : ℕ
   pub number : (i : ℕ) → i < length t → SameScalar t m i (r.number t i) (r.number u i)
   pub text : (i : ℕ) → i < length t → SameScalar t m i (r.text t i) (r.text u i)
   pub key : (i : ℕ) → i < length t → SameScalar t m i (r.key t i) (r.key u i)
-  -- a key that is refused, and one that is not and whose value begins
+  -- a key that is an error, and one that is not and whose value begins
   pub refuses : (members : List (K × A)) (i : ℕ) (f : Kind × ℕ) → i < length t → r.refuses members t i ≡ Some f
       → f.1 < m → (i < m) × (r.refuses members u i ≡ Some f)
   pub frees : (members : List (K × A)) (i e j : ℕ) (k : K) → i < length t → r.key t i ≡ taken k e
@@ -283,7 +283,7 @@ module _ (t u : List ℕ) (m : ℕ) (same : SameBefore t u m) where
           value-stays (inside_at r t levels) (inside_at r u levels) (inside_at-within r t good levels)
           (inside_at-within r u good_too levels) (inside-stays levels)
 
-      -- whole texts
+      -- complete texts
       prefix-stays : (i : ℕ) (o : Option ℕ) → past_blanks t 0 ≡ i → slice_get t i ≡ o
           → Stays i (if_begun r t i o) (prefix_answer r u)
       unfolding prefix_answer

@@ -1,4 +1,4 @@
--- A whole text, by the grammar and by reading.
+-- A complete text, by the grammar and by reading.
 use Rattle.jiter_steps.proofs.Words.{◌≡◌, ℕ, ◌+◌, Bool, List, [], ◌∷◌, length, map, refl, sym, ap, ◌∙◌, subst, arith}
 use Rattle.jiter_steps.proofs.Words.{◌≤◌, slice_get, Option, Some, None, chars, slice_get_within, slice_get_past}
 use Rattle.jiter_steps.proofs.Words.{number_at, Scanned, taken, failed, seen_as, whole_trees, answer, past_blanks}
@@ -24,7 +24,7 @@ pub value_at-complete : (names : Bool) (t : List ℕ) (n : Node) (levels : ℕ) 
     → value_at (nodes names) t levels (begin n) ≡ done n (end n)
 value_at-complete names t n levels h d q = node-read names t n levels h d (node-quiet t n q)
 
--- the text that a key stands for
+-- a key's string
 abbrev pub key_text : List ℕ → Key → Text
 key_text t k = text_at t k.pieces k.begin k.end
 
@@ -138,10 +138,10 @@ module _ (names : Bool) (t : List ℕ) where
   read-mapped (done n e) d is = (n, d.0, refl, λ m other. one_node m n other d.0)
   read-mapped (fault k i stop) d is = λ n doc. let clash = sym is ∙ answer-complete n doc in cc
 
-  -- A value is answered exactly where some node fits.
+  -- A value is returned exactly where some node fits.
   pub answer-is : IsRead names t (answer names t)
   answer-is = subst (IsRead names t) answer-value (read-mapped (whole_answer (nodes names) t) answer-sound refl)
 
-  -- A document's value is answered, with its end.
+  -- A document's value is returned, with its end.
   pub answer-of : (n : Node) → IsDocument names t n → answer names t ≡ done (value_of t n) (end n)
   answer-of n d = sym answer-value ∙ ap (mapped (value_of t)) (answer-complete n d)

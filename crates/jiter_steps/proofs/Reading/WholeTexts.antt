@@ -1,4 +1,4 @@
--- The equations of a whole text's reading, and its bounds.
+-- The equations of a complete text's reading, and its bounds.
 use Rattle.jiter_steps.proofs.Words.{◌≡◌, ℕ, ◌<◌, ◌≤◌, List, length, refl, ap, ◌∙◌, arith, slice_get, Option, Some}
 use Rattle.jiter_steps.proofs.Words.{None, slice_get-get_or, slice_get_within, Kind, eof_value}
 use Rattle.jiter_steps.proofs.Words.{get-none, past_blanks, nesting_limit, Reading, done, fault, Rules, value_at}

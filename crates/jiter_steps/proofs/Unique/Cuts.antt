@@ -1,5 +1,5 @@
 -- The prefixes of a document with unique keys: no repeated key is met in them, so that what a cut leaves of the document
--- is answered, and with partial reading off that the input ends too early.
+-- is returned, and with partial reading off that the input ends too early.
 use Rattle.jiter_steps.proofs.Words.{◌≡◌, inl, inr, ℕ, ◌+◌, ◌<◌, ◌≤◌, Bool, true, false, List, length, take, refl, sym}
 use Rattle.jiter_steps.proofs.Words.{ap, subst, arith, Kind, is_end_kind, is_forgiven, duplicate_key, PartialMode}
 use Rattle.jiter_steps.proofs.Words.{whole_trees, partial_trees, partial_answer, Node, end, IsContainer, Reading, done}
@@ -36,7 +36,7 @@ module _ (names : Bool) (t : List ℕ) (n : Node) (k : ℕ) (d : IsUniqueDocumen
         absurd (subst IsFault (unique-complete names t n d)
         (unique-stays names u t (k + 1) (prefix-too t k within (k + 1)) shown))
 
-  -- With partial reading off an array or an object without its last bracket is refused, since the input ends too early.
+  -- With partial reading off an array or an object without its last bracket fails, since the input ends too early.
   pub unique-prefix_refused : k < end n → EndsEarly (unique_answer names u)
   unique-prefix_refused lt = by (unique_answer names u) refl where
     by : (x : Reading Tree) → unique_answer names u ≡ x → EndsEarly (unique_answer names u)
@@ -56,7 +56,7 @@ module _ (names : Bool) (t : List ℕ) (n : Node) (k : ℕ) (d : IsUniqueDocumen
         let early = prefix-early kind i stop (ap (to_end u) found) in
         stopped u (prefix_answer (partial names mode u) u) (tracks early) repeat
 
-    -- In a partial mode the prefix is answered as without the rule on repeated keys.
+    -- In a partial mode the prefix is read as without the rule on repeated keys.
     pub unique-cut : prefix_answer (partial names mode u) u ≡ partial_answer names mode u
     unique-cut =
         elim (prefix_answer-agrees own_bytes (partial_trees names mode) (λ ms v j. refl) kept u) [

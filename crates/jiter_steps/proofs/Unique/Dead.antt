@@ -1,4 +1,4 @@
--- Where an error of a byte is answered, that of a repeated key too, no document with unique keys begins with the bytes
+-- Where an error of a byte is returned, that of a repeated key too, no document with unique keys begins with the bytes
 -- up to its index.
 use Rattle.jiter_steps.proofs.Words.{◌≡◌, ◌≢◌, ℕ, ◌+◌, ◌<◌, ◌≤◌, ◌==◌, Bool, false, List, ◌++◌, map, take, refl, sym}
 use Rattle.jiter_steps.proofs.Words.{ap, ◌∙◌, subst, arith, cond, slice_get, Option, Some, None, none-some}
@@ -120,7 +120,7 @@ unique-stays names t u m same =
     (repeats-advance u own_bytes (whole_trees names) (trees-advances u nothing_forgiven whole names))
     (keys-keep t u m same names)
 
--- Where an error is answered that is neither one of the input's end nor one of UTF-8, no document with unique keys
+-- Where an error is returned that is neither one of the input's end nor one of UTF-8, no document with unique keys
 -- begins with the bytes of the text up to and including the one at the error's index.
 pub unique-dead : (names : Bool) (t : List ℕ) (k : Kind) (i stop : ℕ) → unique_answer names t ≡ fault k i stop
     → is_end_kind k ≡ false → k ≢ invalid_code_point → BeginsNoUniqueDocument names (take (i + 1) t)

@@ -1,4 +1,4 @@
-use Rattle.jiter_scan.proofs.Words.{◌+◌, ◌-◌, sym, ap, ◌∙◌, arith, nat_le, le-leb, nat_tests, is_plain, scan_stop}
+use Rattle.jiter_scan.proofs.Words.{◌+◌, sym, ap, ◌∙◌, arith, nat_le, le-leb, nat_tests, is_plain, scan_stop}
 use Rattle.jiter_scan.proofs.Chunks.{run_end-clear, run_end-stopped}
 use Rattle.jiter_scan.proofs.Runs.{run_end-ahead}
 use Rattle.jiter_print.proofs.buffer.is_plain_to.Goals as goal
