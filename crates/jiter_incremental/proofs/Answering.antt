@@ -1,5 +1,5 @@
 -- What the bytes of a document answer that have arrived so far, of which the unfinished scalar may be in the value.
-use Rattle.jiter_incremental.proofs.Innermost.{inside-of}
+use Rattle.jiter_incremental.proofs.Innermost.{inside-of, utf8-of}
 use Rattle.jiter_incremental.proofs.Words.{◌≡◌, ℕ, ◌+◌, ◌≤◌, Bool, true, false, List, [], ◌∷◌, ◌++◌, length, refl, sym}
 use Rattle.jiter_incremental.proofs.Words.{subst, ap, ◌∙◌, arith, ◌&&◌, ◌||◌, not, is_some, option_map, Option, Some}
 use Rattle.jiter_incremental.proofs.Words.{None, IsUtf8, false≢true, none-some, same_Some, if-true, if-false, Kind}
@@ -7,11 +7,11 @@ use Rattle.jiter_incremental.proofs.Words.{fault_kind, allows_trailing_strings, 
 use Rattle.jiter_incremental.proofs.Words.{items_frame, members_frame, HasTaken, text_or, prefix_answer, end_kind_of}
 use Rattle.jiter_incremental.proofs.Words.{content_at, kept, Tree, ContainerKind, PartialString, ended, Arrived, IsLeft}
 use Rattle.jiter_incremental.proofs.Words.{OpenValue, at_end, at_value, between_parts, end_of, owned, shown}
-use Rattle.jiter_incremental.proofs.Words.{after_value, Document, HasArrived, HasTakenAll, IsMoved, ReadSoFar, Opened, ReadsAt}
-use Rattle.jiter_incremental.proofs.Words.{Settled, any_bytes, between_tokens, by_mode, in_key, in_scalar, is_shown}
-use Rattle.jiter_incremental.proofs.Words.{opened_to, shown_as, strict, strictly, token_tree, AnswersSo, IsEndFault}
-use Rattle.jiter_incremental.proofs.Words.{KeepsText, broken_as, is_broken, kind_at_end, so_far, OpenFrame, filled}
-use Rattle.jiter_incremental.proofs.Words.{rules_as, view, Token, Settings, JsonValue}
+use Rattle.jiter_incremental.proofs.Words.{after_value, Document, HasArrived, HasTakenAll, IsMoved, ReadSoFar, Opened}
+use Rattle.jiter_incremental.proofs.Words.{ReadsAt, Settled, any_bytes, between_tokens, by_mode, in_key, in_scalar}
+use Rattle.jiter_incremental.proofs.Words.{is_shown, opened_to, shown_as, strict, strictly, token_tree, AnswersSo}
+use Rattle.jiter_incremental.proofs.Words.{IsEndFault, KeepsText, broken_as, is_broken, kind_at_end, so_far, OpenFrame}
+use Rattle.jiter_incremental.proofs.Words.{filled, rules_as, view, Token, Settings, JsonValue}
 use Rattle.jiter_scan.specs.declared.errors.FaultKind.TheVariants as fault_of
 use Rattle.jiter_steps.specs.PartialString.{Wherever}
 use Rattle.jiter_steps.specs.StringReading.{checked}
@@ -23,7 +23,6 @@ use Rattle.jiter_incremental.specs.declared.reader.Token.TheVariants as token
 use Rattle.jiter_incremental.proofs.Documents.{known-as}
 use Rattle.jiter_incremental.proofs.Documents.Ends.{broken-answered, broken-low, kind-whole, none-answered}
 use Rattle.jiter_incremental.proofs.Documents.Ends.{nothing-comes, partial-answers, strict-answers, value-answered}
-use Rattle.jiter_incremental.proofs.Innermost.{utf8-of}
 use Rattle.jiter_incremental.proofs.Settling.{settled-so, shown-key, shown-nothing}
 
 -- ---- the value so far

@@ -3,10 +3,10 @@ use Rattle.jiter_incremental.proofs.Words.{◌≡◌, ℕ, suc, ◌+◌, ◌-◌
 use Rattle.jiter_incremental.proofs.Words.{length, get_or, refl, sym, subst, ap, ◌∙◌, arith, add-one, inl, inr, eq-eqb}
 use Rattle.jiter_incremental.proofs.Words.{ne_eqb, slice_get, Option, Some, None, slice_get_within}
 use Rattle.jiter_incremental.proofs.Words.{get_or_from_slice_get, if_case, if-true, if-false, Kind, is_forgiven}
-use Rattle.jiter_incremental.proofs.Words.{expected_value, trailing_comma, span_then, is_active, taken, failed}
-use Rattle.jiter_incremental.proofs.Words.{Span, nothing_forgiven, is_blank, past_blanks, items_frame, members_frame}
-use Rattle.jiter_incremental.proofs.Words.{resume, value_in, value_from, key_from, array_in, object_in, parts_from}
-use Rattle.jiter_incremental.proofs.Words.{parts_step, start_of, Step, closed, stuck, step, colon, value_first, opening}
+use Rattle.jiter_incremental.proofs.Words.{expected_value, trailing_comma, span_then, is_active, taken, failed, Span}
+use Rattle.jiter_incremental.proofs.Words.{nothing_forgiven, is_blank, past_blanks, items_frame, members_frame, resume}
+use Rattle.jiter_incremental.proofs.Words.{value_in, value_from, key_from, array_in, object_in, parts_from, parts_step}
+use Rattle.jiter_incremental.proofs.Words.{start_of, Step, closed, stuck, step, colon, value_first, opening}
 use Rattle.jiter_incremental.proofs.Words.{begins_part, closer_of, comma_kind_of, container_comma, Rules, done, fault}
 use Rattle.jiter_incremental.proofs.Words.{prefix_answer, Text, Tree, ContainerKind, if_forgiven-yes, if_forgiven-no}
 use Rattle.jiter_incremental.proofs.Words.{resume-fault, past_blanks-blank, past_blanks-other, inside_at-starts}
@@ -19,12 +19,11 @@ use Rattle.jiter_incremental.proofs.Words.{rules_as-advances}
 use Rattle.jiter_scan.specs.Kind.{recursion_limit, expected_colon, key_must_be_a_string}
 use Rattle.jiter_steps.specs.Frames.{resolve_step}
 use Rattle.jiter_steps.specs.Step.{more, object_colon, container_first}
-use Rattle.jiter_steps.specs.Read.{after_colon, after_key, after_part}
-use Rattle.jiter_steps.specs.Read.{if_begun, with_key}
+use Rattle.jiter_steps.specs.Read.{after_colon, after_key, after_part, if_begun, with_key}
 use Rattle.jiter_steps.specs.declared.parse.ContainerKind.TheVariants as shape
 use Rattle.jiter_steps.specs.declared.parse.Start.TheVariants as start
-use Rattle.jiter_steps.proofs.Calls.Resumed.{IgnoresBegin, step-to}
-use Rattle.jiter_steps.proofs.Calls.Resumed.{items-value, container-begins, container_in-goes, value_in-levels}
+use Rattle.jiter_steps.proofs.Calls.Resumed.{IgnoresBegin, step-to, items-value, container-begins, container_in-goes}
+use Rattle.jiter_steps.proofs.Calls.Resumed.{value_in-levels}
 use Rattle.jiter_steps.proofs.Reading.Values.{Advances, inside_at-none, parts_at_is}
 use Rattle.jiter_incremental.specs.declared.reader.Awaits.TheVariants as awaits
 

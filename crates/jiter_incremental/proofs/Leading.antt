@@ -1,24 +1,21 @@
 -- The open path of a value that comes in chunks: what is read in a container is read in those that it is in.
-use Rattle.jiter_incremental.proofs.Words.{ReadsAsBefore}
-use Rattle.jiter_incremental.proofs.Settling.{apart-read, reads-apart}
-use Rattle.jiter_incremental.proofs.Words.{◌≡◌, ℕ, ◌+◌, ◌-◌, ◌<◌, ◌≤◌, ◌^◌, Bool, true, false, List, [], ◌∷◌, ◌++◌}
-use Rattle.jiter_incremental.proofs.Words.{length, take, refl, sym, subst, ap, ◌∙◌, arith, length-append, add-one}
-use Rattle.jiter_incremental.proofs.Words.{append_assoc, None, slice_range, append-nil, take_all, slice_get_past}
-use Rattle.jiter_incremental.proofs.Words.{items_frame, members_frame, Tree, PartialNumber, PartialString, Arrived}
-use Rattle.jiter_incremental.proofs.Words.{IsLeft, OpenValue, at_value, between_parts, at_end, text_of, Document}
-use Rattle.jiter_incremental.proofs.Words.{HasArrived, HasMoved, HasReadIn, HoldsOpened, IsMoved, Next, Opened, Parted}
-use Rattle.jiter_incremental.proofs.Words.{any_bytes, between_tokens, in_key, in_scalar, token_tree, HasReadTo}
-use Rattle.jiter_incremental.proofs.Words.{IsComplete, Ready, Refuses, Steps, Advanced, ahead, ahead_as, document, next_of}
-use Rattle.jiter_incremental.proofs.Words.{OpenFrame, around, begun, filled, Awaits, Reader, Token}
+use Rattle.jiter_incremental.proofs.Words.{ReadsAsBefore, ◌≡◌, ℕ, ◌+◌, ◌-◌, ◌<◌, ◌≤◌, ◌^◌, Bool, true, false, List, []}
+use Rattle.jiter_incremental.proofs.Words.{◌∷◌, ◌++◌, length, take, refl, sym, subst, ap, ◌∙◌, arith, length-append}
+use Rattle.jiter_incremental.proofs.Words.{add-one, append_assoc, None, slice_range, append-nil, take_all}
+use Rattle.jiter_incremental.proofs.Words.{slice_get_past, items_frame, members_frame, Tree, PartialNumber}
+use Rattle.jiter_incremental.proofs.Words.{PartialString, Arrived, IsLeft, OpenValue, at_value, between_parts, at_end}
+use Rattle.jiter_incremental.proofs.Words.{text_of, Document, HasArrived, HasMoved, HasReadIn, HoldsOpened, IsMoved}
+use Rattle.jiter_incremental.proofs.Words.{Next, Opened, Parted, any_bytes, between_tokens, in_key, in_scalar}
+use Rattle.jiter_incremental.proofs.Words.{token_tree, HasReadTo, IsComplete, Ready, Refuses, Steps, Advanced, ahead}
+use Rattle.jiter_incremental.proofs.Words.{ahead_as, document, next_of, OpenFrame, around, begun, filled, Awaits}
+use Rattle.jiter_incremental.proofs.Words.{Reader, Token, HasTakenIn, HasTakenTo}
+use Rattle.jiter_incremental.proofs.Settling.{apart-read, reads-apart, read-any, taken-any}
 use Rattle.jiter_steps.specs.declared.parse.ContainerKind.TheVariants as shape
 use Rattle.jiter_incremental.specs.declared.reader.Awaits.TheVariants as awaits
 use Rattle.jiter_incremental.specs.declared.reader.Token.TheVariants as token
 use Rattle.jiter_incremental.proofs.Chunks.{range-long, take-on}
 use Rattle.jiter_incremental.proofs.Documents.{moved}
-use Rattle.jiter_incremental.proofs.Settling.{read-any}
 use Rattle.jiter_incremental.proofs.Slots.{filled-push, last-of, nested-in, part-more}
-use Rattle.jiter_incremental.proofs.Settling.{taken-any}
-use Rattle.jiter_incremental.proofs.Words.{HasTakenIn, HasTakenTo}
 
 -- So many containers are open in a value: the innermost is between two parts.
 pub record OpenTree (depth : ℕ) (v : Tree) : Type 0 where

@@ -2,8 +2,7 @@
 use Rattle.jiter_incremental.proofs.Words.{◌≡◌, ◌∙◌, ap, ap₂, refl, sym, ℕ, zero, suc, ◌+◌, ◌-◌, ◌≤◌, ◌<◌, Bool, true}
 use Rattle.jiter_incremental.proofs.Words.{false, List, [], ◌∷◌, ◌++◌, length, length-take-le, get_or, take, arith, ◌≢◌}
 use Rattle.jiter_incremental.proofs.Words.{add-one, append_assoc, append-nil, take_all, if◌then◌else◌, not, feeds_from}
-use Rattle.std.proofs.Common.{cond}
-use Rattle.std.proofs.Common.{add-zero, zero-add}
+use Rattle.std.proofs.Common.{cond, add-zero, zero-add}
 use Rattle.std.proofs.Math.Seq.{take-suc}
 use Rattle.std.specs.Prelude.{nat_lt, count_by}
 use Rattle.std.specs.List.{take_while}

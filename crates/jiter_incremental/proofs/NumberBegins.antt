@@ -3,11 +3,10 @@ use Rattle.jiter_incremental.proofs.Words.{◌≡◌, ℕ, ◌+◌, ◌-◌, ◌
 use Rattle.jiter_incremental.proofs.Words.{sym, subst, ◌==◌, Bool, arith, eqb-true, slice_index, slice_range, Vec}
 use Rattle.jiter_incremental.proofs.Words.{Global, CowStr, Number, HoldsNumber, begins_decimal, PartialNumber, is_blank}
 use Rattle.jiter_incremental.proofs.Words.{start_of, number_tree, text_view, Tree, owned_text, tree_as, BeginsHere}
-use Rattle.jiter_incremental.proofs.Words.{HasTakenIn, NameBegins, any_bytes, between_tokens, in_scalar}
-use Rattle.jiter_incremental.proofs.Words.{with_byte, AwaitsValue, IsAt, IsHere, ReadsAsBefore}
-use Rattle.jiter_incremental.proofs.Words.{Steps, after_level, ahead, document, refused, AwaitsPart}
-use Rattle.jiter_incremental.proofs.Words.{IsContainer, IsPut, OpenFrame, begun, filled, JsonValue, out-JsonValue, WordValue}
-use Rattle.jiter_incremental.proofs.Words.{Reader}
+use Rattle.jiter_incremental.proofs.Words.{HasTakenIn, NameBegins, any_bytes, between_tokens, in_scalar, with_byte}
+use Rattle.jiter_incremental.proofs.Words.{AwaitsValue, IsAt, IsHere, ReadsAsBefore, Steps, after_level, ahead}
+use Rattle.jiter_incremental.proofs.Words.{document, refused, AwaitsPart, IsContainer, IsPut, OpenFrame, begun, filled}
+use Rattle.jiter_incremental.proofs.Words.{JsonValue, out-JsonValue, WordValue, Reader}
 use Rattle.jiter_scan.specs.NumberWithin.{EndsWithin}
 use Rattle.jiter_scan.specs.declared.errors.FaultKind.TheVariants as fault_of
 use Rattle.jiter_steps.specs.declared.parse.Start.TheVariants as start

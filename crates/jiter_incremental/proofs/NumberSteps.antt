@@ -1,15 +1,16 @@
 -- A number that a chunk cut goes on, ends or is refused, in an open container whatever that is in.
-use Rattle.jiter_incremental.proofs.Documents.Tokens.{number-ends}
-use Rattle.jiter_incremental.proofs.Documents.Names.{name-refused}
+use Rattle.jiter_incremental.proofs.Settling.{come-all, ahead-level, moves-from, steps-here, steps-run}
+use Rattle.jiter_incremental.proofs.Documents.Tokens.{number-ends, number-known, number-minus, number-open}
+use Rattle.jiter_incremental.proofs.Documents.Tokens.{number-refused, number-stays, number-takes}
+use Rattle.jiter_incremental.proofs.Documents.Names.{name-refused, minus-alone, name-taken}
 use Rattle.jiter_incremental.proofs.Words.{◌≡◌, ◌⊎◌, ℕ, ◌+◌, ◌<◌, ◌≤◌, Bool, true, false, List, [], ◌∷◌, ◌++◌, length}
 use Rattle.jiter_incremental.proofs.Words.{refl, sym, subst, ap, ◌∙◌, append-nil, arith, inl, inr, Result, Ok, Err}
 use Rattle.jiter_incremental.proofs.Words.{IfOk, OnErr, slice_index, slice_range, string_bytes, Global, CowStr}
-use Rattle.jiter_incremental.proofs.Words.{fault_kind, is_forgiven, HoldsNumber, StepsTo, number_by}
-use Rattle.jiter_incremental.proofs.Words.{failed, FaultKind, PartialNumber, PartialWord, is_blank, text_view, Tree}
-use Rattle.jiter_incremental.proofs.Words.{HasTakenAll, HasTakenIn, IsReadAs, any_bytes, in_scalar, own_number}
-use Rattle.jiter_incremental.proofs.Words.{with_byte, name_word, HasTakenTo, IsAt, IsHere, ReadsAsBefore}
-use Rattle.jiter_incremental.proofs.Words.{Steps, after_level, ahead, ahead_as, document, refused, IsPut}
-use Rattle.jiter_incremental.proofs.Words.{OpenFrame, filled, Reader}
+use Rattle.jiter_incremental.proofs.Words.{fault_kind, is_forgiven, HoldsNumber, StepsTo, number_by, failed, FaultKind}
+use Rattle.jiter_incremental.proofs.Words.{PartialNumber, PartialWord, is_blank, text_view, Tree, HasTakenAll}
+use Rattle.jiter_incremental.proofs.Words.{HasTakenIn, IsReadAs, any_bytes, in_scalar, own_number, with_byte, name_word}
+use Rattle.jiter_incremental.proofs.Words.{HasTakenTo, IsAt, IsHere, ReadsAsBefore, Steps, after_level, ahead, ahead_as}
+use Rattle.jiter_incremental.proofs.Words.{document, refused, IsPut, OpenFrame, filled, Reader}
 use Rattle.jiter_scan.specs.PartialNumber.{Fits}
 use Rattle.jiter_scan.specs.declared.errors.FaultKind.TheVariants as fault_of
 use Rattle.jiter_scan.specs.declared.partial_number.NumberStep.{NumberStep}
@@ -19,11 +20,7 @@ use Rattle.jiter_incremental.specs.declared.reader.Token.TheVariants as token
 use Rattle.jiter_incremental.proofs.Arms.{byte-taken}
 use Rattle.jiter_incremental.proofs.Between.{goes-blank, put-left, scalar-read}
 use Rattle.jiter_incremental.proofs.Documents.{puts, refuses}
-use Rattle.jiter_incremental.proofs.Documents.Names.{minus-alone, name-taken}
-use Rattle.jiter_incremental.proofs.Documents.Tokens.{number-known, number-minus, number-open, number-refused, number-stays, number-takes}
 use Rattle.jiter_incremental.proofs.Placing.{depth-of, put-there}
-use Rattle.jiter_incremental.proofs.Settling.{ahead-level, moves-from}
-use Rattle.jiter_incremental.proofs.Settling.{steps-here, steps-run}
 
 -- Nothing is known of the byte after a number that is unfinished.
 pub ahead-number : (r : Reader) (chunk : List ℕ) (n : ℕ) → r.token ≡ token.Number → ahead r chunk n ≡ any_bytes
@@ -33,10 +30,7 @@ ahead-number r chunk n is = ap (λ k. ahead_as k r.awaits chunk n) is
 module _ (level : ℕ) (chunk : List ℕ) (i : Reader) (v : Tree) (h : IsHere level chunk i v) where
   module _ (is : i.token ≡ token.Number) where
     come-here : (x : Tree) (t : List ℕ) → HasTakenTo chunk i x t → HasTakenAll (document i x) t
-    come-here x t r = record {
-      read = subst (λ n. HasTakenIn n (document i x) t) (ahead-number i chunk i.at is) r.read;
-      position = r.position;
-    }
+    come-here x t r = come-all chunk i x t (ahead-number i chunk i.at is) r
 
     -- It fits nowhere in the number,
     pub number-wrong : (kind : FaultKind) (w : NumberStep) (at : ℕ) → is_forgiven (fault_kind kind) ≡ false

@@ -1,23 +1,17 @@
 -- A document that is over takes whatever comes.
-use Rattle.jiter_incremental.proofs.Words.{Option}
-use Rattle.jiter_incremental.proofs.Words.{is_some, true, false≢true}
-use Rattle.jiter_incremental.proofs.Words.{inr}
-use Rattle.jiter_incremental.proofs.Words.{HasArrived, IsScalar, any_bytes, length-append}
-use Rattle.jiter_incremental.proofs.Documents.{known-as}
-use Rattle.jiter_incremental.proofs.Settling.{calm_nothing}
-use Rattle.jiter_incremental.proofs.Words.{◌≡◌, ℕ, ◌+◌, ◌-◌, ◌<◌, false, List, ◌∷◌, [], ◌++◌, length, take, refl}
-use Rattle.jiter_incremental.proofs.Words.{sym, subst, ap, ◌∙◌, arith, inl, slice_get, slice_index, slice_range}
-use Rattle.jiter_incremental.proofs.Words.{None, Some, Result, Ok, Err, IfOk, OnErr, is_blank, none-some}
+use Rattle.jiter_incremental.proofs.Words.{Option, is_some, true, false≢true, inr, HasArrived, IsScalar, any_bytes}
+use Rattle.jiter_incremental.proofs.Words.{length-append, ◌≡◌, ℕ, ◌+◌, ◌-◌, ◌<◌, false, List, ◌∷◌, [], ◌++◌, length}
+use Rattle.jiter_incremental.proofs.Words.{take, refl, sym, subst, ap, ◌∙◌, arith, inl, slice_get, slice_index}
+use Rattle.jiter_incremental.proofs.Words.{slice_range, None, Some, Result, Ok, Err, IfOk, OnErr, is_blank, none-some}
 use Rattle.jiter_incremental.proofs.Words.{slice_get-get_or, slice_range-split, Fault, Tree, Document, Follows}
-use Rattle.jiter_incremental.proofs.Words.{HasReadIn, HasTakenIn, IsOver, MayRefuseAt, Next, HasReadTo, IsAt}
-use Rattle.jiter_incremental.proofs.Words.{Ready, Refuses, ReadsAsBefore, Steps, ahead, ahead_as, document}
-use Rattle.jiter_incremental.proofs.Words.{next_of, OpenFrame, filled, Awaits, Reader, Token}
+use Rattle.jiter_incremental.proofs.Words.{HasReadIn, HasTakenIn, IsOver, MayRefuseAt, Next, HasReadTo, IsAt, Ready}
+use Rattle.jiter_incremental.proofs.Words.{Refuses, ReadsAsBefore, Steps, ahead, ahead_as, document, next_of, OpenFrame}
+use Rattle.jiter_incremental.proofs.Words.{filled, Awaits, Reader, Token, IsHere}
+use Rattle.jiter_incremental.proofs.Documents.{known-as, over-takes}
+use Rattle.jiter_incremental.proofs.Settling.{calm_nothing, one-slice}
 use Rattle.jiter_incremental.specs.declared.reader.Awaits.TheVariants as awaits
 use Rattle.jiter_incremental.specs.declared.reader.Token.TheVariants as token
-use Rattle.jiter_incremental.proofs.Documents.{over-takes}
 use Rattle.jiter_incremental.proofs.Documents.Blanks.{held-byte, refuse-after, refuse-here, refuse-inside}
-use Rattle.jiter_incremental.proofs.Settling.{one-slice}
-use Rattle.jiter_incremental.proofs.Words.{IsHere}
 use Rattle.jiter_incremental.proofs.Leading.{taken-to}
 
 -- What is known to come next follows what was taken.

@@ -4,24 +4,23 @@ use Rattle.jiter_incremental.proofs.Words.{subst, ap, ◌∙◌, add-one, arith,
 use Rattle.jiter_incremental.proofs.Words.{CowStr, fault_kind, FaultKind, is_blank, items_frame, members_frame}
 use Rattle.jiter_incremental.proofs.Words.{start_of, fault, opening, text_view, Text, Tree, ContainerKind, at_value}
 use Rattle.jiter_incremental.proofs.Words.{between_parts, Everywhere, TakesByte, completed, BeginsHere, Follows}
-use Rattle.jiter_incremental.proofs.Words.{IsAllowed, IsNumberWithin, IsScalarWithin, StandsAt, WordBegins}
-use Rattle.jiter_incremental.proofs.Words.{any_bytes, between_tokens, with_byte, name_start, name_word, WordValue}
-use Rattle.jiter_incremental.proofs.Words.{PartialWord, AwaitsValue, HasTakenTo, IsAt, IsHere, MovesBy, Steps, after_level}
-use Rattle.jiter_incremental.proofs.Words.{ahead, document, refused, AwaitsPart, IsOfKey, IsPut, OpenFrame, begun}
-use Rattle.jiter_incremental.proofs.Words.{filled, empty_tree, Reader}
+use Rattle.jiter_incremental.proofs.Words.{IsAllowed, IsNumberWithin, IsScalarWithin, StandsAt, WordBegins, any_bytes}
+use Rattle.jiter_incremental.proofs.Words.{between_tokens, with_byte, name_start, name_word, WordValue, PartialWord}
+use Rattle.jiter_incremental.proofs.Words.{AwaitsValue, HasTakenTo, IsAt, IsHere, MovesBy, Steps, after_level, ahead}
+use Rattle.jiter_incremental.proofs.Words.{document, refused, AwaitsPart, IsOfKey, IsPut, OpenFrame, begun, filled}
+use Rattle.jiter_incremental.proofs.Words.{empty_tree, Reader, HasTakenIn}
 use Rattle.jiter_scan.specs.declared.errors.FaultKind.TheVariants as fault_of
 use Rattle.jiter_steps.specs.declared.parse.Start.TheVariants as start
 use Rattle.jiter_incremental.specs.declared.reader.Awaits.TheVariants as awaits
 use Rattle.jiter_incremental.specs.declared.reader.Token.TheVariants as token
 use Rattle.jiter_incremental.proofs.Arms.{turned}
-use Rattle.jiter_incremental.proofs.Between.{no-parts, put-left, scalar-read, value-begins, value-here, value-none, value-too_deep}
+use Rattle.jiter_incremental.proofs.Between.{no-parts, put-left, scalar-read, value-begins, value-here, value-none}
+use Rattle.jiter_incremental.proofs.Between.{value-too_deep}
 use Rattle.jiter_incremental.proofs.Documents.{begins-in, follows-byte, puts, refuses, takes-byte, wrong-refused}
 use Rattle.jiter_incremental.proofs.Documents.Bytes.{scalar-follows, scalar-reads}
 use Rattle.jiter_incremental.proofs.Documents.Tokens.{number-within-ends, word-begins, word-held}
-use Rattle.jiter_incremental.proofs.Settling.{ahead-level, moves-here, steps-one}
+use Rattle.jiter_incremental.proofs.Settling.{ahead-level, moves-here, steps-one, steps-here, steps-run}
 use Rattle.jiter_incremental.proofs.Slots.{filled-same}
-use Rattle.jiter_incremental.proofs.Settling.{steps-here, steps-run}
-use Rattle.jiter_incremental.proofs.Words.{HasTakenIn}
 
 -- How many containers are open
 pub depth-of : (depth : ℕ) (v : Tree) (fs : List OpenFrame) → AwaitsPart depth v fs → depth ≡ length fs

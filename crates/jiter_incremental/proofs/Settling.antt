@@ -1,16 +1,15 @@
 -- A document whose unfinished scalar is in the value so far, or apart from it.
-use Rattle.jiter_incremental.proofs.Words.{IsComplete}
-use Rattle.jiter_incremental.proofs.Words.{◌≡◌, ℕ, zero, suc, ◌+◌, ◌-◌, ◌<◌, Bool, false, List, [], ◌∷◌, ◌++◌, length}
-use Rattle.jiter_incremental.proofs.Words.{take, drop, get_or, refl, sym, subst, ap, ◌∙◌, ◌≤◌, arith, inl, true}
-use Rattle.jiter_incremental.proofs.Words.{false≢true, nesting_limit, slice_index, slice_range, None, slice_get-get_or}
-use Rattle.jiter_incremental.proofs.Words.{slice-one, Tree, null, Document, HasReadIn, HasTakenIn, HoldsOpened, HoldsScalar}
-use Rattle.jiter_incremental.proofs.Words.{HasArrived, Parted, Settled, IsMoved, Next, Opened, any_bytes, between_tokens}
-use Rattle.jiter_incremental.proofs.Words.{in_key, in_scalar, is_shown, shown_as, with_byte, with_parts, HasTakenTo}
-use Rattle.jiter_incremental.proofs.Words.{IsAt, IsStill, MovesBy, Steps, after_level, ahead, ahead_as, document, next_of}
-use Rattle.jiter_incremental.proofs.Words.{OpenFrame, filled, Awaits, Reader, Token}
+use Rattle.jiter_incremental.proofs.Words.{HasTakenAll, IsComplete, ◌≡◌, ℕ, zero, suc, ◌+◌, ◌-◌, ◌<◌, Bool, false, List}
+use Rattle.jiter_incremental.proofs.Words.{[], ◌∷◌, ◌++◌, length, take, drop, get_or, refl, sym, subst, ap, ◌∙◌, ◌≤◌}
+use Rattle.jiter_incremental.proofs.Words.{arith, inl, true, false≢true, nesting_limit, slice_index, slice_range, None}
+use Rattle.jiter_incremental.proofs.Words.{slice_get-get_or, slice-one, Tree, null, Document, HasReadIn, HasTakenIn}
+use Rattle.jiter_incremental.proofs.Words.{HoldsOpened, HoldsScalar, HasArrived, Parted, Settled, IsMoved, Next, Opened}
+use Rattle.jiter_incremental.proofs.Words.{any_bytes, between_tokens, in_key, in_scalar, is_shown, shown_as, with_byte}
+use Rattle.jiter_incremental.proofs.Words.{with_parts, HasTakenTo, IsAt, IsStill, MovesBy, Steps, after_level, ahead}
+use Rattle.jiter_incremental.proofs.Words.{ahead_as, document, next_of, OpenFrame, filled, Awaits, Reader, Token}
+use Rattle.jiter_incremental.proofs.Words.{HasEnded, IsHere, IsScalar, JsonValue, KeepsRoom, inr}
 use Rattle.jiter_incremental.proofs.Documents.{known-any}
 use Rattle.jiter_incremental.specs.declared.reader.Token.TheVariants as token
-use Rattle.jiter_incremental.proofs.Words.{HasEnded, IsHere, IsScalar, JsonValue, KeepsRoom, inr}
 
 pub taken-any : (m : Next) (d : Document) (t : List ℕ) → HasTakenIn any_bytes d t → HasTakenIn m d t
 taken-any m d t h = record { opened = h.opened; known = known-any m d t h.opened h.known; held = h.held }
@@ -45,20 +44,9 @@ pub calm_nothing : (k : Token) → k ≡ token.Nothing → ¬ IsScalar k
 calm_nothing k a (inl b) = absurd (let no : token.Nothing ≡ token.Number = sym a ∙ b in cc)
 calm_nothing k a (inr b) = absurd (let no : token.Nothing ≡ token.Text = sym a ∙ b in cc)
 
-pub calm_word : (k : Token) → k ≡ token.Word → ¬ IsScalar k
-calm_word k a (inl b) = absurd (let no : token.Word ≡ token.Number = sym a ∙ b in cc)
-calm_word k a (inr b) = absurd (let no : token.Word ≡ token.Text = sym a ∙ b in cc)
-
-pub calm_key : (k : Token) → k ≡ token.Key → ¬ IsScalar k
-calm_key k a (inl b) = absurd (let no : token.Key ≡ token.Number = sym a ∙ b in cc)
-calm_key k a (inr b) = absurd (let no : token.Key ≡ token.Text = sym a ∙ b in cc)
-
 pub calm_other : (k : Token) → ¬ (k ≡ token.Number) → ¬ (k ≡ token.Text) → ¬ IsScalar k
 calm_other k a b (inl is) = a is
 calm_other k a b (inr is) = b is
-
-pub room_nothing : (level : ℕ) (r : Reader) (slot : JsonValue) → r.token ≡ token.Nothing → KeepsRoom level r slot
-room_nothing level r slot none = room_other level r slot (calm_nothing r.token none)
 
 -- One that stays apart is read,
 pub reads-apart : (n : Next) (d : Document) (t : List ℕ) → HasTakenIn n d t → d.shown ≡ false → HasReadIn n d t
@@ -148,9 +136,6 @@ module _ (level : ℕ) (chunk : List ℕ) (i : Reader) (here : i.depth ≡ level
     deeper = λ more. absurd (omega (arith, here, depth, more));
   }
 
-  pub moves-one : (j : Reader) → i.at < length chunk → IsStill i j → j.depth ≡ i.depth → MovesBy level chunk i j 1
-  moves-one j inside still depth = moves-here j 1 (omega arith) (omega (arith, inside)) still depth
-
 -- It moves as one that is where it is.
 pub moves-from : (level : ℕ) (chunk : List ℕ) (i j k : Reader) (n : ℕ) → IsStill i j → MovesBy level chunk j k n
     → MovesBy level chunk i k n
@@ -194,7 +179,14 @@ module _ (level : ℕ) (chunk : List ℕ) (i : Reader) (v : Tree) (j : Reader) (
       → ((t : List ℕ) (outer : List OpenFrame) → IsAt level outer → HasTakenTo chunk i (filled outer v) t
       → HasTakenIn any_bytes (document j (filled outer w)) (t ++ slice_index chunk i.at ∷ []))
       → Steps level chunk i v j w 1
-  steps-here h still depth goes = steps-one h.inside (moves-one level chunk i h.here h.low j h.inside still depth) goes
+  steps-here h still depth goes =
+      steps-one h.inside (moves-here level chunk i h.here h.low j 1 (omega arith) (omega (arith, h.inside)) still depth) goes
+
+-- What was taken, where nothing is known of what comes
+pub come-all : (chunk : List ℕ) (i : Reader) (x : Tree) (t : List ℕ) → ahead i chunk i.at ≡ any_bytes → HasTakenTo chunk i x t
+    → HasTakenAll (document i x) t
+come-all chunk i x t free r =
+    record { read = subst (λ n. HasTakenIn n (document i x) t) free r.read; position = r.position }
 
 -- After a value the next byte is known to come.
 pub ahead-level : (k : Token) (a : Awaits) (n : ℕ) (chunk : List ℕ) (i : ℕ) → k ≡ token.Nothing → a ≡ after_level n

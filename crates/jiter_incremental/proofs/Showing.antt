@@ -1,30 +1,25 @@
 -- An unfinished scalar is moved into the value so far, and out of it again, in an open container whatever that is in.
-use Rattle.jiter_incremental.proofs.Words.{Refuses}
-use Rattle.jiter_incremental.proofs.Words.{IsScalar, false≢true, shown_as, take, ◌≤◌}
-use Rattle.jiter_incremental.proofs.Words.{◌≡◌, ℕ, ◌+◌, ◌<◌, true, false, List, [], ◌∷◌, length, refl, sym, subst, ap}
-use Rattle.jiter_incremental.proofs.Words.{ap₂, ◌∙◌, ◌++◌, add-one, arith, string_bytes, None}
-use Rattle.jiter_incremental.proofs.Words.{Global, CowStr, Number, number_value, IsBegun}
+use Rattle.jiter_incremental.proofs.Words.{Refuses, IsScalar, false≢true, shown_as, take, ◌≤◌, ◌≡◌, ℕ, ◌+◌, ◌<◌, true}
+use Rattle.jiter_incremental.proofs.Words.{false, List, [], ◌∷◌, length, refl, sym, subst, ap, ap₂, ◌∙◌, ◌++◌, add-one}
+use Rattle.jiter_incremental.proofs.Words.{arith, string_bytes, None, Global, CowStr, Number, number_value, IsBegun}
 use Rattle.jiter_incremental.proofs.Words.{number_from, PartialNumber, items_frame, members_frame, number_tree}
 use Rattle.jiter_incremental.proofs.Words.{HasTaken, text_view, Text, Tree, string, PartialString, owned_text, tree_as}
 use Rattle.jiter_incremental.proofs.Words.{IsLeft, OpenValue, at_value, text_of, Document, HasMoved, HasReadIn}
 use Rattle.jiter_incremental.proofs.Words.{HoldsOpened, HoldsScalar, IsMoved, Next, Opened, Parted, TakenFrom}
-use Rattle.jiter_incremental.proofs.Words.{between_tokens, in_key, in_scalar, is_shown, token_tree}
-use Rattle.jiter_incremental.proofs.Words.{with_parts, AsRead, IsAt, IsComplete, IsHere}
-use Rattle.jiter_incremental.proofs.Words.{ahead, document, with_shown, AwaitsPart, HasValue, IsContainer, IsOfKey}
-use Rattle.jiter_incremental.proofs.Words.{IsPut, OpenFrame, around, begun, filled, Reader, Token}
+use Rattle.jiter_incremental.proofs.Words.{between_tokens, in_key, in_scalar, is_shown, token_tree, with_parts, AsRead}
+use Rattle.jiter_incremental.proofs.Words.{IsAt, IsComplete, IsHere, ahead, document, with_shown, AwaitsPart, HasValue}
+use Rattle.jiter_incremental.proofs.Words.{IsContainer, IsOfKey, IsPut, OpenFrame, around, begun, filled, Reader, Token}
+use Rattle.jiter_incremental.proofs.Words.{Advanced, HasEnded, IsPaused, JsonValue, KeepsRoom, inl, inr, null}
 use Rattle.jiter_steps.specs.PartialText.{with_text}
 use Rattle.jiter_incremental.specs.Document.{bytes_in}
 use Rattle.jiter_incremental.specs.Slot.{HasPart, IsTaken}
 use Rattle.jiter_incremental.specs.declared.reader.Awaits.TheVariants as awaits
 use Rattle.jiter_incremental.specs.declared.reader.Token.TheVariants as token
 use Rattle.jiter_incremental.proofs.Documents.{known-as}
-use Rattle.jiter_incremental.proofs.Leading.{moved-key, moved-nothing, open-settled}
+use Rattle.jiter_incremental.proofs.Leading.{moved-key, moved-nothing, open-settled, OpenTree, open-held}
 use Rattle.jiter_incremental.proofs.Placing.{depth-of, put-there}
-use Rattle.jiter_incremental.proofs.Settling.{apart-read, reads-apart}
+use Rattle.jiter_incremental.proofs.Settling.{apart-read, reads-apart, calm-hidden, room_other}
 use Rattle.jiter_incremental.proofs.Slots.{filled-same}
-use Rattle.jiter_incremental.proofs.Words.{Advanced, HasEnded, IsPaused, JsonValue, KeepsRoom, inl, inr, null}
-use Rattle.jiter_incremental.proofs.Settling.{calm-hidden, room_other}
-use Rattle.jiter_incremental.proofs.Leading.{OpenTree, open-held}
 
 -- It is moved in,
 pub shows-moved : (level : ℕ) (i : Reader) (v w x : Tree) (n : PartialNumber) (s : PartialString) (k : CowStr Global)

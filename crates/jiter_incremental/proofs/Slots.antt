@@ -1,11 +1,10 @@
 -- The open containers of a value that comes in chunks: a part is put into one, taken out of it, or changed inside it.
 use Rattle.jiter_incremental.proofs.Words.{◌≡◌, ℕ, zero, suc, ◌≤◌, ◌+◌, ◌-◌, ◌<◌, List, [], ◌∷◌, ◌++◌, length, take}
 use Rattle.jiter_incremental.proofs.Words.{get_or, refl, sym, subst, ap, ap₂, ◌∙◌, arith, length-append, Vec, rules}
-use Rattle.jiter_incremental.proofs.Words.{vec_len, with_item, Global, CowStr}
-use Rattle.jiter_incremental.proofs.Words.{get_or-append_seam, take_all, take_more, items_frame, members_frame}
-use Rattle.jiter_incremental.proofs.Words.{text_view, Text, Tree, array, object, items_of, members_of}
-use Rattle.jiter_incremental.proofs.Words.{OpenFrame, around, begun, filled, IsOfKey, Member, view, JsonValue}
-use Rattle.jiter_incremental.proofs.Words.{Array, Object, out-JsonValue, the_lemmas, JsonValue-F, view_array}
+use Rattle.jiter_incremental.proofs.Words.{vec_len, with_item, Global, CowStr, get_or-append_seam, take_all, take_more}
+use Rattle.jiter_incremental.proofs.Words.{items_frame, members_frame, text_view, Text, Tree, array, object, items_of}
+use Rattle.jiter_incremental.proofs.Words.{members_of, OpenFrame, around, begun, filled, IsOfKey, Member, view}
+use Rattle.jiter_incremental.proofs.Words.{JsonValue, Array, Object, out-JsonValue, the_lemmas, JsonValue-F, view_array}
 use Rattle.jiter_incremental.proofs.Words.{view_object}
 use Rattle.std.proofs.Common.{map}
 use Rattle.std.specs.Prelude.{slice_set}

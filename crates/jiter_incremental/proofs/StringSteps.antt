@@ -1,16 +1,18 @@
 -- Words and strings that a chunk cut go on and end, in an open container whatever that is in.
-use Rattle.jiter_incremental.proofs.Words.{ReadsAsBefore}
-use Rattle.jiter_incremental.proofs.Documents.Strings.{wrong-refused}
-use Rattle.jiter_incremental.proofs.Words.{◌≡◌, ℕ, ◌+◌, ◌-◌, ◌<◌, ◌≤◌, Bool, true, false, List, [], ◌∷◌, ◌++◌}
-use Rattle.jiter_incremental.proofs.Words.{length, refl, sym, subst, ap, ◌∙◌, arith, inl, inr, length-append, slice_get}
-use Rattle.jiter_incremental.proofs.Words.{slice_index, slice_range, Option, None, Some, Global, CowStr, slice-one}
-use Rattle.jiter_incremental.proofs.Words.{allows_trailing_strings, Fault, FaultKind, PartialWord, word_by, word_from}
-use Rattle.jiter_incremental.proofs.Words.{GoesOnWith, HasTaken, text_view, Tree, string, PartialString, text_of}
-use Rattle.jiter_incremental.proofs.Words.{Follows, HasTakenAll, HasTakenIn, HoldsOpened, ReadSoFar, Next}
-use Rattle.jiter_incremental.proofs.Words.{Opened, any_bytes, HoldsScalar, between_tokens, in_key, in_scalar}
-use Rattle.jiter_incremental.proofs.Words.{noted_in, with_byte, name_tree, HasTakenTo, IsAt, IsHere}
-use Rattle.jiter_incremental.proofs.Words.{Steps, after_level, ahead, ahead_as, document, noted, refused}
-use Rattle.jiter_incremental.proofs.Words.{IsPut, OpenFrame, filled, IsClosedAs, IsOfString, IsTextAs, Reader, Token}
+use Rattle.jiter_incremental.proofs.Settling.{come-all, moves-from, one-slice, steps-here, steps-run}
+use Rattle.jiter_incremental.proofs.Words.{ReadsAsBefore, ◌≡◌, ℕ, ◌+◌, ◌-◌, ◌<◌, ◌≤◌, Bool, true, false, List, [], ◌∷◌}
+use Rattle.jiter_incremental.proofs.Words.{◌++◌, length, refl, sym, subst, ap, ◌∙◌, arith, inl, inr, length-append}
+use Rattle.jiter_incremental.proofs.Words.{slice_get, slice_index, slice_range, Option, None, Some, Global, CowStr}
+use Rattle.jiter_incremental.proofs.Words.{slice-one, allows_trailing_strings, Fault, FaultKind, PartialWord, word_by}
+use Rattle.jiter_incremental.proofs.Words.{word_from, GoesOnWith, HasTaken, text_view, Tree, string, PartialString}
+use Rattle.jiter_incremental.proofs.Words.{text_of, Follows, HasTakenAll, HasTakenIn, HoldsOpened, ReadSoFar, Next}
+use Rattle.jiter_incremental.proofs.Words.{Opened, any_bytes, HoldsScalar, between_tokens, in_key, in_scalar, noted_in}
+use Rattle.jiter_incremental.proofs.Words.{with_byte, name_tree, HasTakenTo, IsAt, IsHere, Steps, after_level, ahead}
+use Rattle.jiter_incremental.proofs.Words.{ahead_as, document, noted, refused, IsPut, OpenFrame, filled, IsClosedAs}
+use Rattle.jiter_incremental.proofs.Words.{IsOfString, IsTextAs, Reader, Token}
+use Rattle.jiter_incremental.proofs.Documents.Strings.{wrong-refused, closed-refused, index-low, is-held, key-taken}
+use Rattle.jiter_incremental.proofs.Documents.Strings.{noted-held, noted-known, noted-text, taken-on, taken-same}
+use Rattle.jiter_incremental.proofs.Documents.Strings.{whole-text, with_string, wrong-low}
 use Rattle.jiter_scan.specs.Ascii as ascii
 use Rattle.jiter_scan.specs.declared.errors.FaultKind.TheVariants as fault_of
 use Rattle.jiter_scan.specs.declared.partial_word.WordStep.TheVariants as seen
@@ -20,13 +22,8 @@ use Rattle.jiter_incremental.specs.declared.reader.Token.TheVariants as token
 use Rattle.jiter_incremental.proofs.Arms.{turned}
 use Rattle.jiter_incremental.proofs.Between.{key-read, put-left, scalar-read}
 use Rattle.jiter_incremental.proofs.Documents.{known-as, puts, refuses}
-use Rattle.jiter_incremental.proofs.Documents.Strings.{closed-refused, index-low, is-held, key-taken}
-use Rattle.jiter_incremental.proofs.Documents.Strings.{noted-held, noted-known, noted-text}
-use Rattle.jiter_incremental.proofs.Documents.Strings.{taken-on, taken-same, whole-text, with_string, wrong-low}
 use Rattle.jiter_incremental.proofs.Documents.Tokens.{Unfinished, word-ends, word-goes-on, word-open, word-refused}
 use Rattle.jiter_incremental.proofs.Placing.{depth-of, put-there}
-use Rattle.jiter_incremental.proofs.Settling.{moves-from, one-slice}
-use Rattle.jiter_incremental.proofs.Settling.{steps-here, steps-run}
 
 -- ---- words
 
@@ -39,10 +36,7 @@ module _ (level : ℕ) (chunk : List ℕ) (i : Reader) (v : Tree) (h : IsHere le
     ahead-word = ap (λ k. ahead_as k i.awaits chunk i.at) word
 
     come : (t : List ℕ) (x : Tree) → HasTakenTo chunk i x t → HasTakenAll (document i x) t
-    come t x r = record {
-      read = subst (λ n. HasTakenIn n (document i x) t) ahead-word r.read;
-      position = r.position;
-    }
+    come t x r = come-all chunk i x t ahead-word r
 
     open-word : (t : List ℕ) (x : Tree) → HasTakenTo chunk i x t → Unfinished (document i x) t token.Word
     open-word t x r = word-open (document i x) t (come t x r) h.unset word
@@ -165,10 +159,7 @@ ahead-string k r chunk i is (inr e) = ap (λ x. ahead_as x r.awaits chunk i) (is
 -- What was taken of a string
 pub string-come : (chunk : List ℕ) (i : Reader) → IsOfString i.token → (t : List ℕ) (x : Tree)
     → HasTakenTo chunk i x t → HasTakenAll (document i x) t
-string-come chunk i k t x r = record {
-  read = subst (λ n. HasTakenIn n (document i x) t) (ahead-string i.token i chunk i.at refl k) r.read;
-  position = r.position;
-}
+string-come chunk i k t x r = come-all chunk i x t (ahead-string i.token i chunk i.at refl k) r
 
 module _ (level : ℕ) (chunk : List ℕ) (i : Reader) (v : Tree) (h : IsHere level chunk i v) (k : IsOfString i.token)
     (quote : slice_get chunk i.at ≡ Some ascii.quote) (whole : i.string.escape ≡ None)

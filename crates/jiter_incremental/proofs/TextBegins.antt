@@ -4,8 +4,7 @@ use Rattle.jiter_incremental.proofs.Words.{sym, subst, ap, ◌∙◌, arith, sli
 use Rattle.jiter_incremental.proofs.Words.{is_blank, members_frame, HasTaken, IsTextWithin, text_view, Tree}
 use Rattle.jiter_incremental.proofs.Words.{PartialString, Arrived, IsLeft, at_value, TakesByte, text_of, HasTakenIn}
 use Rattle.jiter_incremental.proofs.Words.{any_bytes, in_key, with_byte, AwaitsKey, AwaitsValue, HasTakenTo, IsAt}
-use Rattle.jiter_incremental.proofs.Words.{IsHere, Steps, document, OpenFrame, filled}
-use Rattle.jiter_incremental.proofs.Words.{Reader}
+use Rattle.jiter_incremental.proofs.Words.{IsHere, Steps, document, OpenFrame, filled, Reader}
 use Rattle.jiter_scan.specs.Ascii as ascii
 use Rattle.jiter_incremental.specs.declared.reader.Awaits.TheVariants as awaits
 use Rattle.jiter_incremental.specs.declared.reader.Token.TheVariants as token

@@ -1,7 +1,6 @@
 -- What the bytes of a document answer that have come so far, if the input ends after them.
 use Rattle.std.specs.Prelude.{◌≡◌, ℕ, ◌+◌, ◌&&◌, ◌||◌, Bool, true, false, not, if◌then◌else◌, List, length, Option}
-use Rattle.std.specs.Prelude.{Some, None}
-use Rattle.std.specs.Prelude.{is_some}
+use Rattle.std.specs.Prelude.{Some, None, is_some}
 use Rattle.jiter_scan.specs.Kind.{Kind, eof_string, eof_value, fault_kind}
 use Rattle.jiter_scan.specs.PartialNumber.{is_whole}
 use Rattle.jiter_scan.specs.PartialMode.{allows_trailing_strings}

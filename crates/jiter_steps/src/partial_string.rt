@@ -274,13 +274,6 @@ impl PartialString {
         }
     }
 
-    /// Returns whether the bytes so far are complete characters and complete escapes.
-    pub fn is_even(&self) -> bool
-        ensures { result ≡ true → IsEven self.now }
-    {
-        self.escape.is_none() && self.text.is_whole()
-    }
-
     /// Returns whether the string is UTF-8 if it ends here: with its closing quote, or with the input if `partial` is set.
     /// With `partial`, an incomplete character at its end is left out.
     ///

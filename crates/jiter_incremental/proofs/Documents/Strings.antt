@@ -1,5 +1,6 @@
 -- What the bytes of a string or a key make of a document that arrives in chunks.
-use Rattle.jiter_incremental.proofs.Documents.{same-inside}
+use Rattle.jiter_incremental.proofs.Documents.{same-inside, IsInside, ends-inside, known-as, known-in, known-on}
+use Rattle.jiter_incremental.proofs.Documents.{noted-some, reads-after}
 use Rattle.jiter_incremental.proofs.Words.{◌≡◌, ℕ, ◌+◌, ◌-◌, ◌<◌, ◌≤◌, inl, inr, Bool, true, false, List, [], ◌∷◌, ◌++◌}
 use Rattle.jiter_incremental.proofs.Words.{get_or, length, refl, sym, ap, subst, ◌∙◌, arith, append_assoc, append-nil}
 use Rattle.jiter_incremental.proofs.Words.{length-append, get_or-append_seam, slice_get, slice_range, Option, Some}
@@ -7,30 +8,28 @@ use Rattle.jiter_incremental.proofs.Words.{None, ◌==◌, slice_get-get_or, sli
 use Rattle.jiter_incremental.proofs.Words.{false≢true, if_case, failed-taken, slice-one, Kind, fault_kind, is_forgiven}
 use Rattle.jiter_incremental.proofs.Words.{invalid_code_point, allows_trailing_strings, is_active, Off, taken, failed}
 use Rattle.jiter_incremental.proofs.Words.{Stands, Fault, FaultKind, nothing_forgiven, seen_as, value_form}
-use Rattle.jiter_incremental.proofs.Words.{members_frame, resume, value_in, key_from, start_of, GoesOnWith, HasTaken, text_or}
-use Rattle.jiter_incremental.proofs.Words.{Rules, done, fault, scalar_at, to_end, whole, text_form, content_at, Text}
-use Rattle.jiter_incremental.proofs.Words.{Tree, string, PartialString, if_forgiven-no, key-failed, resume-fault}
+use Rattle.jiter_incremental.proofs.Words.{members_frame, resume, value_in, key_from, start_of, GoesOnWith, HasTaken}
+use Rattle.jiter_incremental.proofs.Words.{text_or, Rules, done, fault, scalar_at, to_end, whole, text_form, content_at}
+use Rattle.jiter_incremental.proofs.Words.{Text, Tree, string, PartialString, if_forgiven-no, key-failed, resume-fault}
 use Rattle.jiter_incremental.proofs.Words.{inside_at-starts, whole-is, IsLeft, OpenValue, at_value, owned, completed}
-use Rattle.jiter_incremental.proofs.Words.{text_of, MayFollow, Document, Follows, HasTakenAll, HasTakenIn, HoldsOpened, HoldsScalar}
-use Rattle.jiter_incremental.proofs.Words.{HoldsString, IsReading, IsRefused, ReadSoFar, Next, Opened, ReadsAt, Strictness}
-use Rattle.jiter_incremental.proofs.Words.{TakenFrom, any_bytes, by_mode, fault_by, settings_by, strict, between_tokens}
-use Rattle.jiter_incremental.proofs.Words.{in_key, in_scalar, noted_in, opened_to, strictly, with_byte, with_first}
-use Rattle.jiter_incremental.proofs.Words.{OpenFrame, IsClosedAs, IsKeyAs, IsOfString, IsTextAs, owned_text, rules_as}
-use Rattle.jiter_incremental.proofs.Words.{Token, Settings, rules_as-advances}
+use Rattle.jiter_incremental.proofs.Words.{text_of, MayFollow, Document, Follows, HasTakenAll, HasTakenIn, HoldsOpened}
+use Rattle.jiter_incremental.proofs.Words.{HoldsScalar, HoldsString, IsReading, IsRefused, ReadSoFar, Next, Opened}
+use Rattle.jiter_incremental.proofs.Words.{ReadsAt, Strictness, TakenFrom, any_bytes, by_mode, fault_by, settings_by}
+use Rattle.jiter_incremental.proofs.Words.{strict, between_tokens, in_key, in_scalar, noted_in, opened_to, strictly}
+use Rattle.jiter_incremental.proofs.Words.{with_byte, with_first, OpenFrame, IsClosedAs, IsKeyAs, IsOfString, IsTextAs}
+use Rattle.jiter_incremental.proofs.Words.{owned_text, rules_as, Token, Settings, rules_as-advances}
 use Rattle.std.specs.Str.Lossy.{utf8_valid_len}
 use Rattle.jiter_scan.proofs.Choices.{if_gives}
 use Rattle.jiter_scan.specs.declared.partial_mode.PartialMode.{PartialMode}
 use Rattle.jiter_scan.specs.declared.partial_mode.PartialMode.TheVariants.{On, TrailingStrings}
 use Rattle.jiter_scan.specs.declared.errors.FaultKind.TheVariants as fault_of
 use Rattle.jiter_steps.specs.PartialText.{HoldsBytes}
-use Rattle.jiter_steps.specs.StringReading.{Form, Stop, text_in_form}
-use Rattle.jiter_steps.specs.StringReading.{Body, body_at, closed, unclosed, cut, wrong}
+use Rattle.jiter_steps.specs.StringReading.{Form, Stop, text_in_form, Body, body_at, closed, unclosed, cut, wrong}
 use Rattle.jiter_steps.specs.declared.partial_string.StringStep.TheVariants as went
 use Rattle.jiter_steps.specs.declared.parse.Start.TheVariants as start
 use Rattle.jiter_steps.proofs.Grammar.Places.{IsPlaceKind}
 use Rattle.jiter_steps.proofs.Reading.Bodies.{StopWithin, body_at-long, body_at-within}
 use Rattle.jiter_steps.proofs.Reading.StringForms.{content-kept}
-use Rattle.jiter_incremental.proofs.Documents.{IsInside, ends-inside, known-as, known-in, known-on, noted-some, reads-after}
 use Rattle.jiter_incremental.specs.declared.reader.Token.TheVariants as token
 use Rattle.jiter_incremental.specs.declared.reader.Awaits.TheVariants as awaits
 

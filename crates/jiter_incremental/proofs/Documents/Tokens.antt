@@ -6,25 +6,24 @@ use Rattle.jiter_incremental.proofs.Words.{Some, None, append-nil, slice_get-get
 use Rattle.jiter_incremental.proofs.Words.{slice-one, slice_range-split, stands-length, slice-stands, word_at-complete}
 use Rattle.jiter_incremental.proofs.Words.{word_at-sound, Kind, expected_value, invalid_number, is_forgiven}
 use Rattle.jiter_incremental.proofs.Words.{number_value, after_minus, span_from, number_span, HoldsNumber, IsBegun}
-use Rattle.jiter_incremental.proofs.Words.{StepsTo, begins_decimal, number_by, number_from, word_by, word_from, is_active}
-use Rattle.jiter_incremental.proofs.Words.{taken, failed, Stands, Span, word_at, PartialNumber, PartialWord}
+use Rattle.jiter_incremental.proofs.Words.{StepsTo, begins_decimal, number_by, number_from, word_by, word_from}
+use Rattle.jiter_incremental.proofs.Words.{is_active, taken, failed, Stands, Span, word_at, PartialNumber, PartialWord}
 use Rattle.jiter_incremental.proofs.Words.{resume-fault, inside_at-starts, nothing_forgiven, seen_as, resume, value_in}
 use Rattle.jiter_incremental.proofs.Words.{literal_at, literal_tree, start_of, word_of, nesting_limit, number_tree}
 use Rattle.jiter_incremental.proofs.Words.{HasTaken, Rules, done, fault, prefix_answer, scalar_at, Text, Tree, Literal}
 use Rattle.jiter_incremental.proofs.Words.{Start, IsLeft, at_value, owned, BeginsAs, BeginsHere, MayFollow, Document}
-use Rattle.jiter_incremental.proofs.Words.{Follows, HasTakenAll, HasTakenIn, HoldsOpened, HoldsMinus, HoldsScalar, HoldsString}
-use Rattle.jiter_incremental.proofs.Words.{HoldsWord, IsAllowed, IsNumberWithin, IsReadAs, IsReading, IsRefused, ReadSoFar}
-use Rattle.jiter_incremental.proofs.Words.{NameBegins, Next, Opened, TakenFrom, WordBegins, any_bytes, between_tokens}
-use Rattle.jiter_incremental.proofs.Words.{in_key, in_scalar, own_number, by_mode, strict, with_byte, name_start}
-use Rattle.jiter_incremental.proofs.Words.{name_tree, name_word, OpenFrame, owned_text, tree_as, rules_as, WordValue, Token}
-use Rattle.jiter_incremental.proofs.Words.{Settings}
+use Rattle.jiter_incremental.proofs.Words.{Follows, HasTakenAll, HasTakenIn, HoldsOpened, HoldsMinus, HoldsScalar}
+use Rattle.jiter_incremental.proofs.Words.{HoldsString, HoldsWord, IsAllowed, IsNumberWithin, IsReadAs, IsReading}
+use Rattle.jiter_incremental.proofs.Words.{IsRefused, ReadSoFar, NameBegins, Next, Opened, TakenFrom, WordBegins}
+use Rattle.jiter_incremental.proofs.Words.{any_bytes, between_tokens, in_key, in_scalar, own_number, by_mode, strict}
+use Rattle.jiter_incremental.proofs.Words.{with_byte, name_start, name_tree, name_word, OpenFrame, owned_text, tree_as}
+use Rattle.jiter_incremental.proofs.Words.{rules_as, WordValue, Token, Settings}
 use Rattle.std.proofs.Math.Seq.{drop-append_seam, take-append_seam}
 use Rattle.std.proofs.lemmas.Bool.Decides.{nat_tests}
 use Rattle.jiter_scan.proofs.Standing.{stands-append, stands-slice, stands-split}
 use Rattle.jiter_scan.proofs.WordLaws.{word_at-same}
 use Rattle.jiter_scan.specs.Kind.{expected_ident}
-use Rattle.jiter_scan.specs.NumberReading.{number_at}
-use Rattle.jiter_scan.specs.NumberReading.{with_value}
+use Rattle.jiter_scan.specs.NumberReading.{number_at, with_value}
 use Rattle.jiter_scan.specs.declared.partial_number.NumberStep.{NumberStep}
 use Rattle.jiter_scan.specs.declared.partial_number.NumberStep.TheVariants as went
 use Rattle.jiter_scan.specs.declared.partial_word.WordStep.TheVariants as seen

@@ -1,8 +1,7 @@
-use Rattle.jiter_incremental.proofs.NumberBegins.{number-kept}
+use Rattle.jiter_incremental.proofs.NumberBegins.{number-kept, stays-so}
 use Rattle.jiter_incremental.proofs.Words.{◌-◌, subst, sym, view, Steps, Reader}
 use Rattle.jiter_incremental.specs.declared.reader.Awaits.TheVariants as awaits
 use Rattle.jiter_incremental.proofs.Documents.Blanks.{if-refused}
-use Rattle.jiter_incremental.proofs.NumberBegins.{stays-so}
 use Rattle.jiter_incremental.proofs.reader.Reader.begin_number.Goals as goal
 
 pub returns-in_err-begin-clause-stays : goal.returns-in_err-begin-clause-stays

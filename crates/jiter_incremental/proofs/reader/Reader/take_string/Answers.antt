@@ -1,85 +1,63 @@
-use Rattle.jiter_incremental.proofs.Words.{List, ℕ, subst, sym, ◌-◌, ◌≡◌, arith, GoesOnWith, HasTaken, Steps, refused, Reader}
-use Rattle.jiter_incremental.proofs.Words.{view}
-use Rattle.jiter_steps.specs.declared.partial_string.StringStep.{StringStep}
+use Rattle.jiter_incremental.proofs.Words.{subst, sym, ◌-◌, ◌≡◌, arith, Steps, refused, Reader, view}
 use Rattle.jiter_incremental.proofs.StringSteps.{quote-here, quote-is, quote-steps, string-stays, taken-steps, wrong-before, wrong-steps}
 use Rattle.jiter_incremental.proofs.reader.Reader.take_string.Goals as goal
 
 pub close_string-requires-clause-here : goal.close_string-requires-clause-here
 close_string-requires-clause-here c =
-    let i = c.args.self.now in
     let r = c.requires in
     let s = c.next.new.self in
-    let g =
-    subst (λ (x : StringStep). (u : List ℕ) → HasTaken i.string u → GoesOnWith s u c.args.chunk.now i.at x) c.in-Ok-Quote.field-0-is
-    c.in-Ok-Quote.ensures.goes in
-    quote-here c.args.level c.args.chunk.now i (view c.args.slot.now) r.here r.token s g
+    let g = rw c.in-Ok-Quote.field-0-is at c.in-Ok-Quote.ensures.goes in
+    quote-here c.args.level c.args.chunk.now c.args.self.now (view c.args.slot.now) r.here r.token s g
 
 pub close_string-requires-clause-quote : goal.close_string-requires-clause-quote
 close_string-requires-clause-quote c =
-    let i = c.args.self.now in
     let r = c.requires in
     let s = c.next.new.self in
-    let g =
-    subst (λ (x : StringStep). (u : List ℕ) → HasTaken i.string u → GoesOnWith s u c.args.chunk.now i.at x) c.in-Ok-Quote.field-0-is
-    c.in-Ok-Quote.ensures.goes in
-    (quote-is c.args.level c.args.chunk.now i (view c.args.slot.now) r.here r.token s g).1
+    let g = rw c.in-Ok-Quote.field-0-is at c.in-Ok-Quote.ensures.goes in
+    (quote-is c.args.level c.args.chunk.now c.args.self.now (view c.args.slot.now) r.here r.token s g).1
 
 pub close_string-requires-clause-whole : goal.close_string-requires-clause-whole
 close_string-requires-clause-whole c =
-    let i = c.args.self.now in
     let r = c.requires in
     let s = c.next.new.self in
-    let g =
-    subst (λ (x : StringStep). (u : List ℕ) → HasTaken i.string u → GoesOnWith s u c.args.chunk.now i.at x) c.in-Ok-Quote.field-0-is
-    c.in-Ok-Quote.ensures.goes in
-    (quote-is c.args.level c.args.chunk.now i (view c.args.slot.now) r.here r.token s g).0
+    let g = rw c.in-Ok-Quote.field-0-is at c.in-Ok-Quote.ensures.goes in
+    (quote-is c.args.level c.args.chunk.now c.args.self.now (view c.args.slot.now) r.here r.token s g).0
 
 pub overflow_sub-position : goal.overflow_sub-position
 overflow_sub-position c =
-    let i = c.args.self.now in
     let r = c.requires in
     let s = c.next.new.self in
-    let g =
-    subst (λ (x : StringStep). (u : List ℕ) → HasTaken i.string u → GoesOnWith s u c.args.chunk.now i.at x) c.in-Ok-Wrong.field-0-is
-    c.in-Ok-Wrong.ensures.goes in
-    let low = wrong-before c.args.level c.args.chunk.now i (view c.args.slot.now) r.here r.token s c.in-Ok-Wrong.kind c.in-Ok-Wrong.back g in
+    let g = rw c.in-Ok-Wrong.field-0-is at c.in-Ok-Wrong.ensures.goes in
+    let low = wrong-before c.args.level c.args.chunk.now c.args.self.now (view c.args.slot.now) r.here r.token s c.in-Ok-Wrong.kind c.in-Ok-Wrong.back g in
     omega (arith, low, c.position.ensures)
 
 pub returns-in-Ok-Taken-clause-steps : goal.returns-in-Ok-Taken-clause-steps
 returns-in-Ok-Taken-clause-steps c =
-    let i = c.args.self.now in
     let r = c.requires in
     let s = c.next.new.self in
-    let g =
-    subst (λ (x : StringStep). (u : List ℕ) → HasTaken i.string u → GoesOnWith s u c.args.chunk.now i.at x) c.in-Ok-Taken.field-0-is
-    c.in-Ok-Taken.ensures.goes in
-    taken-steps c.args.level c.args.chunk.now i (view c.args.slot.now) r.here r.token s c.in-Ok-Taken.count g
+    let g = rw c.in-Ok-Taken.field-0-is at c.in-Ok-Taken.ensures.goes in
+    taken-steps c.args.level c.args.chunk.now c.args.self.now (view c.args.slot.now) r.here r.token s c.in-Ok-Taken.count g
     (rw c.in-Ok-Taken.field-0-is at c.in-Ok-Taken.ensures.part)
 
 pub returns-in-Ok-Quote-clause-steps : goal.returns-in-Ok-Quote-clause-steps
 returns-in-Ok-Quote-clause-steps c =
-    let i = c.args.self.now in
     let r = c.requires in
     let s = c.next.new.self in
-    let g =
-    subst (λ (x : StringStep). (u : List ℕ) → HasTaken i.string u → GoesOnWith s u c.args.chunk.now i.at x) c.in-Ok-Quote.field-0-is
-    c.in-Ok-Quote.ensures.goes in
-    quote-steps c.args.level c.args.chunk.now i (view c.args.slot.now) r.here r.token s g c.close_string.new.self (view c.close_string.new.slot) c.close_string.result
+    let g = rw c.in-Ok-Quote.field-0-is at c.in-Ok-Quote.ensures.goes in
+    quote-steps c.args.level c.args.chunk.now c.args.self.now (view c.args.slot.now) r.here r.token s g c.close_string.new.self (view c.close_string.new.slot) c.close_string.result
     c.close_string.ensures.steps
 
 pub returns-in-Ok-Wrong-clause-steps : goal.returns-in-Ok-Wrong-clause-steps
 returns-in-Ok-Wrong-clause-steps c =
-    let i = c.args.self.now in
     let r = c.requires in
     let s = c.next.new.self in
-    let g =
-    subst (λ (x : StringStep). (u : List ℕ) → HasTaken i.string u → GoesOnWith s u c.args.chunk.now i.at x) c.in-Ok-Wrong.field-0-is
-    c.in-Ok-Wrong.ensures.goes in
+    let g = rw c.in-Ok-Wrong.field-0-is at c.in-Ok-Wrong.ensures.goes in
     let v = view c.args.slot.now in
+    let i = c.args.self.now in
     subst (λ (x : Reader). Steps c.args.level c.args.chunk.now i v x v 1)
     (sym (subst (λ n. c.refuse.new.self ≡ refused (record i { string = s }) c.in-Ok-Wrong.kind (n - c.in-Ok-Wrong.back))
     c.position.ensures c.refuse.ensures))
-    (wrong-steps c.args.level c.args.chunk.now i (view c.args.slot.now) r.here r.token s c.in-Ok-Wrong.kind c.in-Ok-Wrong.back g)
+    (wrong-steps c.args.level c.args.chunk.now c.args.self.now (view c.args.slot.now) r.here r.token s c.in-Ok-Wrong.kind c.in-Ok-Wrong.back g)
 
 pub returns-in-Err-clause-stays : goal.returns-in-Err-clause-stays
 returns-in-Err-clause-stays c =

@@ -1,5 +1,4 @@
-use Rattle.jiter_incremental.proofs.Words.{◌-◌, subst, sym, string_bytes, text_view, Tree, view, Steps}
-use Rattle.jiter_incremental.proofs.Words.{IsPut, Reader}
+use Rattle.jiter_incremental.proofs.Words.{◌-◌, subst, sym, string_bytes, text_view, Tree, view, Steps, IsPut, Reader}
 use Rattle.jiter_incremental.specs.declared.reader.Awaits.TheVariants as awaits
 use Rattle.jiter_incremental.proofs.Documents.Blanks.{if-refused}
 use Rattle.jiter_incremental.proofs.Documents.WholeTokens.{text-scalar}
