@@ -110,7 +110,6 @@ fn answer<'j>(reading: &mut Reading<'j>, bytes: &'j [u8]) -> Result<JsonValue<'j
             }
         }
         State::GivenUp => {
-            drop_root(&mut reading.stacks);
             let error = take_error(&mut reading.stacks);
             Err(error_at(error, parser.index))
         }

@@ -18,7 +18,7 @@ ghost use Rattle.jiter_value.specs.Value.{view, MayGrowBy};
 ghost use Rattle.jiter_value.specs.declared.stacks.Stacks.{Stacks as StacksView};
 
 use crate::settings::Settings;
-use crate::stacks::{Slot, Stacks, State, drop_root, no_error, take_error, take_root};
+use crate::stacks::{Slot, Stacks, State, no_error, take_error, take_root};
 use crate::string_storage::StringStorage;
 use crate::turns::key_turns::key_turn;
 use crate::turns::scalars::turn_into;
@@ -247,7 +247,6 @@ impl<'s> Reading<'s> {
     ///
     /// `texts` is for the reader's bytes and keeps duplicate keys. The reader's position is before the length, and the
     /// stacks are empty.
-    #[inline(always)]
     pub fn run<T: StringStorage<'s>>(
         &mut self,
         texts: T,
@@ -273,10 +272,7 @@ impl<'s> Reading<'s> {
         parser.index = self.at;
         match state {
             State::Done => Ok(take_root(&mut self.stacks)),
-            _ => {
-                drop_root(&mut self.stacks);
-                Err(take_error(&mut self.stacks))
-            }
+            _ => Err(take_error(&mut self.stacks)),
         }
     }
 }

@@ -8,7 +8,7 @@ ghost use Rattle.jiter_value.specs.Words.{keys_of, HoldsNothing, IsKeyRead, has_
 ghost use Rattle.jiter_value.specs.Words.{object_has_key, fault_at_key, fault_of, HasStopped, GivesUnique};
 ghost use Rattle.jiter_value.specs.Words.{WhereUniqueRefused, MayGrowBy};
 
-use crate::stacks::{OpenContainer, Stacks, State, drop_root, take_error, take_root};
+use crate::stacks::{OpenContainer, Stacks, State, take_error, take_root};
 use crate::string_storage::BorrowingUnique;
 use crate::turns::duplicate_keys::{DuplicateKeyIndex, drop_closed, is_new_key};
 use crate::turns::{KeyPolicy, Reading};
@@ -258,12 +258,8 @@ pub fn run_unique<'s>(
     parser.index = reading.at;
     match state {
         State::Done => Ok(take_root(&mut reading.stacks)),
-        State::GivenUp => {
-            drop_root(&mut reading.stacks);
-            Err(Interrupted::Read(take_error(&mut reading.stacks)))
-        }
+        State::GivenUp => Err(Interrupted::Read(take_error(&mut reading.stacks))),
         _ => {
-            drop_root(&mut reading.stacks);
             let DistinctKeys { sets: _, stopped } = keys;
             match stopped {
                 Some((why, place)) => {

@@ -30,5 +30,5 @@ returns-in-GivenUp-clause-parses c =
     let over = rw c.in-GivenUp.is at c.requires.over in
     let e = r.stacks.error in
     error-parses as_read (MayGrow t) r.settings t r.at e c.error_at-in-GivenUp.result
-    (rw (c.take_error-error.ensures, c.drop_root.ensures) at c.error_at-in-GivenUp.ensures) (lent-gives r.settings t (Err e) r.at over.0) over.1
+    (rw c.take_error-error.ensures at c.error_at-in-GivenUp.ensures) (lent-gives r.settings t (Err e) r.at over.0) over.1
     over.2 over.3

@@ -69,9 +69,9 @@ returns-in_default g c =
     let over = given-up r.state (λ h. c.in_default.not-Done (e.state ∙ h)) (λ on. (e.ended refl on).1) in
     record {
       moves = record { same = refl; forward = gone.within.0 };
-      value = rw (c.take_error.ensures, c.drop_root.ensures)
+      value = rw c.take_error.ensures
           (failed-value policy W t i c.args.self.now.settings r.stacks r.at r.state come over);
-      memory = rw (c.take_error.ensures, c.drop_root.ensures)
+      memory = rw c.take_error.ensures
           (failed-memory policy W t i c.args.self.now.settings r.stacks r.at r.state come over);
       cleared = tt;
       settings = e.settings;

@@ -75,8 +75,8 @@ returns-in-GivenUp c =
     let over = sym e.state ∙ c.in-GivenUp.is in
     record {
       moves = record { same = refl; forward = gone.within.0 };
-      value = rw (c.take_error.ensures, c.drop_root.ensures) (failed-value lent_unique ⊥ t i p r.stacks r.at r.state come over);
-      memory = rw (c.take_error.ensures, c.drop_root.ensures) (failed-memory lent_unique ⊥ t i r.settings r.stacks r.at r.state gone over);
+      value = rw c.take_error.ensures (failed-value lent_unique ⊥ t i p r.stacks r.at r.state come over);
+      memory = rw c.take_error.ensures (failed-memory lent_unique ⊥ t i r.settings r.stacks r.at r.state gone over);
       settings = e.settings;
     }
 
