@@ -174,10 +174,7 @@ pub fn put_reserved<'j>(stacks: &mut Stacks<'j>, slot: Slot, value: JsonValue<'j
     match slot {
         Slot::Item => stacks.items.push_reserved(value),
         Slot::Member => set_last(&mut stacks.members, value),
-        Slot::Root => {
-            drop_root(stacks);
-            stacks.root = value;
-        }
+        Slot::Root => stacks.root = value,
     }
 }
 
@@ -305,7 +302,7 @@ pub fn take_root<'j>(stacks: &mut Stacks<'j>) -> JsonValue<'j>
     mem::replace(&mut stacks.root, JsonValue::Null)
 }
 
-/// Drops the value of the document, if there is one. Before it is put there is none, and a test costs less than a drop.
+/// Drops the value of the document, if there is one. Between turns there is none, and a test costs less than a drop.
 #[inline(always)]
 pub fn drop_root<'j>(stacks: &mut Stacks<'j>)
     ensures { stacks.new ≡ without_root stacks.old }

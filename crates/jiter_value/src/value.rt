@@ -5,7 +5,6 @@ ghost use Rattle.jiter_value.specs.Words.{IsDocument, value_of, Parses, as_read,
 
 use crate::reading::read_text;
 use crate::settings::Settings;
-use crate::stacks::drop_root;
 use crate::turns::Reading;
 use jiter_scan::{JsonError, JsonErrorType, PartialMode};
 use std::alloc::Global;
@@ -201,10 +200,7 @@ impl<'j> JsonValue<'j> {
             mode: allow_partial,
         };
         let mut reading = Reading::new(alloc, settings);
-        let result = read_text(&mut reading, bytes);
-        // The value was moved out of it: after this test nothing of it is read to be dropped.
-        drop_root(&mut reading.stacks);
-        result
+        read_text(&mut reading, bytes)
     }
 }
 

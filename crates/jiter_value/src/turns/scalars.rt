@@ -126,7 +126,7 @@ fn escaped_turn<'s, T: StringStorage<'s>>(
     }
 }
 
-// The string at `at`, if it isn't plain ASCII up to its quote, or has an error. `found` is what a look at it found.
+// The string at `at`, if it isn't plain ASCII up to its quote, or has an error. A look at it found `look` at `to`.
 #[cold]
 #[inline(never)]
 fn slow_text_turn<'s, T: StringStorage<'s>>(
@@ -134,17 +134,19 @@ fn slow_text_turn<'s, T: StringStorage<'s>>(
     texts: T,
     bytes: &[u8],
     at: usize,
-    found: (usize, Look),
+    to: usize,
+    look: Look,
     slot: Slot,
 ) -> (usize, State)
     requires texts { T.of texts bytes.now }
     requires at_value { IsAtValue bytes.now reading.old.stacks slot at }
     requires begins { start_of (slice_index bytes.now at) ≡ Start.String }
-    requires stop { found.0 ≡ scan_stop bytes.now (at + 1) }
-    requires found { IsLook bytes.now (at + 1) found.0 found.1 }
+    requires stop { to ≡ scan_stop bytes.now (at + 1) }
+    requires found { IsLook bytes.now (at + 1) to look }
     ensures { Turned T.policy T.wants bytes.now at slot reading.old reading.new result }
 {
     let keep = reading.settings.mode.allow_trailing_str();
+    let found = (to, look);
     match string_from(reading.alloc, &mut reading.buffer, bytes, at, found, keep) {
         Ok((text, end)) => match texts.store(bytes, at + 1, text) {
             Ok(kept) => { put_and_go_on::<T>(reading, bytes, at, end, slot, JsonValue::Str(kept)) }
@@ -177,7 +179,7 @@ fn text_turn<'s, T: StringStorage<'s>>(
             Err(refused) => no_memory(&mut reading.stacks, refused, to + 1),
         },
         Look::Escaped(ascii) => escaped_turn(reading, texts, bytes, at, to, ascii, slot),
-        _ => slow_text_turn(reading, texts, bytes, at, (to, look), slot),
+        _ => slow_text_turn(reading, texts, bytes, at, to, look, slot),
     }
 }
 

@@ -7,8 +7,8 @@ returns c =
     let names = c.args.allow_inf_nan in
     let mode = c.args.allow_partial in
     let t = c.args.bytes.now in
-    let r = c.read_text-result.result in
-    let read = rw c.new-reading.ensures.settings at c.read_text-result.ensures.parses in
+    let r = c.read_text.result in
+    let read = rw c.new-reading.ensures.settings at c.read_text.ensures.parses in
     record {
       found = read.found;
       accepts = read.accepts;
