@@ -97,7 +97,7 @@ module _ {E : Type 0} (by : Manner E) (names : Bool) (law : Laws by names) (made
         let within = subst (Within t 0) read (law.within mode t) in within.2
 
     module _ (Grows : Type 0) where
-      -- Want of memory is answered where the call may want some, from the value's first byte to the length.
+      -- Out of memory is the answer only where the call may allocate, from the first byte of the value to the length.
       abbrev pub IsWanted : E → Type 0
       IsWanted e = by.IsMemory e → Grows × (past_blanks t 0 ≤ by.index e) × (by.index e ≤ length t)
 

@@ -56,7 +56,7 @@ laws names = record {
 }
 
 module _ (names : Bool) (t : List ℕ) (mode : PartialMode) (made : Tree → Tree) (Grows : Type 0) where
-  -- Want of memory is answered where the call may want some, from the value's first byte to the length.
+  -- Out of memory is the answer only where the call may allocate, from the first byte of the value to the length.
   abbrev pub IsWanted : JsonError → Type 0
   IsWanted e = e.error_type ≡ OutOfMemory → Grows × (past_blanks t 0 ≤ e.index) × (e.index ≤ length t)
 
