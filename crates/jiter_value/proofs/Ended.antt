@@ -3,7 +3,7 @@ use Rattle.jiter_value.proofs.Words.{◌≡◌, ◌≢◌, ◌∙◌, inl, inr, 
 use Rattle.jiter_value.proofs.Words.{reverse, subst, Err, IfOk, Returns, done, value_at, WhereRefused, ReadError}
 use Rattle.jiter_value.proofs.Words.{HoldsNothing, TextPolicy, rules_as, HaveKeys, Member, keys_of, held, held_in, size}
 use Rattle.jiter_value.proofs.Words.{GoesOn, HasReached, MayGrowFor, outcome, view, MayGrowBy, Settings, Stacks, State}
-use Rattle.jiter_value.proofs.Words.{JsonValue, past_blanks, lent}
+use Rattle.jiter_value.proofs.Words.{JsonValue, past_blanks, borrowed}
 use Rattle.jiter_steps.specs.declared.read_error.ReadError.TheVariants as error
 use Rattle.jiter_value.specs.Turns.{HasTurned}
 use Rattle.jiter_value.specs.declared.turns.Reading.{Reading}
@@ -75,7 +75,7 @@ key-grows policy W t i p s j come = elim come.grows [ inl root ↦ absurd (cc) |
 
 -- The same of a whole text.
 pub has-ended : (t : List ℕ) (p : Settings) (s : Stacks) (j : ℕ) (a : State)
-    → HasReached lent ⊥ t (past_blanks t 0) p s j a → (GoesOn a → ⊥) → HasEnded t p j a s
+    → HasReached borrowed ⊥ t (past_blanks t 0) p s j a → (GoesOn a → ⊥) → HasEnded t p j a s
 has-ended t p s j state.Root come over = absurd (over tt)
 has-ended t p s j state.Item come over = absurd (over tt)
 has-ended t p s j state.Member come over = absurd (over tt)
@@ -83,11 +83,11 @@ has-ended t p s j state.Key come over = absurd (over tt)
 has-ended t p s j state.Done come over = come
 has-ended t p s j state.GivenUp come over =
     let i = past_blanks t 0 in (
-      answer-refused (rules_as lent p) p.mode t come.begins s.error j
-          (failed-value lent ⊥ t i p s j state.GivenUp come refl),
+      answer-refused (rules_as borrowed p) p.mode t come.begins s.error j
+          (failed-value borrowed ⊥ t i p s j state.GivenUp come refl),
       come.within.1,
       refused-weaker {X = JsonValue} (Err s.error) _ _ (grows-borrowing t i)
-          (failed-memory lent ⊥ t i p s j state.GivenUp come refl),
+          (failed-memory borrowed ⊥ t i p s j state.GivenUp come refl),
       refused-any JsonValue s.error (i ≤ j) come.within.0,
     )
 

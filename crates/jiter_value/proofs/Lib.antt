@@ -1,5 +1,5 @@
 pub mod MadeTexts
-pub mod LentTexts
+pub mod BorrowedTexts
 pub mod WholeTextAnswers
 pub mod StackTurns
 pub mod QuotedKeys

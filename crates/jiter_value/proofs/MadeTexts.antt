@@ -6,7 +6,7 @@ use Rattle.jiter_value.proofs.Words.{seen_as, value_form, whole_trees, answer_in
 use Rattle.jiter_value.proofs.Words.{Rules, done, fault, value_at, prefix_answer, whole_answer, whole, string_at, Text}
 use Rattle.jiter_value.proofs.Words.{Tree, Items, no_items, item, Members, no_members, member, items_of, members_of}
 use Rattle.jiter_value.proofs.Words.{own_bytes, unique_answer_in, Literal, string_at-within, Advances, as_it_is}
-use Rattle.jiter_value.proofs.Words.{tree_as, reading_as, TextPolicy, lent, lent_unique, rules_as, answer_with, answer_as}
+use Rattle.jiter_value.proofs.Words.{tree_as, reading_as, TextPolicy, borrowed, borrowed_unique, rules_as, answer_with, answer_as}
 use Rattle.jiter_value.proofs.Words.{answer_by, Settings}
 use Rattle.std.proofs.lemmas.Option.{none-some}
 use Rattle.jiter_steps.specs.Answer.{nothing_forgiven}
@@ -171,7 +171,7 @@ keys-same [] = refl
 keys-same (m ∷ ms) = ap (λ ks. own_bytes m.0 ∷ ks) (keys-same ms)
 
 unique-same : (t : List ℕ) (members : List (Text × Tree)) (i : ℕ)
-    → repeats_refused members t i ≡ refused_as lent_unique (pairs as_it_is (tree_as as_it_is) members) t i
+    → repeats_refused members t i ≡ refused_as borrowed_unique (pairs as_it_is (tree_as as_it_is) members) t i
 unique-same t members i = ap (λ ks. repeated_key own_bytes ks t (string_at whole t i)) (keys-same members)
 
 unique_with-in : (names : Bool) (mode : PartialMode) (t : List ℕ)
@@ -206,13 +206,13 @@ reading_as-it_is (done v e) = ap (λ w. done w e) (tree_as-it_is v)
 reading_as-it_is (fault k i stop) = refl
 
 pub value_at-it_is : (p : Settings) (t : List ℕ) (levels i : ℕ)
-    → value_at (rules_as lent p) t levels i ≡ value_at (rules p) t levels i
-value_at-it_is p t levels i = value_at-as lent refl p t levels i ∙ reading_as-it_is (value_at (rules p) t levels i)
+    → value_at (rules_as borrowed p) t levels i ≡ value_at (rules p) t levels i
+value_at-it_is p t levels i = value_at-as borrowed refl p t levels i ∙ reading_as-it_is (value_at (rules p) t levels i)
 
 -- What a text answers where repeated keys are refused.
 pub answer_as-unique : (p : Settings) (t : List ℕ)
-    → answer_as lent_unique p t ≡ unique_answer_in p.allow_inf_nan p.mode t
+    → answer_as borrowed_unique p t ≡ unique_answer_in p.allow_inf_nan p.mode t
 answer_as-unique p t =
-    answer-given lent_unique p t repeats_refused (unique-same t)
+    answer-given borrowed_unique p t repeats_refused (unique-same t)
     ∙ reading_as-it_is (answer_with p.mode (rules_refusing repeats_refused p) t)
     ∙ unique_with-in p.allow_inf_nan p.mode t

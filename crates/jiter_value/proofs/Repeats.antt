@@ -4,7 +4,7 @@ use Rattle.jiter_value.proofs.Words.{refl, sym, ap, ◌∙◌, arith, cond, subs
 use Rattle.jiter_value.proofs.Words.{Some, None, Result, Err, bytes_eq, Kind, duplicate_key, taken, failed, PartialMode}
 use Rattle.jiter_value.proofs.Words.{Off, On, TrailingStrings, resume, object_in, Reading, Rules, Container, fault}
 use Rattle.jiter_value.proofs.Words.{value_at, step, colon, value_first, text_view, string_at, whole, Text, Tree}
-use Rattle.jiter_value.proofs.Words.{own_bytes, if_forgiven-no, resume-fault, TextPolicy, lent_unique, forgives, rules_as}
+use Rattle.jiter_value.proofs.Words.{own_bytes, if_forgiven-no, resume-fault, TextPolicy, borrowed_unique, forgives, rules_as}
 use Rattle.jiter_value.proofs.Words.{answer_as, Member, member_view, frames, HaveKeyBase, IsFree, StandsAtKey}
 use Rattle.jiter_value.proofs.Words.{refused_in, key_in, denotes, IsKeyRead, IsWithin, has_key}
 use Rattle.jiter_value.proofs.Words.{WhereUniqueRefused, GivesUniqueWhole, object_has_key, GivesWhole, past_blanks}
@@ -63,14 +63,14 @@ module _ (policy : TextPolicy) (t : List ℕ) (os : List OpenContainer) (n : ℕ
   key-read unique k e is = refused-read os stands k e is ∙ (rw unique refl)
 
 -- The same where the key was read: a repeated key's error.
-pub refused-key : (t : List ℕ) (s : Stacks) (i e j : ℕ) (k : Text) → StandsAtKey s → IsKeyRead lent_unique t i e j k
-    → refused_in lent_unique t (reverse s.nest.items) s.members.items i ≡ fault_at_key k.bytes s t e
+pub refused-key : (t : List ℕ) (s : Stacks) (i e j : ℕ) (k : Text) → StandsAtKey s → IsKeyRead borrowed_unique t i e j k
+    → refused_in borrowed_unique t (reverse s.nest.items) s.members.items i ≡ fault_at_key k.bytes s t e
 refused-key t s i e j k stands h =
-    key-read lent_unique t (reverse s.nest.items) (length s.items.items) s.members.items i stands refl h.key e h.read
+    key-read borrowed_unique t (reverse s.nest.items) (length s.items.items) s.members.items i stands refl h.key e h.read
     ∙ ap (λ x. fault_at_key x.bytes s t e) (sym h.kept)
 
-pub free-key : (t : List ℕ) (s : Stacks) (i e j : ℕ) (k : Text) → StandsAtKey s → IsKeyRead lent_unique t i e j k
-    → object_has_key k.bytes s ≡ false → IsFree lent_unique t s i
+pub free-key : (t : List ℕ) (s : Stacks) (i e j : ℕ) (k : Text) → StandsAtKey s → IsKeyRead borrowed_unique t i e j k
+    → object_has_key k.bytes s ≡ false → IsFree borrowed_unique t s i
 free-key t s i e j k stands h new =
     refused-key t s i e j k stands h ∙ ap (λ b. cond b (after_its_colon k.bytes (step t colon e)) None) new
 
@@ -88,11 +88,11 @@ repeat-kept On key = refl
 repeat-kept TrailingStrings key = refl
 
 pub key-repeated : (p : Settings) (t : List ℕ) (os : List OpenContainer) (es : List JsonValue) (ms : List Member) (j x : ℕ)
-    (key : List ℕ) → j < length t → refused_in lent_unique t os ms j ≡ Some (duplicate_key key, x)
-    → key_in lent_unique p t os es ms j ≡ fault (duplicate_key key) x x
+    (key : List ℕ) → j < length t → refused_in borrowed_unique t os ms j ≡ Some (duplicate_key key, x)
+    → key_in borrowed_unique p t os es ms j ≡ fault (duplicate_key key) x x
 key-repeated p t [] es ms j x key lt is = absurd (cc)
 key-repeated p t (o ∷ os) es ms j x key lt is =
-    let r = rules_as lent_unique p in
+    let r = rules_as borrowed_unique p in
     let fs = frames o.outer os es (take o.base ms) in
     let c = object_in r t (length fs) in
     let parts = map member_view (drop o.base ms) in
@@ -104,7 +104,7 @@ key-repeated p t (o ∷ os) es ms j x key lt is =
 
 -- What is returned then.
 pub stops-gives : (p : Settings) (t : List ℕ) (s : Stacks) (i : ℕ) (x : Interrupted) (j : ℕ) (r : Reading Tree)
-    → IsWithin t s state.Key i → r ≡ denotes lent_unique p t s state.Key i → StopsAtKey t s i x j
+    → IsWithin t s state.Key i → r ≡ denotes borrowed_unique p t s state.Key i → StopsAtKey t s i x j
     → GivesUnique (Err x) j r
 stops-gives p t s i (stopped.Read (error.Fault f)) j r w is h = absurd h
 stops-gives p t s i (stopped.Read (error.Memory m)) j r w is h = tt
@@ -120,19 +120,19 @@ stops-grows (stopped.Repeated k) P h = tt
 
 -- The answer of a whole text: where its value is stopped, and where it is read and what follows it is looked at.
 pub whole-stopped : (p : Settings) (t : List ℕ) → past_blanks t 0 < length t → (x : Interrupted) (j : ℕ)
-    → GivesUnique (Err x) j (value_at (rules_as lent_unique p) t 200 (past_blanks t 0))
+    → GivesUnique (Err x) j (value_at (rules_as borrowed_unique p) t 200 (past_blanks t 0))
     → GivesUniqueWhole (Err x) j (unique_answer_in p.allow_inf_nan p.mode t)
 whole-stopped p t begun (stopped.Read e) j h =
-    subst (GivesWhole (Err e) j) (answer_as-unique p t) (answer-refused (rules_as lent_unique p) p.mode t begun e j h)
+    subst (GivesWhole (Err e) j) (answer_as-unique p t) (answer-refused (rules_as borrowed_unique p) p.mode t begun e j h)
 whole-stopped p t begun (stopped.Repeated k) j h =
     sym (answer_as-unique p t)
-    ∙ answer-fault (rules_as lent_unique p) p.mode t begun (duplicate_key (string_bytes k.key)) k.index j h
+    ∙ answer-fault (rules_as borrowed_unique p) p.mode t begun (duplicate_key (string_bytes k.key)) k.index j h
 
 pub whole-none : (p : Settings) (t : List ℕ) (k : Kind) (x i : ℕ) → (step t value_first 0 ≡ failed k x) × (i ≡ x)
     → unique_answer_in p.allow_inf_nan p.mode t ≡ fault k x i
-whole-none p t k x i h = sym (answer_as-unique p t) ∙ answer-none (rules_as lent_unique p) p.mode t k x i h
+whole-none p t k x i h = sym (answer_as-unique p t) ∙ answer-none (rules_as borrowed_unique p) p.mode t k x i h
 
 pub whole-given : (p : Settings) (t : List ℕ) (r : Result JsonValue ReadError) (j : ℕ)
-    → GivesWhole r j (answer_as lent_unique p t)
+    → GivesWhole r j (answer_as borrowed_unique p t)
     → GivesWhole r j (unique_answer_in p.allow_inf_nan p.mode t)
 whole-given p t r j h = subst (GivesWhole r j) (answer_as-unique p t) h

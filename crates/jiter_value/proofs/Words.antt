@@ -52,7 +52,7 @@ pub use Rattle.jiter_value.specs.Pointer.{is_slash, pointed, token_of}
 pub use Rattle.jiter_value.specs.QuotedKeys.{quoted_from}
 pub use Rattle.jiter_value.specs.Reading.{GivesWhole, IsErrorOf}
 pub use Rattle.jiter_value.specs.Scratch.{HoldsNothing}
-pub use Rattle.jiter_value.specs.Settings.{TextPolicy, answer_as, answer_by, answer_with, forgives, lent, lent_unique, rules_as}
+pub use Rattle.jiter_value.specs.Settings.{TextPolicy, answer_as, answer_by, answer_with, forgives, borrowed, borrowed_unique, rules_as}
 pub use Rattle.jiter_value.specs.Size.{after_size, frames_size, held, held_in, inside_size_in, parts_size, size, value_size}
 pub use Rattle.jiter_value.specs.Stacks.{HaveBases, HaveKeyBase, HaveKeys, HavePartBase, IsFree, LeavesKeys, Member, PartTree, Stands, StandsAtKey, after, built, container_fault_in, frames, frames_below, from_value, key_in, keys_of, denotes, member_view, parts_above, refused_in, slot_in}
 pub use Rattle.jiter_value.specs.Turns.{Fails, GoesOn, HasReached, IsKeyRead, IsResolved, IsWithin, MayGrowFor, Proceeds, Reaches, work_left, outcome}

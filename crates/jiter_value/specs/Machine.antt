@@ -3,7 +3,7 @@ use Rattle.std.specs.Prelude.{◌≡◌, ℕ, ◌≤◌, Bool, true, false, List
 use Rattle.jiter_steps.specs.Blank.{past_blanks}
 use Rattle.jiter_steps.specs.ReadError.{WhereRefused}
 use Rattle.jiter_value.specs.Reading.{GivesWhole}
-use Rattle.jiter_value.specs.Settings.{answer_as, lent}
+use Rattle.jiter_value.specs.Settings.{answer_as, borrowed}
 use Rattle.jiter_value.specs.Size.{held_in, left_at}
 use Rattle.jiter_value.specs.Stacks.{Member, Stands}
 use Rattle.jiter_value.specs.Turns.{GoesOn, HasReached}
@@ -54,16 +54,16 @@ held m = held_in m.state (reverse m.nest) m.elements m.members 0
 -- Nothing is read yet, or more of the text's value is awaited; no value is beside the stacks.
 abbrev pub IsUnderWay : Bool → List ℕ → Settings → ℕ → State → Stacks → Type 0
 IsUnderWay false t p i a s = Stands s slot.Root × (i ≡ 0) × (a ≡ state.Root) × (s.root ≡ Null)
-IsUnderWay true t p i a s = HasReached lent ⊥ t (past_blanks t 0) p s i a × GoesOn a × (s.root ≡ Null)
+IsUnderWay true t p i a s = HasReached borrowed ⊥ t (past_blanks t 0) p s i a × GoesOn a × (s.root ≡ Null)
 
 abbrev pub IsReadingOn : Bool → List ℕ → Reading → Type 0
 IsReadingOn begun t r = IsUnderWay begun t r.settings r.at r.state r.stacks
 
 -- The reading of a text has ended: its value is beside the stacks, or it was given up for what the text answers.
 abbrev pub HasEnded : List ℕ → Settings → ℕ → State → Stacks → Type 0
-HasEnded t p j state.Done s = HasReached lent ⊥ t (past_blanks t 0) p s j state.Done
+HasEnded t p j state.Done s = HasReached borrowed ⊥ t (past_blanks t 0) p s j state.Done
 HasEnded t p j state.GivenUp s =
-    GivesWhole (Err s.error) j (answer_as lent p t) × (j ≤ length t)
+    GivesWhole (Err s.error) j (answer_as borrowed p t) × (j ≤ length t)
     × WhereRefused {A = JsonValue} (Err s.error) (MayGrow t)
     × WhereRefused {A = JsonValue} (Err s.error) (past_blanks t 0 ≤ j)
 HasEnded t p j a s = ⊥

@@ -33,11 +33,11 @@ abbrev pub each : (Text → Text) → TextPolicy
 each policy = record { text = policy; unique = false }
 
 -- each text borrowed where it lies, repeated keys kept; and refused
-abbrev pub lent : TextPolicy
-lent = each as_it_is
+abbrev pub borrowed : TextPolicy
+borrowed = each as_it_is
 
-abbrev pub lent_unique : TextPolicy
-lent_unique = record { text = as_it_is; unique = true }
+abbrev pub borrowed_unique : TextPolicy
+borrowed_unique = record { text = as_it_is; unique = true }
 
 -- the error of a key that these members of its object, which are before it, make
 abbrev pub refused_as : TextPolicy → List (Text × Tree) → List ℕ → ℕ → Option (Kind × ℕ)

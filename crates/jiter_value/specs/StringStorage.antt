@@ -9,8 +9,8 @@ pub record LieAt (t : List ℕ) (i : ℕ) (w : List ℕ) : Type 0 where
   pub same : w ≡ slice_range t i (i + length w)
 
 -- a text that is borrowed is in t from i on
-abbrev pub IsLentAt : List ℕ → ℕ → Text → Type 0
-IsLentAt t i s = s.owned ≡ false → LieAt t i s.bytes
+abbrev pub IsBorrowedAt : List ℕ → ℕ → Text → Type 0
+IsBorrowedAt t i s = s.owned ≡ false → LieAt t i s.bytes
 
 -- and so does the text of a number
 abbrev pub IsNumberAt : List ℕ → ℕ → Number → Type 0

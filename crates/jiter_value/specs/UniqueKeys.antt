@@ -13,7 +13,7 @@ use Rattle.jiter_steps.specs.Tree.{Tree}
 use Rattle.jiter_steps.specs.Unique.{after_its_colon}
 use Rattle.jiter_steps.specs.declared.read_error.ReadError.TheVariants as error
 use Rattle.jiter_value.specs.Reading.{GivesWhole}
-use Rattle.jiter_value.specs.Settings.{lent_unique}
+use Rattle.jiter_value.specs.Settings.{borrowed_unique}
 use Rattle.jiter_value.specs.Stacks.{Member, refused_in}
 use Rattle.jiter_value.specs.UniqueErrors.{unique_kind, IsMemoryRefused}
 use Rattle.jiter_value.specs.Value.{view}
@@ -49,7 +49,7 @@ fault_of r = (duplicate_key (string_bytes r.key), r.index)
 -- The reading stopped at j for the key at i: it is repeated and its colon ends at j, or an allocation failed.
 abbrev pub StopsAtKey : List ℕ → Stacks → ℕ → Interrupted → ℕ → Type 0
 StopsAtKey t s i (stopped.Repeated r) j =
-    (refused_in lent_unique t (reverse s.nest.items) s.members.items i ≡ Some (fault_of r)) × (j ≡ r.index)
+    (refused_in borrowed_unique t (reverse s.nest.items) s.members.items i ≡ Some (fault_of r)) × (j ≡ r.index)
 StopsAtKey t s i (stopped.Read (error.Fault f)) j = ⊥
 StopsAtKey t s i (stopped.Read (error.Memory m)) j = Unit {0}
 

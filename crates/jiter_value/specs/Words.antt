@@ -31,10 +31,10 @@ pub use Rattle.jiter_value.specs.Pointer.{is_slash, item_spelled, part_spelled, 
 pub use Rattle.jiter_value.specs.QuotedKeys.{EndsAtAscii, quoted_from}
 pub use Rattle.jiter_value.specs.Reading.{GivesWhole, IsErrorOf}
 pub use Rattle.jiter_value.specs.Scratch.{HoldsNothing, IsCleared}
-pub use Rattle.jiter_value.specs.Settings.{TextPolicy, answer_as, each, forgives, lent_unique, rules, rules_as}
+pub use Rattle.jiter_value.specs.Settings.{TextPolicy, answer_as, each, forgives, borrowed_unique, rules, rules_as}
 pub use Rattle.jiter_value.specs.Size.{after_size, inside_size, size, value_size}
 pub use Rattle.jiter_value.specs.Stacks.{HasRoom, HasRoomIn, HaveKeys, HoldsSame, IsFree, LeavesKeys, Member, Stands, StandsAtKey, StandsInside, after, base_of, container_ends, container_fault, empty_tree, from_value, keys_of, member_view, part_of, resume_with, slot_in, without_root}
-pub use Rattle.jiter_value.specs.StringStorage.{IsLentAt, IsNumberAt}
+pub use Rattle.jiter_value.specs.StringStorage.{IsBorrowedAt, IsNumberAt}
 pub use Rattle.jiter_value.specs.Turns.{Follows, HasTakenKey, IsAtKey, IsAtValue, IsKeyRead, IsPutAt, IsReady, IsRefusedAt, IsResolved, Proceeds, Turned, work_left, outcome}
 pub use Rattle.jiter_value.specs.UniqueErrors.{IsDuplicateKey, IsMemoryRefused, unique_kind}
 pub use Rattle.jiter_value.specs.UniqueKeys.{GivesUnique, GivesUniqueWhole, HasStopped, IsUniqueErrorOf, WhereUniqueRefused, fault_at_key, fault_of, has_key, innermost_base, object_has_key}

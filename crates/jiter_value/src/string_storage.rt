@@ -2,8 +2,8 @@
 ghost use Rattle.std.specs.Prelude.{◌≡◌, ℕ, List, false, true, IfOk, OnErr};
 ghost use Rattle.jiter_steps.specs.StringDecoder.{text_view};
 ghost use Rattle.jiter_value.specs.Owned.{owned_text};
-ghost use Rattle.jiter_value.specs.Settings.{TextPolicy, each, lent, lent_unique};
-ghost use Rattle.jiter_value.specs.StringStorage.{IsLentAt, LieAt};
+ghost use Rattle.jiter_value.specs.Settings.{TextPolicy, each, borrowed, borrowed_unique};
+ghost use Rattle.jiter_value.specs.StringStorage.{IsBorrowedAt, LieAt};
 
 use crate::copies::own_cow;
 use jiter_scan::memory::AllocFailed;
@@ -25,7 +25,7 @@ pub trait StringStorage<'s>: Copy {
     /// Returns a text of the bytes as the value keeps it. A borrowed text begins at `from`.
     fn store(self, bytes: &[u8], from: usize, text: CowStr<'_>) -> Result<CowStr<'s>, AllocFailed>
         requires of { of self bytes.now }
-        requires lent { IsLentAt bytes.now from (text_view text) }
+        requires borrowed { IsBorrowedAt bytes.now from (text_view text) }
         ensures value { IfOk result (λ kept. text_view kept ≡ policy.text (text_view text.entry)) }
         ensures memory { OnErr result wants };
 }
@@ -40,7 +40,7 @@ pub struct Borrowing<'s> {
 impl<'s> StringStorage<'s> for Borrowing<'s> {
     ghost of = { λ b t. b.bytes.now ≡ t };
 
-    ghost policy = { lent };
+    ghost policy = { borrowed };
 
     ghost wants = { ⊥ };
 
@@ -53,8 +53,8 @@ impl<'s> StringStorage<'s> for Borrowing<'s> {
     ) -> Result<CowStr<'s>, AllocFailed> {
         match text {
             // Borrowed once more, for the lifetime of the value. Its UTF-8 isn't tested again.
-            CowStr::Borrowed(lent) => {
-                let again = utf8_text(&self.bytes[from..from + lent.len()]);
+            CowStr::Borrowed(borrowed) => {
+                let again = utf8_text(&self.bytes[from..from + borrowed.len()]);
                 Ok(CowStr::Borrowed(again))
             }
             CowStr::Owned(owned) => Ok(CowStr::Owned(owned)),
@@ -72,7 +72,7 @@ pub struct BorrowingUnique<'s> {
 impl<'s> StringStorage<'s> for BorrowingUnique<'s> {
     ghost of = { λ b t. b.bytes.now ≡ t };
 
-    ghost policy = { lent_unique };
+    ghost policy = { borrowed_unique };
 
     ghost wants = { ⊥ };
 
@@ -125,7 +125,7 @@ pub fn store_borrowed<'s, T: StringStorage<'s>>(
     text: &str,
 ) -> Result<CowStr<'s>, AllocFailed>
     requires of { T.of texts bytes.now }
-    requires lent { LieAt bytes.now from text.now }
+    requires borrowed { LieAt bytes.now from text.now }
     ensures value { IfOk result (λ kept.
         text_view kept ≡ T.policy.text (record { owned = false; bytes = text.now })) }
     ensures memory { OnErr result T.wants }

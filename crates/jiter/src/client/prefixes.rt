@@ -62,6 +62,6 @@ pub fn two_prefixes<'j>(
 /// or object extends that of a shorter one. It does so with borrowed and with owned strings. This holds if the shorter
 /// prefix has the first bracket and does not end inside a number.
 pub fn a_longer_prefix_extends_a_shorter()
-    ensures lent { PrefixesGrow as_read }
+    ensures borrowed { PrefixesGrow as_read }
     ensures owned { PrefixesGrow owned_tree }
 {}

@@ -2,7 +2,7 @@
 ghost use Rattle.std.specs.Prelude.{◌≡◌, ◌+◌, ◌≤◌, ◌<◌, ◌++◌, ◌∷◌, ℕ, List, [], false, length, pos, true};
 ghost use Rattle.std.specs.Prelude.{vec_capacity, vec_len};
 ghost use Rattle.jiter_value.specs.Words.{taken, nesting_limit, fault, text_view, string_at, whole};
-ghost use Rattle.jiter_value.specs.Words.{StandsAtKey, HasRoomIn, HaveKeys, IsLentAt, HasTakenKey, IsAtKey};
+ghost use Rattle.jiter_value.specs.Words.{StandsAtKey, HasRoomIn, HaveKeys, IsBorrowedAt, HasTakenKey, IsAtKey};
 ghost use Rattle.jiter_value.specs.Words.{IsKeyRead, Int, IsLook, scan_stop};
 
 use crate::stacks::{Stacks, State, no_memory, too_deep};
@@ -103,7 +103,7 @@ fn read_key<'s, T: StringStorage<'s>, K: KeyPolicy<'s>>(
     requires known { (ks : List (List ℕ)) × K.knows keys.old ks × HaveKeys ks reading.old.stacks.members.items }
     requires at_key { IsAtKey bytes.now reading.old.stacks at }
     requires read { string_at whole bytes.now at ≡ taken (text_view key) end }
-    requires lent { IsLentAt bytes.now (at + 1) (text_view key) }
+    requires borrowed { IsBorrowedAt bytes.now (at + 1) (text_view key) }
     requires within { (at < end) × (end ≤ length bytes.now) }
     ensures turned { HasTakenKey T.policy reading.old.settings bytes.now at reading.old.stacks reading.new.stacks result
         (K.stopped keys.new) (K.knows keys.new) (K.refuses keys.new bytes.now reading.old.stacks at) }

@@ -191,7 +191,7 @@ fn number_value<'s, T: StringStorage<'s>>(
     number: NumberAny<'_>,
 ) -> Result<JsonValue<'s>, AllocFailed>
     requires texts { T.of texts bytes.now }
-    requires lent { IsNumberAt bytes.now at (number_view number) }
+    requires borrowed { IsNumberAt bytes.now at (number_view number) }
     ensures value { IfOk result (λ v.
         view v ≡ tree_as T.policy.text (number_tree (number_view number.entry))) }
     ensures one { IfOk result (λ v. size (view v) ≡ 1) }

@@ -3,7 +3,7 @@ ghost use Rattle.std.specs.Prelude.{◌≡◌, ◌+◌, ◌≤◌, ◌<◌, ◌�
 ghost use Rattle.std.specs.Prelude.{false, is_some, ◌⊎◌, length, not, reverse, slice_index, true, option_map};
 ghost use Rattle.std.specs.Prelude.{bytes_eq};
 ghost use Rattle.jiter_value.specs.Words.{taken, nesting_limit, NeverMovesBack, value_at, step, colon, text_view};
-ghost use Rattle.jiter_value.specs.Words.{lent_unique, rules_as, HasKeys, IsUpToDate, StandsAtKey, IsFree};
+ghost use Rattle.jiter_value.specs.Words.{borrowed_unique, rules_as, HasKeys, IsUpToDate, StandsAtKey, IsFree};
 ghost use Rattle.jiter_value.specs.Words.{keys_of, HoldsNothing, IsKeyRead, has_key, innermost_base};
 ghost use Rattle.jiter_value.specs.Words.{object_has_key, fault_at_key, fault_of, HasStopped, GivesUnique};
 ghost use Rattle.jiter_value.specs.Words.{WhereUniqueRefused, MayGrowBy};
@@ -163,13 +163,13 @@ impl<'s> DistinctKeys<'s> {
         end: usize,
         key: &CowStr<'s>,
     ) -> bool
-        requires read { (after : ℕ) × IsKeyRead lent_unique bytes.now at end after (text_view key.now) }
+        requires read { (after : ℕ) × IsKeyRead borrowed_unique bytes.now at end after (text_view key.now) }
         requires going { is_some self.old.stopped ≡ false }
         requires stands { StandsAtKey stacks.now }
         requires sets { All (HasKeys (keys_of stacks.now.members.items)) self.old.sets.items }
         ensures sets { result ≡ true
             → All (HasKeys (keys_of stacks.now.members.items ++ (text_view key.now).bytes ∷ [])) self.new.sets.items }
-        ensures free { result ≡ true → IsFree lent_unique bytes.now stacks.now at }
+        ensures free { result ≡ true → IsFree borrowed_unique bytes.now stacks.now at }
         ensures refused { result ≡ false → HasStopped self.new.stopped bytes.now stacks.now at }
         ensures stopped { is_some self.new.stopped ≡ not result }
     {
@@ -189,7 +189,7 @@ impl<'s> DistinctKeys<'s> {
 }
 
 impl<'s> KeyPolicy<'s> for DistinctKeys<'s> {
-    ghost serves = { λ k policy. policy ≡ lent_unique };
+    ghost serves = { λ k policy. policy ≡ borrowed_unique };
 
     ghost knows = { λ k ks. All (HasKeys ks) k.sets.items };
 
@@ -243,7 +243,7 @@ pub fn run_unique<'s>(
     requires holds { HoldsNothing reading.old.stacks }
     ensures moves { NeverMovesBack parser.old parser.new }
     ensures value { GivesUnique result parser.new.index
-        (value_at (rules_as lent_unique reading.old.settings) parser.old.bytes.now nesting_limit parser.old.index) }
+        (value_at (rules_as borrowed_unique reading.old.settings) parser.old.bytes.now nesting_limit parser.old.index) }
     ensures memory { WhereUniqueRefused result (MayGrowBy ⊥ parser.old.bytes.now parser.old.index) }
     ensures settings { reading.new.settings ≡ reading.old.settings }
 {

@@ -17,17 +17,17 @@ abbrev error_at : JiterErrorType → ℕ → JiterError
 error_at t i = record { error_type = t; index = i }
 
 -- what `next_str` replies
-abbrev lent : ReaderState → Reply (List ℕ)
-lent s = reply_seen text_bytes (next s (str_read s))
+abbrev replied : ReaderState → Reply (List ℕ)
+replied s = reply_seen text_bytes (next s (str_read s))
 
 -- the bytes of a text that was borrowed, and how the call leaves a reader that was at 0
 abbrev Leaves : List ℕ → Result (List ℕ) JiterError → ℕ → Type 0
 Leaves t result i =
-    Reads (string_memory t (past_blanks t 0)) (λ x. x) (lent (at t 0)) result (at t 0) (at t i)
+    Reads (string_memory t (past_blanks t 0)) (λ x. x) (replied (at t 0)) result (at t 0) (at t i)
 
 -- after its closing quote
-a_text_is_lent : Leaves (codes "\"a\" 1") (Ok (codes "a")) 3
-a_text_is_lent =
+a_text_is_borrowed : Leaves (codes "\"a\" 1") (Ok (codes "a")) 3
+a_text_is_borrowed =
     unfold computed_replies in record {
       moves = record { same = refl; forward = omega arith; within = omega arith };
       value = refl;

@@ -9,7 +9,7 @@ use Rattle.jiter_steps.specs.Tree.{Text, Tree, boolean, int, object, members_of}
 use Rattle.jiter_steps.specs.Read.{Reading, done, fault}
 use Rattle.jiter_steps.specs.declared.read_error.ReadError.{ReadError}
 use Rattle.jiter_steps.proofs.Computed.{computed_readings}
-use Rattle.jiter_value.specs.Settings.{lent}
+use Rattle.jiter_value.specs.Settings.{borrowed}
 use Rattle.jiter_value.specs.Stacks.{Member, from_key}
 use Rattle.jiter_value.specs.Turns.{IsPutAt, IsKeyAt}
 use Rattle.jiter_value.specs.Value.{view}
@@ -30,7 +30,7 @@ module _ (error : ReadError) where
   module _ (es : Vec JsonValue Global) (ms : Vec Member Global) (no_members : ms.items ≡ []) where
     -- `true`
     a_document : es.items ≡ []
-        → IsPutAt lent (codes "true") (stacks error es ms [] Null) 0 slot.Root
+        → IsPutAt borrowed (codes "true") (stacks error es ms [] Null) 0 slot.Root
         (stacks error es ms [] (value.Bool true)) 4
     a_document no_items = record {
       value = λ p. unfold computed_readings in rw (view_bool true) refl;
@@ -42,7 +42,7 @@ module _ (error : ReadError) where
     }
 
     -- Another value is not put there, nor is it there at another place.
-    not_another : IsPutAt lent (codes "true") (stacks error es ms [] Null) 0 slot.Root
+    not_another : IsPutAt borrowed (codes "true") (stacks error es ms [] Null) 0 slot.Root
         (stacks error es ms [] Null) 4 → ⊥
     not_another h =
         unfold computed_readings in
@@ -50,7 +50,7 @@ module _ (error : ReadError) where
         let read = put ∙ ap (λ v. done v 4) view_null in
         cc
 
-    not_elsewhere : IsPutAt lent (codes "true ") (stacks error es ms [] Null) 0 slot.Root
+    not_elsewhere : IsPutAt borrowed (codes "true ") (stacks error es ms [] Null) 0 slot.Root
         (stacks error es ms [] (value.Bool true)) 5 → ⊥
     not_elsewhere h =
         unfold computed_readings in
@@ -59,7 +59,7 @@ module _ (error : ReadError) where
 
     -- `[null,true]`: the second item, after the first
     an_item : (more : Vec JsonValue Global) → es.items ≡ Null ∷ [] → more.items ≡ Null ∷ (value.Bool true ∷ [])
-        → IsPutAt lent (codes "[null,true]") (stacks error es ms (outermost ∷ []) Null) 6 slot.Item
+        → IsPutAt borrowed (codes "[null,true]") (stacks error es ms (outermost ∷ []) Null) 6 slot.Item
         (stacks error more ms (outermost ∷ []) Null) 10
     an_item more had has = record {
       value = λ p. unfold computed_readings in rw (had, has, view_bool true) refl;
@@ -73,7 +73,7 @@ module _ (error : ReadError) where
   module _ (es : Vec JsonValue Global) (ms more : Vec Member Global) (k : CowStr Global) (none : es.items ≡ []) where
     -- `{"a":true}`: the value of the last member, which had its key alone
     a_member : ms.items ≡ (k, Null) ∷ [] → more.items ≡ (k, value.Bool true) ∷ []
-        → IsPutAt lent (codes "{\"a\":true}") (stacks error es ms (outermost ∷ []) Null) 5 slot.Member
+        → IsPutAt borrowed (codes "{\"a\":true}") (stacks error es ms (outermost ∷ []) Null) 5 slot.Member
         (stacks error es more (outermost ∷ []) Null) 9
     a_member had has = record {
       value = λ p. unfold computed_readings in rw (had, has, view_bool true) refl;
@@ -86,7 +86,7 @@ module _ (error : ReadError) where
 
     -- `{"a":1}`: a key, with any value, as null, until its own comes
     a_key : ms.items ≡ [] → more.items ≡ (k, Null) ∷ [] → text_view k ≡ ascii "a"
-        → IsKeyAt lent (codes "{\"a\":1}") (stacks error es ms (outermost ∷ []) Null) 1
+        → IsKeyAt borrowed (codes "{\"a\":1}") (stacks error es ms (outermost ∷ []) Null) 1
         (stacks error es more (outermost ∷ []) Null) 5
     a_key had has is = record {
       value = λ p. unfold computed_readings in rw (had, has, is) refl;
@@ -100,7 +100,7 @@ module _ (error : ReadError) where
     -- `{"a":1,"b":2}`: a key after a member
     a_second_key : (l : CowStr Global) (v : JsonValue) → ms.items ≡ (l, v) ∷ []
         → more.items ≡ (l, v) ∷ ((k, Null) ∷ []) → text_view k ≡ ascii "b"
-        → IsKeyAt lent (codes "{\"a\":1,\"b\":2}") (stacks error es ms (outermost ∷ []) Null) 7
+        → IsKeyAt borrowed (codes "{\"a\":1,\"b\":2}") (stacks error es ms (outermost ∷ []) Null) 7
         (stacks error es more (outermost ∷ []) Null) 11
     a_second_key l v had has is = record {
       value = λ p. unfold computed_readings in rw (had, has, is) refl;
@@ -114,10 +114,10 @@ module _ (error : ReadError) where
     -- Its value does not begin at the colon, and no other key is put there.
     module _ (had : ms.items ≡ []) where
       abbrev IsPutTo : ℕ → Type 0
-      IsPutTo j = IsKeyAt lent (codes "{\"a\":1}") (stacks error es ms (outermost ∷ []) Null) 1
+      IsPutTo j = IsKeyAt borrowed (codes "{\"a\":1}") (stacks error es ms (outermost ∷ []) Null) 1
           (stacks error es more (outermost ∷ []) Null) j
 
-      key_read : from_key lent (settings Off) (codes "{\"a\":1}") (stacks error es ms (outermost ∷ []) Null) 1
+      key_read : from_key borrowed (settings Off) (codes "{\"a\":1}") (stacks error es ms (outermost ∷ []) Null) 1
           ≡ object_of (ascii "a")
       key_read = unfold computed_readings in rw had refl
 

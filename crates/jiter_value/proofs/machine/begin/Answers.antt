@@ -1,4 +1,4 @@
-use Rattle.jiter_value.proofs.Words.{refl, ap, ◌∙◌, sym, arith, slice_get, value_first, lent, rules_as}
+use Rattle.jiter_value.proofs.Words.{refl, ap, ◌∙◌, sym, arith, slice_get, value_first, borrowed, rules_as}
 use Rattle.std.proofs.lemmas.Option.{slice_get_past}
 use Rattle.jiter_scan.specs.Kind.{eof_value}
 use Rattle.jiter_value.proofs.WholeTextAnswers.{answer-none, begins-at-value}
@@ -14,7 +14,7 @@ returns-then-reading-bytes-clause-begun c = λ _.
     let u = rw c.if-begun.false at c.requires in
     let blanks = c.past_blanks-reading in
     rw (u.2, sym blanks.ensures.value)
-    (begins-at-value lent ⊥ r.settings t r.stacks blanks.result u.0 c.if-reading-bytes.true, tt, u.3)
+    (begins-at-value borrowed ⊥ r.settings t r.stacks blanks.result u.0 c.if-reading-bytes.true, tt, u.3)
 
 pub returns-clause-over : goal.returns-clause-over
 returns-clause-over c = λ _.
@@ -24,7 +24,7 @@ returns-clause-over c = λ _.
     let none = slice_get_past t i (omega (arith, c.if-reading-bytes.false)) in
     let ended = ap (λ j. value_first j (slice_get t j)) (sym c.past_blanks-reading.ensures.value)
     ∙ ap (value_first i) none in (
-      rw c.fault_at-fault.ensures (answer-none (rules_as lent r.settings) r.settings.mode t eof_value i i (ended, refl)),
+      rw c.fault_at-fault.ensures (answer-none (rules_as borrowed r.settings) r.settings.mode t eof_value i i (ended, refl)),
       c.past_blanks-reading.ensures.bound,
       tt,
       tt,

@@ -1,6 +1,6 @@
 use Rattle.jiter_value.proofs.Words.{◌+◌, ◌∙◌, arith, false, refl, ap, sym, slice_get_within, taken, plain-utf8}
 use Rattle.jiter_value.proofs.Words.{look-plain}
-use Rattle.jiter_value.proofs.LentTexts.{range-lies}
+use Rattle.jiter_value.proofs.BorrowedTexts.{range-lies}
 use Rattle.jiter_value.proofs.turns.key_turns.key_turn.Goals as goal
 
 pub utf8_text-requires : goal.utf8_text-requires

@@ -1,5 +1,5 @@
 use Rattle.jiter_value.proofs.Words.{ap, arith, false, length, refl, reverse, fault_kind, scalar_at, text_view}
-use Rattle.jiter_value.proofs.LentTexts.{string-lent}
+use Rattle.jiter_value.proofs.BorrowedTexts.{string-borrowed}
 use Rattle.jiter_value.proofs.Repeats.{no-key}
 use Rattle.jiter_value.proofs.StackTurns.{key-fails}
 use Rattle.jiter_value.proofs.Taking.{left-known, taken-on}
@@ -24,7 +24,7 @@ read_key-requires g c κs =
                 (
                   read.ensures.value,
                   (
-                    string-lent c.args.bytes.now false c.args.at (text_view read.key) read.end u.at_key.2
+                    string-borrowed c.args.bytes.now false c.args.at (text_view read.key) read.end u.at_key.2
                         read.ensures.value,
                     read.ensures.advances,
                   ),

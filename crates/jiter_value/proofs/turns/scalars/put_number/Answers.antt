@@ -4,7 +4,7 @@ use Rattle.std.proofs.Common.{of_z, to_z, to_z-of_z, w64}
 use Rattle.jiter_scan.specs.Number.{minus_of}
 use Rattle.jiter_scan.specs.Number as number
 use Rattle.jiter_scan.proofs.NumberBytes.{IsAscii-decimal, IsMinusTo-le}
-use Rattle.jiter_value.proofs.LentTexts.{range-lies}
+use Rattle.jiter_value.proofs.BorrowedTexts.{range-lies}
 use Rattle.jiter_scan.proofs.FastNumberValues.{short-signed, short-signed_float}
 use Rattle.jiter_value.proofs.Placed.{put-at, number-read}
 use Rattle.jiter_value.proofs.Views.{view_float, view_int}

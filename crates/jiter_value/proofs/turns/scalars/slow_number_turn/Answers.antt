@@ -1,7 +1,7 @@
 use Rattle.jiter_value.proofs.Words.{◌∙◌, ap, arith, refl, sym, fault_kind, done}
 use Rattle.jiter_scan.specs.NumberDecoder.{number_view}
 use Rattle.jiter_steps.specs.declared.parse.Start.TheVariants as start
-use Rattle.jiter_value.proofs.LentTexts.{number-lent}
+use Rattle.jiter_value.proofs.BorrowedTexts.{number-borrowed}
 use Rattle.jiter_value.proofs.Placed.{number-failed, number-read}
 use Rattle.jiter_value.proofs.TurnOutcomes.{grows-kept, refused-turned}
 use Rattle.jiter_value.proofs.turns.scalars.slow_number_turn.Goals as goal
@@ -13,7 +13,7 @@ number_value-requires g c κs =
       (refl, tt),
       (
         c.requires.texts,
-        number-lent a.reading.now.settings.allow_inf_nan a.bytes.now a.at (number_view n.number) n.end
+        number-borrowed a.reading.now.settings.allow_inf_nan a.bytes.now a.at (number_view n.number) n.end
             c.requires.at_value.2 n.ensures.value,
       ),
     )

@@ -1,6 +1,6 @@
 use Rattle.jiter_value.proofs.Words.{◌∙◌, ap, arith, refl, sym, fault_kind, done, text_view, string, size}
 use Rattle.jiter_steps.specs.declared.parse.Start.TheVariants as start
-use Rattle.jiter_value.proofs.LentTexts.{string-lent}
+use Rattle.jiter_value.proofs.BorrowedTexts.{string-borrowed}
 use Rattle.jiter_value.proofs.Placed.{text-failed, text-taken}
 use Rattle.jiter_value.proofs.TurnOutcomes.{grows-decoded, grows-kept, refused-turned}
 use Rattle.jiter_value.proofs.Views.{view_str}
@@ -13,7 +13,7 @@ store-requires g c κs =
       (refl, tt),
       (
         c.requires.texts,
-        string-lent a.bytes.now c.allow_trailing_str-keep.result a.at (text_view read.text) read.end
+        string-borrowed a.bytes.now c.allow_trailing_str-keep.result a.at (text_view read.text) read.end
             c.requires.at_value.2 read.ensures.value,
       ),
     )

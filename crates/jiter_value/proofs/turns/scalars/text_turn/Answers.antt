@@ -2,7 +2,7 @@ use Rattle.jiter_value.proofs.Words.{◌+◌, ◌∙◌, ap, arith, false, refl,
 use Rattle.jiter_value.proofs.Words.{done, string, size}
 use Rattle.jiter_steps.specs.StringReading.{between}
 use Rattle.jiter_steps.specs.declared.parse.Start.TheVariants as start
-use Rattle.jiter_value.proofs.LentTexts.{range-lies}
+use Rattle.jiter_value.proofs.BorrowedTexts.{range-lies}
 use Rattle.jiter_value.proofs.Placed.{text-read}
 use Rattle.jiter_value.proofs.TurnOutcomes.{grows-kept, refused-turned}
 use Rattle.jiter_value.proofs.Views.{view_str}

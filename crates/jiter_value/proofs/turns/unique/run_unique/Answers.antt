@@ -1,4 +1,4 @@
-use Rattle.jiter_value.proofs.Words.{◌∙◌, [], ap, arith, refl, subst, sym, done, HasKeys, lent_unique, HasReached, view}
+use Rattle.jiter_value.proofs.Words.{◌∙◌, [], ap, arith, refl, subst, sym, done, HasKeys, borrowed_unique, HasReached, view}
 use Rattle.std.proofs.lemmas.List.Elements.{All-nil}
 use Rattle.jiter_value.specs.declared.stacks.State.TheVariants as state
 use Rattle.jiter_value.proofs.Ended.{come-first, failed-memory, failed-value, key-grows, no-keys, whole-value}
@@ -20,7 +20,7 @@ go-state-requires c κs =
           (
             refl,
             (
-              (i, come-first lent_unique ⊥ c.args.reading.now.settings t s i h c.requires.within),
+              (i, come-first borrowed_unique ⊥ c.args.reading.now.settings t s i h c.requires.within),
               (tt, ([], rw c.new.ensures.items (All-nil (HasKeys [])), no-keys s h)),
             ),
           ),
@@ -32,7 +32,7 @@ pub invariant_of-parser : goal.invariant_of-parser
 invariant_of-parser c =
     let t = c.args.parser.now.bytes.now in
     let i = c.args.parser.now.index in
-    let first = come-first lent_unique ⊥ c.args.reading.now.settings t c.args.reading.now.stacks i c.requires.holds
+    let first = come-first borrowed_unique ⊥ c.args.reading.now.settings t c.args.reading.now.stacks i c.requires.holds
     c.requires.within in
     record { within = (c.go-state.ensures.gone i first).within.1 }
 
@@ -43,12 +43,12 @@ returns-in-Done c =
     let p = c.args.reading.now.settings in
     let r = c.go-state.new.self in
     let e = c.go-state.ensures in
-    let first = come-first lent_unique ⊥ p t c.args.reading.now.stacks i c.requires.holds c.requires.within in
+    let first = come-first borrowed_unique ⊥ p t c.args.reading.now.stacks i c.requires.holds c.requires.within in
     let gone = e.gone i first in
-    let come = subst (λ p. HasReached lent_unique ⊥ t i p r.stacks r.at r.state) e.settings gone in
+    let come = subst (λ p. HasReached borrowed_unique ⊥ t i p r.stacks r.at r.state) e.settings gone in
     record {
       moves = record { same = refl; forward = gone.within.0 };
-      value = whole-value lent_unique ⊥ t i p r.stacks r.at r.state come (sym e.state ∙ c.in-Done.is)
+      value = whole-value borrowed_unique ⊥ t i p r.stacks r.at r.state come (sym e.state ∙ c.in-Done.is)
           ∙ ap (λ v. done (view v) r.at) (sym c.take_root.ensures.value);
       memory = tt;
       settings = e.settings;
@@ -58,7 +58,7 @@ pub invariant_of-parser-in-GivenUp : goal.invariant_of-parser-in-GivenUp
 invariant_of-parser-in-GivenUp c =
     let t = c.args.parser.now.bytes.now in
     let i = c.args.parser.now.index in
-    let first = come-first lent_unique ⊥ c.args.reading.now.settings t c.args.reading.now.stacks i c.requires.holds
+    let first = come-first borrowed_unique ⊥ c.args.reading.now.settings t c.args.reading.now.stacks i c.requires.holds
     c.requires.within in
     record { within = (c.go-state.ensures.gone i first).within.1 }
 
@@ -69,14 +69,14 @@ returns-in-GivenUp c =
     let p = c.args.reading.now.settings in
     let r = c.go-state.new.self in
     let e = c.go-state.ensures in
-    let first = come-first lent_unique ⊥ p t c.args.reading.now.stacks i c.requires.holds c.requires.within in
+    let first = come-first borrowed_unique ⊥ p t c.args.reading.now.stacks i c.requires.holds c.requires.within in
     let gone = e.gone i first in
-    let come = subst (λ p. HasReached lent_unique ⊥ t i p r.stacks r.at r.state) e.settings gone in
+    let come = subst (λ p. HasReached borrowed_unique ⊥ t i p r.stacks r.at r.state) e.settings gone in
     let over = sym e.state ∙ c.in-GivenUp.is in
     record {
       moves = record { same = refl; forward = gone.within.0 };
-      value = rw c.take_error.ensures (failed-value lent_unique ⊥ t i p r.stacks r.at r.state come over);
-      memory = rw c.take_error.ensures (failed-memory lent_unique ⊥ t i r.settings r.stacks r.at r.state gone over);
+      value = rw c.take_error.ensures (failed-value borrowed_unique ⊥ t i p r.stacks r.at r.state come over);
+      memory = rw c.take_error.ensures (failed-memory borrowed_unique ⊥ t i r.settings r.stacks r.at r.state gone over);
       settings = e.settings;
     }
 
@@ -87,17 +87,17 @@ returns-in-Some c =
     let p = c.args.reading.now.settings in
     let r = c.go-state.new.self in
     let e = c.go-state.ensures in
-    let first = come-first lent_unique ⊥ p t c.args.reading.now.stacks i c.requires.holds c.requires.within in
+    let first = come-first borrowed_unique ⊥ p t c.args.reading.now.stacks i c.requires.holds c.requires.within in
     let on = goes-on r.state (λ h. c.in_default.not-Done (e.state ∙ h)) (λ h. c.in_default.not-GivenUp (e.state ∙ h)) in
     let ended = e.ended refl on in
     let stopped = rw c.in-Some.is at ended.1 in
     let gone = e.gone i first in
-    let come = subst (HasReached lent_unique ⊥ t i p r.stacks r.at) ended.0
-    (subst (λ p. HasReached lent_unique ⊥ t i p r.stacks r.at r.state) e.settings gone) in
-    let key = awaited lent_unique ⊥ t i p r.stacks r.at state.Key come tt in
+    let come = subst (HasReached borrowed_unique ⊥ t i p r.stacks r.at) ended.0
+    (subst (λ p. HasReached borrowed_unique ⊥ t i p r.stacks r.at r.state) e.settings gone) in
+    let key = awaited borrowed_unique ⊥ t i p r.stacks r.at state.Key come tt in
     record {
       moves = record { same = refl; forward = omega (arith, gone.within.0, stopped.1) };
       value = stops-gives p t r.stacks r.at c.in-Some.why c.in-Some.place _ key.1 key.0 stopped.0;
-      memory = stops-grows c.in-Some.why _ (key-grows lent_unique ⊥ t i p r.stacks r.at come);
+      memory = stops-grows c.in-Some.why _ (key-grows borrowed_unique ⊥ t i p r.stacks r.at come);
       settings = e.settings;
     }

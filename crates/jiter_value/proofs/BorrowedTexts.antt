@@ -20,7 +20,7 @@ use Rattle.jiter_steps.specs.StringReading.{valid_prefix_by, text_in_form, kept,
 use Rattle.jiter_steps.proofs.Grammar.Places.{Explains}
 use Rattle.jiter_steps.proofs.Grammar.StringSound.{closed-text}
 use Rattle.jiter_steps.proofs.Reading.Bodies.{part-ahead, each-body}
-use Rattle.jiter_value.specs.StringStorage.{LieAt, IsLentAt, IsNumberAt}
+use Rattle.jiter_value.specs.StringStorage.{LieAt, IsBorrowedAt, IsNumberAt}
 
 length-range : (t : List ℕ) (i j : ℕ) → i ≤ j → j ≤ length t → length (slice_range t i j) ≡ j - i
 length-range t i j h le = length-take-le (j - i) (drop i t) (omega (arith, length-drop i t))
@@ -81,39 +81,39 @@ module _ (t : List ℕ) where
   body-lies = each-body t Lies part-lies over-lies
 
   -- as much of them as is kept
-  prefix-lent : (i : ℕ) (o : Bool) (bs : List ℕ) (e : ℕ) (x : Text) (y : ℕ) (error : Option ℕ)
-      → (o ≡ false → LieAt t i bs) → valid_prefix_by i o bs e error ≡ taken x y → IsLentAt t i x
-  prefix-lent i o bs e x y None lies h =
+  prefix-borrowed : (i : ℕ) (o : Bool) (bs : List ℕ) (e : ℕ) (x : Text) (y : ℕ) (error : Option ℕ)
+      → (o ≡ false → LieAt t i bs) → valid_prefix_by i o bs e error ≡ taken x y → IsBorrowedAt t i x
+  prefix-borrowed i o bs e x y None lies h =
       let is = (same_taken _ x e y h).0 in
       λ mark.
       let k = utf8_valid_len bs in
       let at = lies (ap (λ (z : Text). z.owned) is ∙ mark) in
       subst (LieAt t i) (ap (λ (z : Text). z.bytes) is)
       (prefix-lies t i (take k bs) (drop k bs) (subst (LieAt t i) (sym (take-append-drop k bs)) at))
-  prefix-lent i o bs e x y (Some m) lies h = absurd (failed-taken _ _ x y h)
+  prefix-borrowed i o bs e x y (Some m) lies h = absurd (failed-taken _ _ x y h)
 
-  kept-lent : (i : ℕ) (o : Bool) (bs : List ℕ) (s : Stop) (x : Text) (e : ℕ) → (o ≡ false → LieAt t i bs)
-      → text_in_form kept t i bs o s ≡ taken x e → IsLentAt t i x
-  kept-lent i o bs (closed f) x e lies h =
-      prefix-lent i o bs f x e (utf8_error_len (drop (utf8_valid_len bs) bs)) lies h
-  kept-lent i o bs unclosed x e lies h =
-      prefix-lent i o bs (length t) x e (utf8_error_len (drop (utf8_valid_len bs) bs)) lies h
-  kept-lent i o bs cut x e lies h =
-      prefix-lent i o bs (length t) x e (utf8_error_len (drop (utf8_valid_len bs) bs)) lies h
-  kept-lent i o bs (wrong k j) x e lies h = absurd (failed-taken _ _ x e h)
+  kept-borrowed : (i : ℕ) (o : Bool) (bs : List ℕ) (s : Stop) (x : Text) (e : ℕ) → (o ≡ false → LieAt t i bs)
+      → text_in_form kept t i bs o s ≡ taken x e → IsBorrowedAt t i x
+  kept-borrowed i o bs (closed f) x e lies h =
+      prefix-borrowed i o bs f x e (utf8_error_len (drop (utf8_valid_len bs) bs)) lies h
+  kept-borrowed i o bs unclosed x e lies h =
+      prefix-borrowed i o bs (length t) x e (utf8_error_len (drop (utf8_valid_len bs) bs)) lies h
+  kept-borrowed i o bs cut x e lies h =
+      prefix-borrowed i o bs (length t) x e (utf8_error_len (drop (utf8_valid_len bs) bs)) lies h
+  kept-borrowed i o bs (wrong k j) x e lies h = absurd (failed-taken _ _ x e h)
 
   -- the text of a string whose opening quote is at i
-  pub string-lent : (keep : Bool) (i : ℕ) (x : Text) (e : ℕ) → i < length t → string_at (text_form keep) t i ≡ taken x e
-      → IsLentAt t (i + 1) x
+  pub string-borrowed : (keep : Bool) (i : ℕ) (x : Text) (e : ℕ) → i < length t → string_at (text_form keep) t i ≡ taken x e
+      → IsBorrowedAt t (i + 1) x
   unfolding content_at
-  string-lent false i x e inside h =
+  string-borrowed false i x e inside h =
       let b = body_at t (i + 1) in
       let c = closed-text t (i + 1) b.bytes b.owned b.stop x e h in
       λ mark. subst (LieAt t (i + 1)) (sym (ap (λ (z : Text). z.bytes) c.0))
       (body-lies (i + 1) (omega (arith, inside)) (sym (ap (λ (z : Text). z.owned) c.0) ∙ mark))
-  string-lent true i x e inside h =
+  string-borrowed true i x e inside h =
       let b = body_at t (i + 1) in
-      kept-lent (i + 1) b.owned b.bytes b.stop x e (body-lies (i + 1) (omega (arith, inside))) h
+      kept-borrowed (i + 1) b.owned b.bytes b.stop x e (body-lies (i + 1) (omega (arith, inside))) h
 
 -- a number that is its text
 abbrev IsText : List ℕ → Number → Type 0
@@ -139,9 +139,9 @@ text-lies t i e (big w) h le is = range-lies t i e w h le is
 text-lies t i e (float w) h le is = range-lies t i e w h le is
 
 -- the text of a number that begins at i
-pub number-lent : (names : Bool) (t : List ℕ) (i : ℕ) (n : Number) (e : ℕ) → i < length t
+pub number-borrowed : (names : Bool) (t : List ℕ) (i : ℕ) (n : Number) (e : ℕ) → i < length t
     → number_at names t i ≡ taken n e → IsNumberAt t i n
-number-lent names t i n e inside h =
+number-borrowed names t i n e inside h =
     let within = subst (ScalarWithin t i) h (number_at-within names t i inside) in
     let value = (number_at-sound names t i n e h).1 in
     text-lies t i e n (omega (arith, within.0)) within.1
