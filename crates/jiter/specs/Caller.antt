@@ -82,6 +82,6 @@ pub use Rattle.jiter_scan.specs.declared.errors.JsonErrorType.{JsonErrorType}
 pub use Rattle.jiter_scan.specs.declared.partial_mode.PartialMode.{PartialMode}
 pub use Rattle.jiter_steps.specs.declared.parse.Literal.{Literal}
 pub use Rattle.jiter_steps.specs.declared.parse.Start.{Start}
-pub use Rattle.jiter_value.specs.declared.unique_error.UniqueError.{UniqueError}
-pub use Rattle.jiter_value.specs.declared.unique_error.UniqueErrorType.{UniqueErrorType}
+pub use Rattle.jiter_value.specs.declared.parse.unique_error.UniqueError.{UniqueError}
+pub use Rattle.jiter_value.specs.declared.parse.unique_error.UniqueErrorType.{UniqueErrorType}
 pub use Rattle.jiter_value.specs.declared.value.JsonValue.{JsonValue}

@@ -7,7 +7,7 @@ use Rattle.std.specs.declared.borrow.CowStr.{CowStr}
 use Rattle.jiter_scan.specs.Ascii as ascii
 use Rattle.jiter_scan.specs.Kind.{fault_kind, out_of_memory}
 use Rattle.jiter_scan.specs.Scan.{IsLook, scan_stop}
-use Rattle.jiter_scan.specs.declared.short_scan.Look.TheVariants as look
+use Rattle.jiter_scan.specs.declared.bytes.short_scan.Look.TheVariants as look
 use Rattle.jiter_steps.specs.Literal.{start_of}
 use Rattle.jiter_steps.specs.Step.{Step, more}
 use Rattle.jiter_steps.specs.Tree.{Text}

@@ -9,13 +9,13 @@ ghost use Rattle.jiter.specs.Words.{IsErrorAt, StandsAt, BeginsAs, byte_of, Read
 use crate::errors::{JiterError, JiterErrorType, JiterResult, JsonType};
 use crate::peek::Peek;
 use jiter_scan::errors::{Fault, FaultKind, fault_at};
-use jiter_scan::number_decoder::number_at;
+use jiter_scan::number::number_decoder::number_at;
 use jiter_scan::word::byte_at;
 use jiter_scan::{JsonError, JsonErrorType, NumberAny};
 use jiter_steps::parse::{Literal, Parser, Start, start_of};
 use jiter_steps::read_error::ReadError;
 use jiter_steps::step::peek;
-use jiter_value::reading::error_at;
+use jiter_value::parse::reading::error_at;
 use std::alloc::{AllocError, Global};
 use std::borrow::CowStr;
 use std::marker::Model;

@@ -21,7 +21,7 @@ use Rattle.jiter_value.specs.Parses.{AnswersBy, Parses, as_read, reading_as}
 use Rattle.jiter_value.specs.ParsesUnique.{ParsesUnique, refusing_repeats}
 use Rattle.jiter_value.specs.UniqueErrors.{IsMemoryRefused, unique_kind}
 use Rattle.jiter_value.specs.Value.{Answers, MayGrow, view}
-use Rattle.jiter_value.specs.declared.unique_error.UniqueError.{UniqueError}
+use Rattle.jiter_value.specs.declared.parse.unique_error.UniqueError.{UniqueError}
 use Rattle.jiter_value.specs.declared.value.JsonValue.{JsonValue}
 use Rattle.jiter.specs.Cause.{json_error}
 use Rattle.jiter_c.specs.Documents.{PrintsBytes, RunsOut}

@@ -16,7 +16,7 @@ use Rattle.jiter_scan.specs.declared.errors.FaultKind.TheVariants as fault_of
 use Rattle.jiter_steps.specs.PartialString.{Wherever}
 use Rattle.jiter_steps.specs.StringReading.{checked}
 use Rattle.jiter_steps.specs.declared.parse.ContainerKind.TheVariants as shape
-use Rattle.jiter_steps.proofs.OpenTexts.{is_text-broken, is_text-kept}
+use Rattle.jiter_steps.proofs.Chunks.OpenTexts.{is_text-broken, is_text-kept}
 use Rattle.jiter_incremental.specs.Ends.{IsInside}
 use Rattle.jiter_incremental.specs.declared.reader.Awaits.TheVariants as awaits
 use Rattle.jiter_incremental.specs.declared.reader.Token.TheVariants as token

@@ -13,8 +13,8 @@ use Rattle.jiter_incremental.proofs.Words.{HasTakenTo, IsAt, IsHere, ReadsAsBefo
 use Rattle.jiter_incremental.proofs.Words.{document, refused, IsPut, OpenFrame, filled, Reader}
 use Rattle.jiter_scan.specs.PartialNumber.{Fits}
 use Rattle.jiter_scan.specs.declared.errors.FaultKind.TheVariants as fault_of
-use Rattle.jiter_scan.specs.declared.partial_number.NumberStep.{NumberStep}
-use Rattle.jiter_scan.specs.declared.partial_number.NumberStep.TheVariants as went
+use Rattle.jiter_scan.specs.declared.number.partial_number.NumberStep.{NumberStep}
+use Rattle.jiter_scan.specs.declared.number.partial_number.NumberStep.TheVariants as went
 use Rattle.jiter_incremental.specs.declared.names.WordValue.TheVariants as name
 use Rattle.jiter_incremental.specs.declared.reader.Token.TheVariants as token
 use Rattle.jiter_incremental.proofs.Arms.{byte-taken}

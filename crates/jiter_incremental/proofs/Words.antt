@@ -31,11 +31,11 @@ pub use Rattle.jiter_scan.specs.declared.errors.Fault.{Fault}
 pub use Rattle.jiter_scan.specs.declared.errors.FaultKind.{FaultKind}
 pub use Rattle.jiter_scan.specs.declared.errors.JsonError.{JsonError}
 pub use Rattle.jiter_scan.specs.declared.partial_mode.PartialMode.TheVariants.{Off}
-pub use Rattle.jiter_scan.specs.declared.partial_number.PartialNumber.{PartialNumber}
+pub use Rattle.jiter_scan.specs.declared.number.partial_number.PartialNumber.{PartialNumber}
 pub use Rattle.jiter_scan.specs.declared.partial_word.PartialWord.{PartialWord}
 pub use Rattle.jiter_steps.proofs.Calls.Resumed.{if_forgiven-no, if_forgiven-yes, key-failed, resume-fault}
 pub use Rattle.jiter_steps.proofs.Grammar.Blanks.{past_blanks-blank, past_blanks-end, past_blanks-other}
-pub use Rattle.jiter_steps.proofs.OpenStrings.{ended}
+pub use Rattle.jiter_steps.proofs.Chunks.OpenStrings.{ended}
 pub use Rattle.jiter_steps.proofs.Reading.Values.{inside_at-starts}
 pub use Rattle.jiter_steps.proofs.Reading.WholeTexts.{whole-is}
 pub use Rattle.jiter_steps.specs.Answer.{nothing_forgiven, seen_as, value_form}
@@ -64,7 +64,7 @@ pub use Rattle.jiter_value.specs.Parses.{Parses}
 pub use Rattle.jiter_value.specs.Settings.{answer_as, rules_as}
 pub use Rattle.jiter_value.specs.Stacks.{Member, PartTree, built, empty_tree}
 pub use Rattle.jiter_value.specs.Value.{view}
-pub use Rattle.jiter_value.specs.declared.settings.Settings.{Settings}
+pub use Rattle.jiter_value.specs.declared.parse.settings.Settings.{Settings}
 pub use Rattle.jiter_value.specs.declared.value.JsonValue.{Array, JsonValue, Object, out-JsonValue, the_lemmas}
 pub use Rattle.jiter_value.specs.declared.value.JsonValue.TheOpen.{JsonValue-F}
 pub use Rattle.std.proofs.Common.{Bool, Err, Global, IfOk, IsUtf8, List, None, Ok, OnErr, Option, Result, Some, Vec, [], add-one, ap, append-nil, append_assoc, ap₂, arith, codes, drop, eq-eqb, eqb-true, false, flat_map, get_or, if◌then◌else◌, inl, inr, is_some, length, length-append, length-take-le, ne_eqb, not, option_map, refl, rules, slice_get, slice_index, slice_range, string_bytes, subst, suc, sym, take, take-append-drop, take_all, true, vec_len, zero, ℕ, ◌&&◌, ◌*◌, ◌++◌, ◌+◌, ◌-◌, ◌<◌, ◌==◌, ◌^◌, ◌||◌, ◌∙◌, ◌∷◌, ◌≡◌, ◌≢◌, ◌≤◌, ◌⊎◌}

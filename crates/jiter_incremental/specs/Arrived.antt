@@ -16,7 +16,7 @@ use Rattle.jiter_incremental.specs.Slot.{OpenFrame, begun, filled, AwaitsPart, I
 use Rattle.jiter_value.specs.Stacks.{PartTree, built}
 use Rattle.jiter_incremental.specs.declared.reader.Awaits.{Awaits}
 use Rattle.jiter_incremental.specs.declared.reader.Awaits.TheVariants as awaits
-use Rattle.jiter_value.specs.declared.settings.Settings.{Settings}
+use Rattle.jiter_value.specs.declared.parse.settings.Settings.{Settings}
 
 -- What the bytes so far leave open, where no token is unfinished: inside these containers a value is awaited, or its
 -- colon; inside them is a container of these parts, of which another is awaited, a comma or the end; or the value

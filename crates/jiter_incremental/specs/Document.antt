@@ -15,8 +15,8 @@ use Rattle.jiter_scan.specs.declared.errors.Fault.{Fault}
 use Rattle.jiter_scan.specs.declared.errors.FaultKind.{FaultKind}
 use Rattle.jiter_scan.specs.declared.partial_mode.PartialMode.{PartialMode}
 use Rattle.jiter_scan.specs.declared.partial_mode.PartialMode.TheVariants.{Off}
-use Rattle.jiter_scan.specs.declared.partial_number.Stage.{Stage}
-use Rattle.jiter_scan.specs.declared.partial_number.PartialNumber.{PartialNumber}
+use Rattle.jiter_scan.specs.declared.number.partial_number.Stage.{Stage}
+use Rattle.jiter_scan.specs.declared.number.partial_number.PartialNumber.{PartialNumber}
 use Rattle.jiter_scan.specs.declared.partial_word.PartialWord.{PartialWord}
 use Rattle.jiter_steps.specs.Blank.{past_blanks}
 use Rattle.jiter_steps.specs.Frames.{key_from, value_from, value_in}
@@ -40,7 +40,7 @@ use Rattle.jiter_incremental.specs.declared.names.WordValue.TheVariants as name
 use Rattle.jiter_incremental.specs.declared.reader.Token.{Token}
 use Rattle.jiter_incremental.specs.declared.reader.Token.TheVariants as token
 use Rattle.jiter_incremental.specs.declared.reader.Awaits.TheVariants as awaits
-use Rattle.jiter_value.specs.declared.settings.Settings.{Settings}
+use Rattle.jiter_value.specs.declared.parse.settings.Settings.{Settings}
 
 -- All that is known of the bytes so far, and the value so far.
 pub record Document : Type 0 where

@@ -20,7 +20,7 @@ use Rattle.jiter_value.specs.Stacks.{PartTree, built}
 use Rattle.jiter_incremental.specs.declared.reader.Token.{Token}
 use Rattle.jiter_incremental.specs.declared.reader.Token.TheVariants as token
 use Rattle.jiter_incremental.specs.declared.reader.Awaits.TheVariants as awaits
-use Rattle.jiter_value.specs.declared.settings.Settings.{Settings}
+use Rattle.jiter_value.specs.declared.parse.settings.Settings.{Settings}
 
 -- What is left open with it: an unfinished scalar or key that is no value is dropped.
 abbrev pub so_far : Document → Opened → Arrived

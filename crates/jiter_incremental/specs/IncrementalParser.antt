@@ -9,7 +9,7 @@ use Rattle.jiter_value.specs.Owned.{owned_tree}
 use Rattle.jiter_value.specs.Parses.{Parses}
 use Rattle.jiter_value.specs.Value.{view}
 use Rattle.jiter_incremental.specs.declared.reader.Reader.{Reader}
-use Rattle.jiter_value.specs.declared.settings.Settings.{Settings}
+use Rattle.jiter_value.specs.declared.parse.settings.Settings.{Settings}
 use Rattle.jiter_value.specs.declared.value.JsonValue.{JsonValue}
 
 -- How the document is read, how many bytes were taken, and all that is held of them.

@@ -12,7 +12,7 @@ use Rattle.jiter_incremental.specs.Between.{text_of}
 use Rattle.jiter_value.specs.Settings.{rules_as}
 use Rattle.jiter_incremental.specs.declared.reader.Token.{Token}
 use Rattle.jiter_incremental.specs.declared.reader.Token.TheVariants as token
-use Rattle.jiter_value.specs.declared.settings.Settings.{Settings}
+use Rattle.jiter_value.specs.declared.parse.settings.Settings.{Settings}
 
 -- a string that is a value, or a key
 abbrev pub IsOfString : Token → Type 0

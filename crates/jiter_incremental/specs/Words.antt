@@ -28,5 +28,5 @@ pub use Rattle.jiter_value.specs.Owned.{owned_text, owned_tree, tree_as}
 pub use Rattle.jiter_value.specs.Parses.{Parses}
 pub use Rattle.jiter_value.specs.Stacks.{PartTree, built, empty_tree}
 pub use Rattle.jiter_value.specs.Value.{view}
-pub use Rattle.jiter_value.specs.declared.settings.Settings.{Settings}
+pub use Rattle.jiter_value.specs.declared.parse.settings.Settings.{Settings}
 pub use Rattle.jiter_value.specs.declared.value.JsonValue.{out-JsonValue}

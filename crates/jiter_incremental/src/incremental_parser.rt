@@ -8,7 +8,7 @@ use crate::reader::Reader;
 use jiter_scan::errors::Fault;
 use jiter_scan::memory::AllocFailed;
 use jiter_scan::{JsonError, JsonErrorType, PartialMode};
-use jiter_value::settings::Settings;
+use jiter_value::parse::settings::Settings;
 use jiter_value::value::JsonValue;
 use std::alloc::{AllocError, Global};
 use std::marker::Model;

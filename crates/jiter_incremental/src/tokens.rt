@@ -11,7 +11,7 @@ ghost use Rattle.jiter_incremental.specs.Words.{with_text, text_view, Tree, null
 ghost use Rattle.jiter_incremental.specs.Words.{tree_as, view};
 ghost use Rattle.jiter_incremental.specs.declared.reader.Token.TheVariants as token_kind;
 ghost use Rattle.jiter_scan.specs.Ascii as ascii;
-ghost use Rattle.jiter_scan.specs.declared.partial_number.NumberStep.TheVariants as number_went;
+ghost use Rattle.jiter_scan.specs.declared.number.partial_number.NumberStep.TheVariants as number_went;
 ghost use Rattle.jiter_scan.specs.PartialNumber.{StepsTo};
 
 use crate::names::WordValue;
@@ -21,7 +21,7 @@ use crate::slot::{put_in, reserve_in, take_from};
 use crate::values::text_value;
 use jiter_scan::errors::FaultKind;
 use jiter_scan::memory::AllocFailed;
-use jiter_scan::partial_number::{NumberStep, OwnNumber};
+use jiter_scan::number::partial_number::{NumberStep, OwnNumber};
 use jiter_scan::partial_word::WordStep;
 use jiter_steps::partial_string::StringStep;
 use jiter_value::value::JsonValue;

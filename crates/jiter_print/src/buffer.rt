@@ -4,7 +4,7 @@ ghost use Rattle.std.specs.Prelude.{◌≡◌, ◌+◌, ◌≤◌, ◌++◌, OnO
 ghost use Rattle.jiter_scan.specs.Scan.{scan_stop};
 
 use jiter_scan::memory::{AllocFailed, lengthen};
-use jiter_scan::simd::stops;
+use jiter_scan::bytes::simd::stops;
 use std::simd::Simd;
 use std::simd::prelude::*;
 

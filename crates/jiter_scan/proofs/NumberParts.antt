@@ -8,8 +8,8 @@ use Rattle.jiter_scan.proofs.Words.{is_integral, exponent_at, span_then, number_
 use Rattle.jiter_scan.proofs.Words.{is_int_stage, number_from, tail_at, within_room, taken, Stands, Span, Stage}
 use Rattle.jiter_scan.proofs.Words.{list_any-append, BeginsThere, BeginsTo, StepsTo, LeadsOver, PartialNumber}
 use Rattle.jiter_scan.specs.PartialNumber.{Fits}
-use Rattle.jiter_scan.specs.declared.partial_number.Stage.TheVariants as stage
-use Rattle.jiter_scan.specs.declared.partial_number.NumberStep.TheVariants as went
+use Rattle.jiter_scan.specs.declared.number.partial_number.Stage.TheVariants as stage
+use Rattle.jiter_scan.specs.declared.number.partial_number.NumberStep.TheVariants as went
 use Rattle.jiter_scan.proofs.Digits.{digit-bounds}
 use Rattle.jiter_scan.proofs.OpenNumbers.{run-on, room-on}
 use Rattle.jiter_scan.proofs.OpenValues.{stands-last}

@@ -11,8 +11,8 @@ use Rattle.jiter_scan.proofs.Words.{GoesTo, is_int_stage, number_from, tail_at, 
 use Rattle.jiter_scan.proofs.Words.{Kind, after_zero, digit_run_end, failed, is_digit, nat_le, and-false, leb-false}
 use Rattle.jiter_scan.proofs.Words.{same_Some, IsNameFrom, IsDecimalFrom, IsFloatText, non_finite_span, float_seen, IfNone}
 use Rattle.jiter_scan.proofs.Words.{is_some}
-use Rattle.jiter_scan.specs.declared.partial_number.Stage.TheVariants as stage
-use Rattle.jiter_scan.specs.declared.number_span.Span.TheVariants as found
+use Rattle.jiter_scan.specs.declared.number.partial_number.Stage.TheVariants as stage
+use Rattle.jiter_scan.specs.declared.number.number_span.Span.TheVariants as found
 use Rattle.jiter_scan.proofs.Choices.{if_case, if_gives, if-true, if-false}
 use Rattle.jiter_scan.proofs.NumberBytes.{given-ascii, IsMinusTo-le, IsAscii-decimal, IsAscii-name}
 use Rattle.jiter_scan.proofs.Digits.{digit-bounds}

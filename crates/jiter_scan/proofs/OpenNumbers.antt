@@ -5,7 +5,7 @@ use Rattle.jiter_scan.proofs.Words.{is_digit, digit_run_end, number_out_of_range
 use Rattle.jiter_scan.proofs.Words.{digits_from, power_from, int_part_from, int_part_at, decimal_at, span_from}
 use Rattle.jiter_scan.proofs.Words.{number_span, fraction_from, exponent_from, exponent_at, within_room, tail_at}
 use Rattle.jiter_scan.proofs.Words.{number_from, is_whole, at_end, Stage, taken, failed, begins_decimal}
-use Rattle.jiter_scan.specs.declared.partial_number.Stage.TheVariants as stage
+use Rattle.jiter_scan.specs.declared.number.partial_number.Stage.TheVariants as stage
 use Rattle.jiter_scan.proofs.Choices.{if-true, if-false}
 use Rattle.jiter_scan.proofs.Runs.{run_end-ahead, run_end-more, run_end-here}
 

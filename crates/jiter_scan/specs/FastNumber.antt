@@ -6,8 +6,8 @@ use Rattle.jiter_scan.specs.Number.{float, number_value}
 use Rattle.jiter_scan.specs.NumberDecoder.{magnitude_of}
 use Rattle.jiter_scan.specs.NumberReading.{int_part_at, decimal_at, is_float_sign}
 use Rattle.jiter_scan.specs.Scanned.{taken}
-use Rattle.jiter_scan.specs.declared.fast_number.FastNumber.{FastNumber}
-use Rattle.jiter_scan.specs.declared.fast_number.FastNumber.TheVariants as plain
+use Rattle.jiter_scan.specs.declared.number.fast_number.FastNumber.{FastNumber}
+use Rattle.jiter_scan.specs.declared.number.fast_number.FastNumber.TheVariants as plain
 
 -- digits alone from i to before e, and their value
 pub record IsPlainInteger (t : List ℕ) (i n e : ℕ) : Type 0 where

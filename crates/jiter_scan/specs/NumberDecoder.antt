@@ -4,12 +4,12 @@ use Rattle.jiter_scan.specs.Ascii as ascii
 use Rattle.jiter_scan.specs.Digits.{decimal_of}
 use Rattle.jiter_scan.specs.Number.{Number, integer, big, float}
 use Rattle.jiter_scan.specs.NumberReading as reading
-use Rattle.jiter_scan.specs.declared.number_decoder.NumberInt.{NumberInt}
-use Rattle.jiter_scan.specs.declared.number_decoder.NumberInt.TheVariants as int
-use Rattle.jiter_scan.specs.declared.number_decoder.NumberAny.{NumberAny}
-use Rattle.jiter_scan.specs.declared.number_decoder.NumberAny.TheVariants as any
-use Rattle.jiter_scan.specs.declared.number_decoder.Integer.{Integer}
-use Rattle.jiter_scan.specs.declared.number_decoder.Integer.TheVariants as found
+use Rattle.jiter_scan.specs.declared.number.number_decoder.NumberInt.{NumberInt}
+use Rattle.jiter_scan.specs.declared.number.number_decoder.NumberInt.TheVariants as int
+use Rattle.jiter_scan.specs.declared.number.number_decoder.NumberAny.{NumberAny}
+use Rattle.jiter_scan.specs.declared.number.number_decoder.NumberAny.TheVariants as any
+use Rattle.jiter_scan.specs.declared.number.number_decoder.Integer.{Integer}
+use Rattle.jiter_scan.specs.declared.number.number_decoder.Integer.TheVariants as found
 
 -- the integer, or its text where 64 signed bits do not hold it
 abbrev pub int_view : NumberInt → Number

@@ -10,8 +10,8 @@ use Rattle.jiter_scan.specs.NumberReading.{int_part_at, decimal_at}
 use Rattle.jiter_scan.specs.NumberReading.{number_span, int_at, integer_after, float_seen}
 use Rattle.jiter_scan.specs.Scanned.{Scanned, taken, failed}
 use Rattle.jiter_scan.specs.Word.{Span, word_at}
-use Rattle.jiter_scan.specs.declared.number_span.Span.{Span as Found}
-use Rattle.jiter_scan.specs.declared.number_span.Span.TheVariants as found
+use Rattle.jiter_scan.specs.declared.number.number_span.Span.{Span as Found}
+use Rattle.jiter_scan.specs.declared.number.number_span.Span.TheVariants as found
 
 -- the index after the minus at i, or i where there is none
 abbrev pub skip_minus : List ℕ → ℕ → ℕ

@@ -12,15 +12,15 @@ use Rattle.jiter_scan.specs.Digits.{is_digit, digit_run_end}
 use Rattle.jiter_scan.specs.Number.{Number, integer, big, float, is_float_byte, is_integral}
 use Rattle.jiter_scan.specs.NumberReading.{span_then, after_minus, after_zero, digits_from, fraction_at}
 use Rattle.jiter_scan.specs.NumberReading.{exponent_at, power_from, number_span}
-use Rattle.jiter_scan.specs.declared.partial_number.PartialNumber.{PartialNumber}
-use Rattle.jiter_scan.specs.declared.partial_number.Stage.{Stage}
-use Rattle.jiter_scan.specs.declared.partial_number.Stage.TheVariants as stage
-use Rattle.jiter_scan.specs.declared.partial_number.NumberStep.{NumberStep}
-use Rattle.jiter_scan.specs.declared.partial_number.NumberStep.TheVariants as went
-use Rattle.jiter_scan.specs.declared.partial_number.NumberKind.{NumberKind}
-use Rattle.jiter_scan.specs.declared.partial_number.NumberKind.TheVariants as kind
-use Rattle.jiter_scan.specs.declared.partial_number.OwnNumber.{OwnNumber}
-use Rattle.jiter_scan.specs.declared.partial_number.OwnNumber.TheVariants as own
+use Rattle.jiter_scan.specs.declared.number.partial_number.PartialNumber.{PartialNumber}
+use Rattle.jiter_scan.specs.declared.number.partial_number.Stage.{Stage}
+use Rattle.jiter_scan.specs.declared.number.partial_number.Stage.TheVariants as stage
+use Rattle.jiter_scan.specs.declared.number.partial_number.NumberStep.{NumberStep}
+use Rattle.jiter_scan.specs.declared.number.partial_number.NumberStep.TheVariants as went
+use Rattle.jiter_scan.specs.declared.number.partial_number.NumberKind.{NumberKind}
+use Rattle.jiter_scan.specs.declared.number.partial_number.NumberKind.TheVariants as kind
+use Rattle.jiter_scan.specs.declared.number.partial_number.OwnNumber.{OwnNumber}
+use Rattle.jiter_scan.specs.declared.number.partial_number.OwnNumber.TheVariants as own
 
 -- the digits from j to before e, unless they are more than there is room for
 abbrev pub within_room : ℕ → ℕ → ℕ → Span

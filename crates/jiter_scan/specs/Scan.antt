@@ -5,8 +5,8 @@ use Rattle.std.specs.List.{prefix_len, AllPass}
 use Rattle.jiter_scan.specs.Ascii as ascii
 use Rattle.jiter_scan.specs.declared.errors.FaultKind.{FaultKind}
 use Rattle.jiter_scan.specs.declared.errors.FaultKind.TheVariants as fault
-use Rattle.jiter_scan.specs.declared.short_scan.Look.{Look}
-use Rattle.jiter_scan.specs.declared.short_scan.Look.TheVariants as look
+use Rattle.jiter_scan.specs.declared.bytes.short_scan.Look.{Look}
+use Rattle.jiter_scan.specs.declared.bytes.short_scan.Look.TheVariants as look
 
 -- where the run of bytes that pass this test ends, if it begins at i
 abbrev pub run_end : (ℕ → Bool) → List ℕ → ℕ → ℕ

@@ -1,12 +1,9 @@
 pub mod Calls
+pub mod Chunks
 pub mod Computed
 pub mod Cut
 pub mod Fault
 pub mod Grammar
-pub mod OpenEscapes
-pub mod OpenStrings
-pub mod OpenTexts
 pub mod Reading
-pub mod StringsWithin
 pub mod Unique
 pub mod Words

@@ -26,7 +26,7 @@ unfoldable pub use Rattle.jiter_scan.specs.Word.{word_at}
 pub use Rattle.jiter_scan.specs.declared.errors.Fault.{Fault}
 pub use Rattle.jiter_scan.specs.declared.errors.FaultKind.{FaultKind}
 pub use Rattle.jiter_scan.specs.declared.partial_mode.PartialMode.{PartialMode}
-pub use Rattle.jiter_scan.specs.declared.short_scan.Look.{Look}
+pub use Rattle.jiter_scan.specs.declared.bytes.short_scan.Look.{Look}
 pub use Rattle.jiter_steps.specs.Answer.{answer, answer_in, nothing_forgiven, only_ends, partial_answer, partial_trees, read_at, seen_as, skip_at, trees, value_form, whole_trees}
 pub use Rattle.jiter_steps.specs.Blank.{IsBlank, IsBlankByte, is_blank}
 unfoldable pub use Rattle.jiter_steps.specs.Blank.{past_blanks}

@@ -18,7 +18,7 @@ use crate::string_decoder::string_at;
 use crate::whitespace::past_blanks;
 use jiter_scan::NumberAny;
 use jiter_scan::errors::{Fault, FaultKind, fault_at};
-use jiter_scan::number_decoder::number_at;
+use jiter_scan::number::number_decoder::number_at;
 use jiter_scan::word::word_end;
 use std::alloc::Global;
 use std::borrow::CowStr;

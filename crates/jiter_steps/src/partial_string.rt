@@ -16,8 +16,8 @@ use crate::read_error::ReadError;
 use crate::string_decoder::{checked_text, decode};
 use jiter_scan::errors::FaultKind;
 use jiter_scan::memory::{AllocFailed, copy_text};
-use jiter_scan::short_scan::{Look, look_at};
-use jiter_scan::simd::{scan_string, string_stop};
+use jiter_scan::bytes::short_scan::{Look, look_at};
+use jiter_scan::bytes::simd::{scan_string, string_stop};
 use jiter_scan::text::utf8_text;
 use std::alloc::Global;
 

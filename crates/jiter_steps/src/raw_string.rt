@@ -11,7 +11,7 @@ use crate::escape::{StringEnd, StringEvent, event_at, next_event};
 use crate::parse::Parser;
 use crate::string_decoder::cut_short;
 use jiter_scan::errors::Fault;
-use jiter_scan::simd::string_stop;
+use jiter_scan::bytes::simd::string_stop;
 use jiter_scan::word::byte_at;
 
 // For a string with a backslash at `from`.

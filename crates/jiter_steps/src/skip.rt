@@ -16,7 +16,7 @@ use crate::parse::{ContainerKind, NESTING_LIMIT, Parser, Start, literal_end, sta
 use crate::raw_string::string_end;
 use crate::step::{Step, first, member_value, next};
 use jiter_scan::errors::{Fault, FaultKind, fault_at};
-use jiter_scan::number_span::number_end;
+use jiter_scan::number::number_span::number_end;
 
 // How many open containers the table can hold: more than `NESTING_LIMIT`.
 const TABLE_SIZE: usize = 256;

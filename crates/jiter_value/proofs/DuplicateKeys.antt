@@ -20,8 +20,8 @@ use Rattle.std.proofs.lemmas.List.{get_or-drop, drop-map, get_or-map}
 use Rattle.std.proofs.lemmas.List.{at_drop_all, get_or-set_other, get_or-set_same, length-set}
 use Rattle.std.proofs.lemmas.List.Elements.{All-weaker}
 use Rattle.jiter_value.specs.DuplicateKeys.{Adds, Holds, bucket_of}
-use Rattle.jiter_value.specs.declared.turns.duplicate_keys.DuplicateKeyIndex.{DuplicateKeyIndex}
-use Rattle.jiter_value.specs.declared.turns.duplicate_keys.BucketSlot.{BucketSlot}
+use Rattle.jiter_value.specs.declared.parse.turns.duplicate_keys.DuplicateKeyIndex.{DuplicateKeyIndex}
+use Rattle.jiter_value.specs.declared.parse.turns.duplicate_keys.BucketSlot.{BucketSlot}
 
 -- how two keys compare
 abbrev pub cow_cmp : CowStr Global → CowStr Global → Ordering

@@ -6,8 +6,8 @@ use Rattle.jiter_value.proofs.Words.{GoesOn, HasReached, MayGrowFor, outcome, vi
 use Rattle.jiter_value.proofs.Words.{JsonValue, past_blanks, borrowed}
 use Rattle.jiter_steps.specs.declared.read_error.ReadError.TheVariants as error
 use Rattle.jiter_value.specs.Turns.{HasTurned}
-use Rattle.jiter_value.specs.declared.turns.Reading.{Reading}
-use Rattle.jiter_value.specs.declared.stacks.State.TheVariants as state
+use Rattle.jiter_value.specs.declared.parse.turns.Reading.{Reading}
+use Rattle.jiter_value.specs.declared.parse.stacks.State.TheVariants as state
 use Rattle.jiter_value.proofs.StackTurns.{root-holds-nothing, root-stands}
 use Rattle.jiter_value.specs.Machine.{HasEnded}
 use Rattle.jiter_value.proofs.KeptKeys.{leaves-all}

@@ -7,7 +7,7 @@ use Rattle.std.specs.Prelude.{min}
 use Rattle.std.proofs.Math.Seq.{map-set_same}
 use Rattle.std.proofs.lemmas.List.{take-map}
 use Rattle.std.proofs.lemmas.List.{take_min}
-use Rattle.jiter_value.specs.declared.stacks.State.TheVariants as state
+use Rattle.jiter_value.specs.declared.parse.stacks.State.TheVariants as state
 
 -- as many keys as members
 pub key_count : (ms : List Member) → length (keys_of ms) ≡ length ms

@@ -19,9 +19,9 @@ use Rattle.jiter_steps.proofs.Unique.Within.{unique_answer-within, unique_partia
 use Rattle.jiter_value.specs.ParsesUnique.{ParsesUnique}
 use Rattle.jiter_value.specs.UniqueErrors.{unique_kind}
 use Rattle.jiter_value.specs.UniqueKeys.{IsUniqueErrorOf}
-use Rattle.jiter_value.specs.declared.turns.unique.Interrupted.TheVariants as stopped
-use Rattle.jiter_value.specs.declared.unique_error.UniqueError.{UniqueError}
-use Rattle.jiter_value.specs.declared.unique_error.UniqueErrorType.TheVariants as cause
+use Rattle.jiter_value.specs.declared.parse.turns.unique.Interrupted.TheVariants as stopped
+use Rattle.jiter_value.specs.declared.parse.unique_error.UniqueError.{UniqueError}
+use Rattle.jiter_value.specs.declared.parse.unique_error.UniqueErrorType.TheVariants as cause
 use Rattle.jiter_value.proofs.ParsedBy as parsed
 use Rattle.jiter_value.proofs.ParsedDocuments.{as_read-is, cut-left}
 use Rattle.jiter_value.proofs.TurnOutcomes.{grows-borrowing}

@@ -15,8 +15,8 @@ use Rattle.jiter_value.specs.UniqueKeys.{innermost_base, StopsAtKey, GivesUnique
 use Rattle.jiter_value.specs.UniqueKeys.{fault_at_key}
 use Rattle.jiter_value.proofs.MadeTexts.{answer_as-unique}
 use Rattle.jiter_value.proofs.WholeTextAnswers.{answer-none, answer-fault, answer-refused}
-use Rattle.jiter_value.specs.declared.stacks.State.TheVariants as state
-use Rattle.jiter_value.specs.declared.turns.unique.Interrupted.TheVariants as stopped
+use Rattle.jiter_value.specs.declared.parse.stacks.State.TheVariants as state
+use Rattle.jiter_value.specs.declared.parse.turns.unique.Interrupted.TheVariants as stopped
 use Rattle.jiter_steps.specs.declared.read_error.ReadError.TheVariants as error
 
 has_key-among : (key : List ℕ) (ms : List Member)

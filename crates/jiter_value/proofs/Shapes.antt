@@ -18,7 +18,7 @@ use Rattle.jiter_value.specs.Stacks.{base_of, part_of, HasRoomIn, HoldsSame}
 use Rattle.jiter_value.specs.Size.{inside_size}
 use Rattle.jiter_value.specs.Turns.{IsReady}
 use Rattle.jiter_value.specs.Value.{LeadsOn}
-use Rattle.jiter_value.specs.declared.stacks.Slot.TheVariants as slot
+use Rattle.jiter_value.specs.declared.parse.stacks.Slot.TheVariants as slot
 use Rattle.jiter_value.proofs.KeptKeys.{kept-on}
 use Rattle.jiter_value.proofs.Sizes.{item-size}
 use Rattle.jiter_value.proofs.TurnOutcomes.{refused-any}

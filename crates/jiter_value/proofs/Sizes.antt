@@ -5,7 +5,7 @@ use Rattle.jiter_value.proofs.Words.{JsonValue, OpenContainer, Member, member_vi
 use Rattle.jiter_value.proofs.Words.{frames_below, HaveBases, HaveKeyBase, slot_in, size, parts_size, frames_size}
 use Rattle.jiter_value.proofs.Words.{inside_size_in}
 use Rattle.jiter_steps.specs.declared.parse.ContainerKind.TheVariants as shape
-use Rattle.jiter_value.specs.declared.stacks.Slot.TheVariants as slot
+use Rattle.jiter_value.specs.declared.parse.stacks.Slot.TheVariants as slot
 use Rattle.jiter_value.specs.Size.{items_size, members_size}
 use Rattle.jiter_value.specs.Size.{after_size_in}
 use Rattle.jiter_value.proofs.StackTurns.{value-frames, above-more}

@@ -24,7 +24,7 @@ use Rattle.jiter_steps.proofs.Calls.Resumed.{step-to, step-stuck, items-value, k
 use Rattle.jiter_steps.proofs.Calls.Resumed.{colon-failed, container-begins}
 use Rattle.jiter_value.specs.Stacks.{last_key_of, last_key, but_last}
 use Rattle.jiter_value.specs.Stacks.{after_in, container_in, empty_tree}
-use Rattle.jiter_value.specs.declared.stacks.Slot.TheVariants as slot
+use Rattle.jiter_value.specs.declared.parse.stacks.Slot.TheVariants as slot
 use Rattle.jiter_value.proofs.MadeTexts.{rules_as-advances}
 
 -- a list's last, set

@@ -11,10 +11,10 @@ use Rattle.jiter_steps.specs.StringDecoder.{WantsMemory}
 use Rattle.jiter_steps.specs.declared.parse.Start.TheVariants as start
 use Rattle.jiter_value.specs.Turns.{Turned}
 use Rattle.jiter_value.specs.Value.{BeginsContainer}
-use Rattle.jiter_value.specs.declared.stacks.Slot.TheVariants as slot
-use Rattle.jiter_value.specs.declared.turns.Reading.{Reading as Turning}
+use Rattle.jiter_value.specs.declared.parse.stacks.Slot.TheVariants as slot
+use Rattle.jiter_value.specs.declared.parse.turns.Reading.{Reading as Turning}
 use Rattle.jiter_value.proofs.KeptKeys.{leaves-on}
-use Rattle.jiter_value.specs.declared.stacks.State.TheVariants as state
+use Rattle.jiter_value.specs.declared.parse.stacks.State.TheVariants as state
 
 -- from a place before it, with more that is left and more that may be held
 pub leads-weaker : {policy : TextPolicy} {p : Settings} {t : List ℕ} {i j l m h n : ℕ} {x y : Reading Tree}

@@ -8,8 +8,8 @@ use Rattle.jiter_value.proofs.KeptKeys.{key_count}
 use Rattle.jiter_steps.specs.Node.{nesting_limit}
 use Rattle.jiter_steps.specs.declared.read_error.ReadError.TheVariants as error
 use Rattle.jiter_value.specs.Stacks.{slot_of}
-use Rattle.jiter_value.specs.declared.stacks.Slot.TheVariants as slot
-use Rattle.jiter_value.specs.declared.stacks.State.TheVariants as state
+use Rattle.jiter_value.specs.declared.parse.stacks.Slot.TheVariants as slot
+use Rattle.jiter_value.specs.declared.parse.stacks.State.TheVariants as state
 
 pub not-once : (n : ℕ) → not (eqb n 0) ≡ true → n ≡ 0 → ⊥
 not-once n on is =

@@ -12,8 +12,8 @@ use Rattle.jiter_steps.specs.Step.{document_end}
 use Rattle.jiter_steps.specs.declared.read_error.ReadError.TheVariants as error
 use Rattle.jiter_steps.proofs.Reading.WholeTexts.{prefix-begins}
 use Rattle.jiter_steps.proofs.Reading.Instances.{answer-within, partial_answer-within}
-use Rattle.jiter_value.specs.declared.stacks.Slot.TheVariants as slot
-use Rattle.jiter_value.specs.declared.stacks.State.TheVariants as state
+use Rattle.jiter_value.specs.declared.parse.stacks.Slot.TheVariants as slot
+use Rattle.jiter_value.specs.declared.parse.stacks.State.TheVariants as state
 use Rattle.jiter_value.proofs.StackTurns.{root-from, root-alone}
 
 -- where a value begins, a byte is after whitespace

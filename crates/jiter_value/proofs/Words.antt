@@ -58,12 +58,12 @@ pub use Rattle.jiter_value.specs.Stacks.{HaveBases, HaveKeyBase, HaveKeys, HaveP
 pub use Rattle.jiter_value.specs.Turns.{Fails, GoesOn, HasReached, IsKeyRead, IsResolved, IsWithin, MayGrowFor, Proceeds, Reaches, work_left, outcome}
 pub use Rattle.jiter_value.specs.UniqueKeys.{GivesUniqueWhole, WhereUniqueRefused, has_key, object_has_key}
 pub use Rattle.jiter_value.specs.Value.{Answers, MayGrow, MayGrowAs, MayGrowAt, MayGrowBy, member_views, view, views}
-pub use Rattle.jiter_value.specs.declared.settings.Settings.{Settings}
-pub use Rattle.jiter_value.specs.declared.stacks.OpenContainer.{OpenContainer}
-pub use Rattle.jiter_value.specs.declared.stacks.Slot.{Slot}
-pub use Rattle.jiter_value.specs.declared.stacks.Stacks.{Stacks}
-pub use Rattle.jiter_value.specs.declared.stacks.State.{State}
-pub use Rattle.jiter_value.specs.declared.turns.unique.Interrupted.{Interrupted}
+pub use Rattle.jiter_value.specs.declared.parse.settings.Settings.{Settings}
+pub use Rattle.jiter_value.specs.declared.parse.stacks.OpenContainer.{OpenContainer}
+pub use Rattle.jiter_value.specs.declared.parse.stacks.Slot.{Slot}
+pub use Rattle.jiter_value.specs.declared.parse.stacks.Stacks.{Stacks}
+pub use Rattle.jiter_value.specs.declared.parse.stacks.State.{State}
+pub use Rattle.jiter_value.specs.declared.parse.turns.unique.Interrupted.{Interrupted}
 pub use Rattle.jiter_value.specs.declared.value.JsonValue.{Array, JsonValue, Object}
 pub use Rattle.std.proofs.Common.{All, Bool, Decides, Err, Global, IfErr, IfOk, IsCharBoundary, List, MatchResult, None, Ok, OnOk, Option, Result, Some, Vec, [], ap, append_assoc, ap₂, arith, bytes_eq, cond, drop, eqb, false, flat_map, get_or, if◌then◌else◌, inl, inr, length, length-append, length-drop, length-take, length-take-le, map, nat_lt, not, option_and_then, option_map, pos, refl, reverse, rules, slice_get, slice_index, slice_range, slice_set, string_bytes, subst, suc, sym, take, take-take, take_all, true, true≢false, zero, ℕ, ℤ, ◌++◌, ◌+◌, ◌-◌, ◌<◌, ◌^◌, ◌||◌, ◌↔◌, ◌∙◌, ◌∷◌, ◌≡◌, ◌≢◌, ◌≤◌, ◌⊎◌}
 pub use Rattle.std.proofs.Math.Seq.{get_or-append_seam, take-append_seam}

@@ -8,8 +8,8 @@ use Rattle.std.specs.Str.{bytes_eq}
 use Rattle.std.specs.declared.alloc.Global.{Global}
 use Rattle.std.specs.declared.borrow.CowStr.{CowStr}
 use Rattle.std.specs.Cow.{cow_str_bytes}
-use Rattle.jiter_value.specs.declared.turns.duplicate_keys.DuplicateKeyIndex.{DuplicateKeyIndex}
-use Rattle.jiter_value.specs.declared.turns.duplicate_keys.BucketSlot.{BucketSlot}
+use Rattle.jiter_value.specs.declared.parse.turns.duplicate_keys.DuplicateKeyIndex.{DuplicateKeyIndex}
+use Rattle.jiter_value.specs.declared.parse.turns.duplicate_keys.BucketSlot.{BucketSlot}
 
 -- the set has a key of these bytes
 abbrev pub has_text : BTreeSet (CowStr Global) → List ℕ → Bool

@@ -8,13 +8,13 @@ use Rattle.jiter_value.specs.Size.{held_in, left_at}
 use Rattle.jiter_value.specs.Stacks.{Member, Stands}
 use Rattle.jiter_value.specs.Turns.{GoesOn, HasReached}
 use Rattle.jiter_value.specs.Value.{MayGrow}
-use Rattle.jiter_value.specs.declared.settings.Settings.{Settings}
-use Rattle.jiter_value.specs.declared.stacks.OpenContainer.{OpenContainer}
-use Rattle.jiter_value.specs.declared.stacks.Slot.TheVariants as slot
-use Rattle.jiter_value.specs.declared.stacks.Stacks.{Stacks}
-use Rattle.jiter_value.specs.declared.stacks.State.{State}
-use Rattle.jiter_value.specs.declared.stacks.State.TheVariants as state
-use Rattle.jiter_value.specs.declared.turns.Reading.{Reading}
+use Rattle.jiter_value.specs.declared.parse.settings.Settings.{Settings}
+use Rattle.jiter_value.specs.declared.parse.stacks.OpenContainer.{OpenContainer}
+use Rattle.jiter_value.specs.declared.parse.stacks.Slot.TheVariants as slot
+use Rattle.jiter_value.specs.declared.parse.stacks.Stacks.{Stacks}
+use Rattle.jiter_value.specs.declared.parse.stacks.State.{State}
+use Rattle.jiter_value.specs.declared.parse.stacks.State.TheVariants as state
+use Rattle.jiter_value.specs.declared.parse.turns.Reading.{Reading}
 use Rattle.jiter_value.specs.declared.value.JsonValue.{JsonValue}
 use Rattle.jiter_value.specs.declared.value.JsonValue.TheVariants.{Null}
 

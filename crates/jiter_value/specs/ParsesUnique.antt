@@ -7,7 +7,7 @@ use Rattle.jiter_steps.specs.Unique.{HasUniqueKeys, IsUniqueDocument, unique_ans
 use Rattle.jiter_value.specs.Parses.{Manner, ParsesBy, as_read}
 use Rattle.jiter_value.specs.UniqueErrors.{unique_kind, IsMemoryRefused}
 use Rattle.jiter_value.specs.Value.{MayGrow}
-use Rattle.jiter_value.specs.declared.unique_error.UniqueError.{UniqueError}
+use Rattle.jiter_value.specs.declared.parse.unique_error.UniqueError.{UniqueError}
 use Rattle.jiter_value.specs.declared.value.JsonValue.{JsonValue}
 
 -- The manner of a call that refuses repeated keys: its documents have none.

@@ -1,7 +1,7 @@
 -- What contracts see of a scratch.
 use Rattle.std.specs.Prelude.{◌≡◌, List, []}
 use Rattle.jiter_value.specs.Stacks.{Member}
-use Rattle.jiter_value.specs.declared.stacks.Stacks.{Stacks}
+use Rattle.jiter_value.specs.declared.parse.stacks.Stacks.{Stacks}
 use Rattle.jiter_value.specs.declared.value.JsonValue.{JsonValue}
 use Rattle.jiter_value.specs.declared.value.JsonValue.TheVariants.{Null}
 

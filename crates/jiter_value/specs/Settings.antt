@@ -13,7 +13,7 @@ use Rattle.jiter_steps.specs.Node.{number_tree}
 use Rattle.jiter_steps.specs.StringReading.{whole, string_at}
 use Rattle.jiter_steps.specs.Unique.{own_bytes, repeated_key}
 use Rattle.jiter_value.specs.Owned.{as_it_is, tree_as}
-use Rattle.jiter_value.specs.declared.settings.Settings.{Settings}
+use Rattle.jiter_value.specs.declared.parse.settings.Settings.{Settings}
 
 -- what a mode forgives inside a container
 abbrev pub forgives : PartialMode → Kind → Bool

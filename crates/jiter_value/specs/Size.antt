@@ -6,12 +6,12 @@ use Rattle.jiter_steps.specs.declared.parse.ContainerKind.{ContainerKind}
 use Rattle.jiter_steps.specs.declared.parse.ContainerKind.TheVariants as shape
 use Rattle.jiter_value.specs.Value.{view}
 use Rattle.jiter_value.specs.declared.value.JsonValue.{JsonValue}
-use Rattle.jiter_value.specs.declared.stacks.OpenContainer.{OpenContainer}
-use Rattle.jiter_value.specs.declared.stacks.Slot.{Slot}
-use Rattle.jiter_value.specs.declared.stacks.Slot.TheVariants as slot
-use Rattle.jiter_value.specs.declared.stacks.State.{State}
-use Rattle.jiter_value.specs.declared.stacks.State.TheVariants as state
-use Rattle.jiter_value.specs.declared.stacks.Stacks.{Stacks}
+use Rattle.jiter_value.specs.declared.parse.stacks.OpenContainer.{OpenContainer}
+use Rattle.jiter_value.specs.declared.parse.stacks.Slot.{Slot}
+use Rattle.jiter_value.specs.declared.parse.stacks.Slot.TheVariants as slot
+use Rattle.jiter_value.specs.declared.parse.stacks.State.{State}
+use Rattle.jiter_value.specs.declared.parse.stacks.State.TheVariants as state
+use Rattle.jiter_value.specs.declared.parse.stacks.Stacks.{Stacks}
 use Rattle.jiter_steps.specs.Frames.{Frame, items_frame, members_frame}
 use Rattle.jiter_value.specs.Stacks.{Member, member_view, frames, PartTree, parts_above, frames_below}
 

@@ -19,14 +19,14 @@ use Rattle.jiter_steps.specs.declared.read_error.ReadError.{ReadError}
 use Rattle.jiter_steps.specs.declared.read_error.ReadError.TheVariants as error
 use Rattle.jiter_value.specs.Size.{value_size, key_size, after_size, held, left_at}
 use Rattle.jiter_value.specs.Stacks.{from_value, from_key, after, denotes, part_of, HasRoom, HasRoomIn, HaveKeys, HoldsSame, LeavesKeys, Stands, StandsAtKey}
-use Rattle.jiter_value.specs.declared.settings.Settings.{Settings}
-use Rattle.jiter_value.specs.declared.stacks.Slot.{Slot}
-use Rattle.jiter_value.specs.declared.stacks.Slot.TheVariants as slot
-use Rattle.jiter_value.specs.declared.stacks.Stacks.{Stacks}
-use Rattle.jiter_value.specs.declared.stacks.State.{State}
-use Rattle.jiter_value.specs.declared.stacks.State.TheVariants as state
+use Rattle.jiter_value.specs.declared.parse.settings.Settings.{Settings}
+use Rattle.jiter_value.specs.declared.parse.stacks.Slot.{Slot}
+use Rattle.jiter_value.specs.declared.parse.stacks.Slot.TheVariants as slot
+use Rattle.jiter_value.specs.declared.parse.stacks.Stacks.{Stacks}
+use Rattle.jiter_value.specs.declared.parse.stacks.State.{State}
+use Rattle.jiter_value.specs.declared.parse.stacks.State.TheVariants as state
 use Rattle.jiter_value.specs.Value.{MayGrowBy}
-use Rattle.jiter_value.specs.declared.turns.Reading.{Reading}
+use Rattle.jiter_value.specs.declared.parse.turns.Reading.{Reading}
 
 -- a value is awaited at j, within the limit, and can go where it belongs without a request for memory
 abbrev pub IsAtValue : List ℕ → Stacks → Slot → ℕ → Type 0

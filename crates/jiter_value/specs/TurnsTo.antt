@@ -4,8 +4,8 @@ use Rattle.jiter_value.specs.Machine.{Progress, turns_left, held}
 use Rattle.jiter_value.specs.Parses.{Parses, as_read}
 use Rattle.jiter_value.specs.Size.{size}
 use Rattle.jiter_value.specs.Value.{view, MayGrow}
-use Rattle.jiter_value.specs.declared.machine.Turn.{Turn}
-use Rattle.jiter_value.specs.declared.machine.Turn.TheVariants.{More, Done}
+use Rattle.jiter_value.specs.declared.parse.machine.Turn.{Turn}
+use Rattle.jiter_value.specs.declared.parse.machine.Turn.TheVariants.{More, Done}
 
 -- A reading that goes on, of the same text and settings and no further back: less is left, and one more is held at
 -- most.

@@ -2,8 +2,8 @@
 use Rattle.std.specs.Prelude.{◌≡◌, string_bytes}
 use Rattle.jiter_scan.specs.Kind.{Kind, kind_of, duplicate_key}
 use Rattle.jiter_scan.specs.declared.errors.JsonErrorType.TheVariants.{OutOfMemory}
-use Rattle.jiter_value.specs.declared.unique_error.UniqueErrorType.{UniqueErrorType}
-use Rattle.jiter_value.specs.declared.unique_error.UniqueErrorType.TheVariants as error
+use Rattle.jiter_value.specs.declared.parse.unique_error.UniqueErrorType.{UniqueErrorType}
+use Rattle.jiter_value.specs.declared.parse.unique_error.UniqueErrorType.TheVariants as error
 
 -- the kind that the code's variant stands for
 abbrev pub unique_kind : UniqueErrorType → Kind

@@ -17,12 +17,12 @@ use Rattle.jiter_value.specs.Settings.{borrowed_unique}
 use Rattle.jiter_value.specs.Stacks.{Member, refused_in}
 use Rattle.jiter_value.specs.UniqueErrors.{unique_kind, IsMemoryRefused}
 use Rattle.jiter_value.specs.Value.{view}
-use Rattle.jiter_value.specs.declared.stacks.OpenContainer.{OpenContainer}
-use Rattle.jiter_value.specs.declared.stacks.Stacks.{Stacks}
-use Rattle.jiter_value.specs.declared.turns.unique.Repeated.{Repeated}
-use Rattle.jiter_value.specs.declared.turns.unique.Interrupted.{Interrupted}
-use Rattle.jiter_value.specs.declared.turns.unique.Interrupted.TheVariants as stopped
-use Rattle.jiter_value.specs.declared.unique_error.UniqueError.{UniqueError}
+use Rattle.jiter_value.specs.declared.parse.stacks.OpenContainer.{OpenContainer}
+use Rattle.jiter_value.specs.declared.parse.stacks.Stacks.{Stacks}
+use Rattle.jiter_value.specs.declared.parse.turns.unique.Repeated.{Repeated}
+use Rattle.jiter_value.specs.declared.parse.turns.unique.Interrupted.{Interrupted}
+use Rattle.jiter_value.specs.declared.parse.turns.unique.Interrupted.TheVariants as stopped
+use Rattle.jiter_value.specs.declared.parse.unique_error.UniqueError.{UniqueError}
 use Rattle.jiter_value.specs.declared.value.JsonValue.{JsonValue}
 
 -- one of the members has this key

@@ -39,7 +39,7 @@ pub use Rattle.jiter_value.specs.Turns.{Follows, HasTakenKey, IsAtKey, IsAtValue
 pub use Rattle.jiter_value.specs.UniqueErrors.{IsDuplicateKey, IsMemoryRefused, unique_kind}
 pub use Rattle.jiter_value.specs.UniqueKeys.{GivesUnique, GivesUniqueWhole, HasStopped, IsUniqueErrorOf, WhereUniqueRefused, fault_at_key, fault_of, has_key, innermost_base, object_has_key}
 pub use Rattle.jiter_value.specs.Value.{Answers, BeginsContainer, MayGrow, MayGrowAt, MayGrowBy, member_views, view, views}
-pub use Rattle.jiter_value.specs.declared.settings.Settings.{Settings as SettingsView}
+pub use Rattle.jiter_value.specs.declared.parse.settings.Settings.{Settings as SettingsView}
 pub use Rattle.jiter_value.specs.declared.value.JsonValue.{JsonValue as JsonValueView}
 pub use Rattle.jiter_value.specs.declared.value.JsonValue.TheVariants.{Int}
 pub use Rattle.std.specs.Cmp.{on_equiv, on_per, partial_equiv_from_equiv}

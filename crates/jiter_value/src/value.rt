@@ -3,9 +3,15 @@ ghost use Rattle.std.specs.Prelude.{◌≡◌, IfOk, MatchResult, Some, Bool, �
 ghost use Rattle.jiter_value.specs.Words.{is_active, answer, answer_in, cut, IsBegunContainer, Node};
 ghost use Rattle.jiter_value.specs.Words.{IsDocument, value_of, Parses, as_read, view, Answers, MayGrow};
 
-use crate::reading::read_text;
-use crate::settings::Settings;
-use crate::turns::Reading;
+pub mod access;
+pub mod copies;
+pub mod equality;
+pub mod pointer;
+pub(crate) mod quoted;
+
+use crate::parse::reading::read_text;
+use crate::parse::settings::Settings;
+use crate::parse::turns::Reading;
 use jiter_scan::{JsonError, JsonErrorType, PartialMode};
 use std::alloc::Global;
 use std::borrow::CowStr;

@@ -20,7 +20,7 @@ use Rattle.jiter_steps.proofs.Calls.Resumed.{resume-fault, step-stuck}
 use Rattle.jiter_steps.proofs.Computed.{computed_readings, computed_steps, computed_strings}
 use Rattle.jiter_value.specs.Settings.{rules_as}
 use Rattle.jiter_value.specs.Stacks.{PartTree}
-use Rattle.jiter_value.specs.declared.settings.Settings.{Settings}
+use Rattle.jiter_value.specs.declared.parse.settings.Settings.{Settings}
 use Rattle.jiter_incremental.specs.Arrived.{Arrived, HasRead, at_end, at_value, between_parts, container_of, leads_on, owned}
 use Rattle.jiter_incremental.specs.Document.{Opened, ReadsAt, in_key, in_scalar}
 use Rattle.jiter_incremental.specs.Between.{Everywhere, completed, text_of}

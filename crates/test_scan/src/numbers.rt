@@ -3,9 +3,9 @@ ghost use Rattle.std.specs.Prelude.{◌<◌, ◌≤◌, length};
 
 use crate::tell;
 use jiter_scan::errors::JsonResult;
-use jiter_scan::fast_number::fast_number_at;
-use jiter_scan::number_decoder::{NumberAny, NumberInt, int_at, number_at};
-use jiter_scan::number_span::number_end;
+use jiter_scan::number::fast_number::fast_number_at;
+use jiter_scan::number::number_decoder::{NumberAny, NumberInt, int_at, number_at};
+use jiter_scan::number::number_span::number_end;
 use std::alloc::{AllocError, Global};
 use std::fmt::Debug;
 use std::io;

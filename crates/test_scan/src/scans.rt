@@ -2,7 +2,7 @@
 ghost use Rattle.std.specs.Prelude.{◌≤◌, length};
 
 use crate::tell;
-use jiter_scan::simd::{digit_count, digit_word, scan_string};
+use jiter_scan::bytes::simd::{digit_count, digit_word, scan_string};
 use jiter_scan::word::word_end;
 use std::io;
 

@@ -1,8 +1,8 @@
 //! Strings, decoded and raw, and those that are plain.
 ghost use Rattle.std.specs.Prelude.{◌<◌, length};
 
-use jiter_scan::short_scan::look_at;
-use jiter_scan::simd::scan_string;
+use jiter_scan::bytes::short_scan::look_at;
+use jiter_scan::bytes::simd::scan_string;
 use jiter_steps::raw_string::{raw_string_at, string_end};
 use jiter_steps::read_error::ReadError;
 use jiter_steps::string_decoder::{checked_text, string_at};

@@ -7,8 +7,8 @@ use crate::jiter::{Jiter, refusal_at};
 use crate::peek::Peek;
 use jiter_scan::PartialMode;
 use jiter_value::JsonValue;
-use jiter_value::parse_owned::read_owned;
-use jiter_value::settings::Settings;
+use jiter_value::parse::parse_owned::read_owned;
+use jiter_value::parse::settings::Settings;
 use std::alloc::Global;
 
 impl<'j> Jiter<'j> {

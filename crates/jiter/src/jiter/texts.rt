@@ -9,7 +9,7 @@ ghost use Rattle.jiter_scan.specs.Ascii as ascii;
 
 use crate::errors::{JiterResult, JsonType};
 use crate::jiter::{Jiter, refusal, refusal_at};
-use jiter_scan::short_scan::{Look, look_at};
+use jiter_scan::bytes::short_scan::{Look, look_at};
 use jiter_scan::text::utf8_text;
 use jiter_steps::parse::Start;
 use jiter_steps::step::peek_for;

@@ -7,8 +7,8 @@ use crate::jiter::{Jiter, refusal_at};
 use crate::peek::Peek;
 use jiter_scan::PartialMode;
 use jiter_value::JsonValue;
-use jiter_value::reading::read_value;
-use jiter_value::settings::Settings;
+use jiter_value::parse::reading::read_value;
+use jiter_value::parse::settings::Settings;
 use std::alloc::Global;
 
 impl<'j> Jiter<'j> {

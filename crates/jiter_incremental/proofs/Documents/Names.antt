@@ -10,7 +10,7 @@ use Rattle.jiter_incremental.proofs.Words.{name_start, OpenFrame}
 use Rattle.std.proofs.lemmas.List.{nil_from_length}
 use Rattle.jiter_scan.proofs.Choices.{if_both}
 use Rattle.jiter_scan.specs.NumberReading.{decimal_at, name_at}
-use Rattle.jiter_scan.specs.declared.partial_number.Stage.TheVariants as stage
+use Rattle.jiter_scan.specs.declared.number.partial_number.Stage.TheVariants as stage
 use Rattle.jiter_incremental.specs.declared.names.WordValue.TheVariants as name
 use Rattle.jiter_incremental.specs.declared.reader.Token.TheVariants as token
 use Rattle.jiter_incremental.specs.declared.reader.Awaits.TheVariants as awaits

@@ -24,8 +24,8 @@ use Rattle.jiter_scan.proofs.Standing.{stands-append, stands-slice, stands-split
 use Rattle.jiter_scan.proofs.WordLaws.{word_at-same}
 use Rattle.jiter_scan.specs.Kind.{expected_ident}
 use Rattle.jiter_scan.specs.NumberReading.{number_at, with_value}
-use Rattle.jiter_scan.specs.declared.partial_number.NumberStep.{NumberStep}
-use Rattle.jiter_scan.specs.declared.partial_number.NumberStep.TheVariants as went
+use Rattle.jiter_scan.specs.declared.number.partial_number.NumberStep.{NumberStep}
+use Rattle.jiter_scan.specs.declared.number.partial_number.NumberStep.TheVariants as went
 use Rattle.jiter_scan.specs.declared.partial_word.WordStep.TheVariants as seen
 use Rattle.jiter_steps.specs.Read.{inside_at, value_with}
 use Rattle.jiter_steps.specs.declared.parse.Literal.TheVariants as literal

@@ -5,7 +5,7 @@ use Rattle.jiter_steps.proofs.Words.{slice_get_past, eof_string, fault_kind, IsL
 use Rattle.jiter_steps.proofs.Words.{FaultKind, Look, failed-taken, if_gives, same_taken, get-none, between, checked}
 use Rattle.jiter_steps.proofs.Words.{kept, string_at, text_form, whole, Text, IsFaultOf, WantsMemory}
 use Rattle.jiter_scan.specs.declared.errors.FaultKind.TheVariants as fault
-use Rattle.jiter_scan.specs.declared.short_scan.Look.TheVariants as look
+use Rattle.jiter_scan.specs.declared.bytes.short_scan.Look.TheVariants as look
 use Rattle.jiter_steps.proofs.Calls.FastAnswers.{plain-quoted, plain-utf8}
 use Rattle.jiter_steps.proofs.Calls.PlainRuns.{plain_run-within}
 use Rattle.jiter_steps.proofs.Reading.StringForms.{content-kept}

@@ -4,8 +4,8 @@ use Rattle.jiter_scan.specs.Kind.{eof_value, invalid_number, number_out_of_range
 use Rattle.jiter_scan.specs.PartialNumber.{number_from}
 use Rattle.jiter_scan.specs.Scanned.{taken, failed}
 use Rattle.jiter_scan.specs.Word.{Span}
-use Rattle.jiter_scan.specs.declared.partial_number.Stage.{Stage}
-use Rattle.jiter_scan.specs.declared.partial_number.Stage.TheVariants as stage
+use Rattle.jiter_scan.specs.declared.number.partial_number.Stage.{Stage}
+use Rattle.jiter_scan.specs.declared.number.partial_number.Stage.TheVariants as stage
 
 -- the stage, the text, the place reached, and where the number ends
 abbrev stages : List (Stage × List ℕ × ℕ × Span)

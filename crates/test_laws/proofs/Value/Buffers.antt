@@ -7,10 +7,10 @@ use Rattle.jiter_steps.specs.Tree.{Text}
 use Rattle.jiter_steps.specs.declared.read_error.ReadError.{ReadError}
 use Rattle.jiter_value.specs.Scratch.{Lists, lists, IsCleared}
 use Rattle.jiter_value.specs.Stacks.{Member}
-use Rattle.jiter_value.specs.declared.settings.Settings.{Settings}
-use Rattle.jiter_value.specs.declared.stacks.OpenContainer.{OpenContainer}
-use Rattle.jiter_value.specs.declared.stacks.Slot.TheVariants as slot
-use Rattle.jiter_value.specs.declared.stacks.Stacks.{Stacks}
+use Rattle.jiter_value.specs.declared.parse.settings.Settings.{Settings}
+use Rattle.jiter_value.specs.declared.parse.stacks.OpenContainer.{OpenContainer}
+use Rattle.jiter_value.specs.declared.parse.stacks.Slot.TheVariants as slot
+use Rattle.jiter_value.specs.declared.parse.stacks.Stacks.{Stacks}
 use Rattle.jiter_value.specs.declared.value.JsonValue.{JsonValue}
 use Rattle.jiter_value.specs.declared.value.JsonValue as value
 

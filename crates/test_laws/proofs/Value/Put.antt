@@ -13,7 +13,7 @@ use Rattle.jiter_value.specs.Settings.{borrowed}
 use Rattle.jiter_value.specs.Stacks.{Member, from_key}
 use Rattle.jiter_value.specs.Turns.{IsPutAt, IsKeyAt}
 use Rattle.jiter_value.specs.Value.{view}
-use Rattle.jiter_value.specs.declared.stacks.Slot.TheVariants as slot
+use Rattle.jiter_value.specs.declared.parse.stacks.Slot.TheVariants as slot
 use Rattle.jiter_value.specs.declared.value.JsonValue.{JsonValue, Null}
 use Rattle.jiter_value.specs.declared.value.JsonValue as value
 use Rattle.jiter_value.proofs.Views.{view_bool, view_null}

@@ -9,8 +9,8 @@ use Rattle.jiter_steps.proofs.Computed.{computed_readings}
 use Rattle.jiter_value.specs.Machine.{IsUnderWay}
 use Rattle.jiter_value.specs.Stacks.{Member}
 use Rattle.jiter_value.specs.Value.{view}
-use Rattle.jiter_value.specs.declared.settings.Settings.{Settings}
-use Rattle.jiter_value.specs.declared.stacks.State.TheVariants as state
+use Rattle.jiter_value.specs.declared.parse.settings.Settings.{Settings}
+use Rattle.jiter_value.specs.declared.parse.stacks.State.TheVariants as state
 use Rattle.jiter_value.specs.declared.value.JsonValue.{JsonValue, Null}
 use Rattle.jiter_value.specs.declared.value.JsonValue as value
 use Rattle.test_laws.proofs.Value.Buffers.{outermost, stacks}

@@ -1,5 +1,5 @@
 //! Clones and equality of numbers.
-use jiter_scan::number_decoder::{NumberAny, NumberInt};
+use jiter_scan::number::number_decoder::{NumberAny, NumberInt};
 use std::test::*;
 
 // No two of them are equal.

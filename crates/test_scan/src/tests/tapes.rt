@@ -1,6 +1,6 @@
 //! A tape: plain bytes and characters of each size, one after another.
-use jiter_scan::decode_buffer::put_char;
-use jiter_scan::simd::copy_plain;
+use jiter_scan::bytes::decode_buffer::put_char;
+use jiter_scan::bytes::simd::copy_plain;
 use std::test::*;
 
 #[test]

@@ -1,5 +1,5 @@
 use Rattle.jiter_steps.proofs.Words.{◌∙◌, IsUtf8-string_bytes, string_bytes}
-use Rattle.jiter_steps.proofs.OpenStrings.{text-within}
+use Rattle.jiter_steps.proofs.Chunks.OpenStrings.{text-within}
 use Rattle.jiter_steps.proofs.partial_string.closed_within.Goals as goal
 
 pub returns : goal.returns

@@ -1,5 +1,5 @@
 use Rattle.jiter_steps.proofs.Words.{◌∙◌, ap, subst, sym, take, true, IsTextWithin}
-use Rattle.jiter_steps.proofs.StringsWithin.{decoded-within}
+use Rattle.jiter_steps.proofs.Chunks.StringsWithin.{decoded-within}
 use Rattle.jiter_steps.proofs.partial_string.decoded_within.Goals as goal
 
 pub returns-in_ok-copy_text-in-Ok : goal.returns-in_ok-copy_text-in-Ok

@@ -3,7 +3,7 @@ use Rattle.jiter_steps.proofs.Words.{sym, take, true, ◌≤◌, IsUtf8, eq-eqb,
 use Rattle.jiter_steps.proofs.Words.{take-append-drop, take_all, invalid_code_point, Scanned, failed, taken, IsBroken}
 use Rattle.jiter_steps.proofs.Words.{IsUnfinished, checked, Text}
 use Rattle.jiter_steps.proofs.Calls.StringAnswers.{string-checked}
-use Rattle.jiter_steps.proofs.OpenTexts.{broken-fails, open-kept, open-whole}
+use Rattle.jiter_steps.proofs.Chunks.OpenTexts.{broken-fails, open-kept, open-whole}
 use Rattle.jiter_steps.proofs.string_decoder.checked_count.Goals as goal
 
 pub returns-then-known-clause-value : goal.returns-then-known-clause-value

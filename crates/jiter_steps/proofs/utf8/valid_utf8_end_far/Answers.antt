@@ -1,6 +1,6 @@
 use Rattle.jiter_steps.proofs.Words.{◌≡◌, ◌∙◌, drop, sym, ap, subst, drop-length, IsValidUpTo, utf8_error_len}
 use Rattle.jiter_steps.proofs.Words.{IsUnfinished}
-use Rattle.jiter_steps.proofs.OpenTexts.{broken-after, nil-unfinished, open-after}
+use Rattle.jiter_steps.proofs.Chunks.OpenTexts.{broken-after, nil-unfinished, open-after}
 use Rattle.jiter_steps.proofs.utf8.valid_utf8_end_far.Goals as goal
 
 pub returns-in-Ok-clause-open : goal.returns-in-Ok-clause-open

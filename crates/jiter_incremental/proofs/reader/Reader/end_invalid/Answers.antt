@@ -1,7 +1,7 @@
 use Rattle.jiter_incremental.proofs.Words.{◌+◌, ◌∙◌, ap, refl, subst, sym, slice_index, StepsTo, view, Steps, refused}
 use Rattle.jiter_incremental.proofs.Words.{Reader}
 use Rattle.jiter_scan.specs.declared.errors.FaultKind.TheVariants as fault_of
-use Rattle.jiter_scan.specs.declared.partial_number.NumberStep.TheVariants as went
+use Rattle.jiter_scan.specs.declared.number.partial_number.NumberStep.TheVariants as went
 use Rattle.jiter_incremental.proofs.NumberSteps.{invalid-only, number-wrong}
 use Rattle.jiter_incremental.proofs.reader.Reader.end_invalid.Goals as goal
 

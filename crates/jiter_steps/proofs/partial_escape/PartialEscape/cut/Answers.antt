@@ -1,5 +1,5 @@
 use Rattle.jiter_steps.proofs.Words.{ap, arith, length}
-use Rattle.jiter_steps.proofs.OpenEscapes.{cut_short}
+use Rattle.jiter_steps.proofs.Chunks.OpenEscapes.{cut_short}
 use Rattle.jiter_steps.proofs.partial_escape.PartialEscape.cut.Goals as goal
 
 pub with-requires : goal.with-requires

@@ -1,7 +1,7 @@
 use Rattle.jiter_steps.proofs.Words.{◌≡◌, ◌∙◌, ◌∷◌, ◌++◌, [], List, ℕ, ap, arith, length-append, refl, subst, sym, Some}
 use Rattle.jiter_steps.proofs.Words.{slice_get, fault_kind, stop_view, cut, over, event_at, wrong}
-use Rattle.jiter_steps.proofs.OpenEscapes.{begins-after, cut_begins, cut_short, no-close, no-end, spelled-next}
-use Rattle.jiter_steps.proofs.OpenEscapes.{spelled-wrong, wrong-within}
+use Rattle.jiter_steps.proofs.Chunks.OpenEscapes.{begins-after, cut_begins, cut_short, no-close, no-end, spelled-next}
+use Rattle.jiter_steps.proofs.Chunks.OpenEscapes.{spelled-wrong, wrong-within}
 use Rattle.jiter_steps.proofs.partial_escape.PartialEscape.next.Goals as goal
 
 -- the bytes that are looked at

@@ -1,5 +1,5 @@
 use Rattle.jiter_steps.proofs.Words.{◌∙◌, ◌+◌, ◌||◌, length, ap, sym, is_some, checked}
-use Rattle.jiter_steps.proofs.OpenStrings.{closed-text, ended}
+use Rattle.jiter_steps.proofs.Chunks.OpenStrings.{closed-text, ended}
 use Rattle.jiter_steps.proofs.partial_string.PartialString.is_text.Goals as goal
 
 pub returns-clause-closed : goal.returns-clause-closed

@@ -1,6 +1,6 @@
 use Rattle.jiter_steps.proofs.Words.{[], sym, subst, refl, HoldsText, nothing}
-use Rattle.jiter_steps.proofs.OpenStrings.{nothing-taken}
-use Rattle.jiter_steps.proofs.OpenTexts.{nil-unfinished}
+use Rattle.jiter_steps.proofs.Chunks.OpenStrings.{nothing-taken}
+use Rattle.jiter_steps.proofs.Chunks.OpenTexts.{nil-unfinished}
 use Rattle.jiter_steps.proofs.partial_string.PartialString.new.Goals as goal
 
 pub returns : goal.returns

@@ -1,7 +1,7 @@
 use Rattle.jiter_steps.proofs.Words.{◌≡◌, None, arith, refl, slice_index}
 use Rattle.jiter_scan.specs.declared.errors.FaultKind.TheVariants as fault
 use Rattle.jiter_steps.proofs.Grammar.Places.{got}
-use Rattle.jiter_steps.proofs.OpenStrings.{control-fails, none_open}
+use Rattle.jiter_steps.proofs.Chunks.OpenStrings.{control-fails, none_open}
 use Rattle.jiter_steps.proofs.partial_string.PartialString.next.Goals as goal
 
 pub returns-in-0-to-31-clause-goes : goal.returns-in-0-to-31-clause-goes

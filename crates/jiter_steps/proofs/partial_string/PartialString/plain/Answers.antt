@@ -1,4 +1,4 @@
-use Rattle.jiter_steps.proofs.OpenStrings.{run-goes-if}
+use Rattle.jiter_steps.proofs.Chunks.OpenStrings.{run-goes-if}
 use Rattle.jiter_steps.proofs.partial_string.PartialString.plain.Goals as goal
 
 pub returns-clause-taken : goal.returns-clause-taken

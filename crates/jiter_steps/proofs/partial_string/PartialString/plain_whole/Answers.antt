@@ -1,5 +1,5 @@
 use Rattle.jiter_steps.proofs.Words.{◌-◌, refl, slice_range}
-use Rattle.jiter_steps.proofs.OpenStrings.{grown-range, run-goes-if, run-plain, run-whole}
+use Rattle.jiter_steps.proofs.Chunks.OpenStrings.{grown-range, run-goes-if, run-plain, run-whole}
 use Rattle.jiter_steps.proofs.partial_string.PartialString.plain_whole.Goals as goal
 
 pub returns-then-low-clause-taken : goal.returns-then-low-clause-taken

@@ -1,7 +1,7 @@
 use Rattle.jiter_steps.proofs.Words.{◌∙◌, ◌∷◌, ◌++◌, [], ◌-◌, length, ap, arith, subst, sym, Some, slice_index}
 use Rattle.jiter_steps.proofs.Words.{HasTaken}
 use Rattle.jiter_steps.proofs.Grammar.Places.{got}
-use Rattle.jiter_steps.proofs.OpenStrings.{escape-ends, escape-fails, escape-goes, one-byte}
+use Rattle.jiter_steps.proofs.Chunks.OpenStrings.{escape-ends, escape-fails, escape-goes, one-byte}
 use Rattle.jiter_steps.proofs.partial_string.PartialString.spell.Goals as goal
 
 pub returns-in-Part-clause-goes : goal.returns-in-Part-clause-goes

@@ -1,5 +1,5 @@
 use Rattle.jiter_steps.proofs.Words.{◌+◌, arith}
-use Rattle.jiter_steps.proofs.OpenStrings.{escape-whole}
+use Rattle.jiter_steps.proofs.Chunks.OpenStrings.{escape-whole}
 use Rattle.jiter_steps.proofs.partial_string.PartialString.take_escape.Goals as goal
 
 pub returns-clause-taken : goal.returns-clause-taken

@@ -1,7 +1,7 @@
 use Rattle.jiter_steps.proofs.Words.{◌≡◌, ◌∙◌, ◌+◌, ◌-◌, ap, arith, length, sym, take, slice_range, stop_view, cut}
 use Rattle.jiter_steps.proofs.Words.{over, event_at}
-use Rattle.jiter_steps.proofs.OpenStrings.{escape-ahead, escape-begins, escape-cut, escape-whole, one-byte}
-use Rattle.jiter_steps.proofs.OpenStrings.{range-length, rest-range}
+use Rattle.jiter_steps.proofs.Chunks.OpenStrings.{escape-ahead, escape-begins, escape-cut, escape-whole, one-byte}
+use Rattle.jiter_steps.proofs.Chunks.OpenStrings.{range-length, rest-range}
 use Rattle.jiter_steps.proofs.partial_string.PartialString.take_long_escape.Goals as goal
 
 pub returns-in-End-clause-taken : goal.returns-in-End-clause-taken

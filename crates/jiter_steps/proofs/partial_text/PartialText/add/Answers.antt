@@ -1,5 +1,5 @@
 use Rattle.jiter_steps.proofs.Words.{◌≡◌, ◌∙◌, true, length, take, sym, ap}
-use Rattle.jiter_steps.proofs.OpenTexts.{broken-stays}
+use Rattle.jiter_steps.proofs.Chunks.OpenTexts.{broken-stays}
 use Rattle.jiter_steps.proofs.partial_text.PartialText.add.Goals as goal
 
 pub returns-then-self-clause-taken : goal.returns-then-self-clause-taken

@@ -1,5 +1,5 @@
 use Rattle.jiter_steps.proofs.Words.{◌≡◌, ◌∙◌, true, false, length, nat_eq, sym, ap, subst, IsUtf8-string_bytes, IsUtf8}
-use Rattle.jiter_steps.proofs.OpenTexts.{is_text-kept, is_text-whole, is_text-broken}
+use Rattle.jiter_steps.proofs.Chunks.OpenTexts.{is_text-kept, is_text-whole, is_text-broken}
 use Rattle.jiter_steps.proofs.partial_text.PartialText.is_text.Goals as goal
 
 pub returns-then-partial-clause-checked : goal.returns-then-partial-clause-checked

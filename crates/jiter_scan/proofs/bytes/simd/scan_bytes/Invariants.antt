@@ -1,0 +1,12 @@
+use Rattle.jiter_scan.proofs.Words.{◌≡◌, ◌-◌, ◌≤◌, ◌&&◌, length, scan_stop, ascii_from}
+use Rattle.jiter_scan.proofs.bytes.simd.scan_bytes.Given as goal
+
+abbrev pub invariant-loop-i : goal.invariant-loop-i
+invariant-loop-i l = record {
+  stop : scan_stop l.bytes l.from ≡ scan_stop l.bytes l.i;
+  ascii : (l.ascii && ascii_from l.bytes l.from) ≡ (l.clean && ascii_from l.bytes l.i);
+  within : l.i ≤ length l.bytes;
+}
+
+abbrev pub decreases-loop-i : goal.decreases-loop-i
+decreases-loop-i l = length l.bytes - l.i

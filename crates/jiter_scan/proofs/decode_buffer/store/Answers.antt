@@ -1,5 +1,0 @@
-use Rattle.jiter_scan.proofs.Words.{arith, put_chunk_whole}
-use Rattle.jiter_scan.proofs.decode_buffer.store.Goals as goal
-
-pub returns : goal.returns
-returns c = put_chunk_whole c.args.room.now c.args.v (omega arith)

@@ -1,0 +1,36 @@
+use Rattle.jiter_value.proofs.Words.{refl, ap, ◌∙◌, sym, arith, slice_get, value_first, borrowed, rules_as}
+use Rattle.std.proofs.lemmas.Option.{slice_get_past}
+use Rattle.jiter_scan.specs.Kind.{eof_value}
+use Rattle.jiter_value.proofs.WholeTextAnswers.{answer-none, begins-at-value}
+use Rattle.jiter_value.proofs.parse.machine.begin.Goals as goal
+
+pub returns-then-begun-clause-begun : goal.returns-then-begun-clause-begun
+returns-then-begun-clause-begun c = λ _. rw c.if-begun.true at c.requires
+
+pub returns-then-reading-bytes-clause-begun : goal.returns-then-reading-bytes-clause-begun
+returns-then-reading-bytes-clause-begun c = λ _.
+    let r = c.args.reading.now in
+    let t = c.args.bytes.now in
+    let u = rw c.if-begun.false at c.requires in
+    let blanks = c.past_blanks-reading in
+    rw (u.2, sym blanks.ensures.value)
+    (begins-at-value borrowed ⊥ r.settings t r.stacks blanks.result u.0 c.if-reading-bytes.true, tt, u.3)
+
+pub returns-clause-over : goal.returns-clause-over
+returns-clause-over c = λ _.
+    let r = c.args.reading.now in
+    let t = c.args.bytes.now in
+    let i = c.past_blanks-reading.result in
+    let none = slice_get_past t i (omega (arith, c.if-reading-bytes.false)) in
+    let ended = ap (λ j. value_first j (slice_get t j)) (sym c.past_blanks-reading.ensures.value)
+    ∙ ap (value_first i) none in (
+      rw c.fault_at-fault.ensures (answer-none (rules_as borrowed r.settings) r.settings.mode t eof_value i i (ended, refl)),
+      c.past_blanks-reading.ensures.bound,
+      tt,
+      tt,
+    )
+
+pub returns-then-reading-bytes-clause-forward : goal.returns-then-reading-bytes-clause-forward
+returns-then-reading-bytes-clause-forward c = λ _.
+    let u = rw c.if-begun.false at c.requires in
+    omega (arith, u.1)

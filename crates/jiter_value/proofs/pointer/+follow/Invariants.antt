@@ -1,5 +1,0 @@
-use Rattle.jiter_value.proofs.Words.{length}
-use Rattle.jiter_value.proofs.pointer.+follow.Given as goal
-
-abbrev pub decreases-follow : goal.decreases-follow
-decreases-follow a = length a.path.now

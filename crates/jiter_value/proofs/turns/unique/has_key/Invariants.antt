@@ -1,6 +1,0 @@
-use Rattle.jiter_value.proofs.Words.{◌≡◌, drop, has_key}
-use Rattle.jiter_value.proofs.turns.unique.has_key.Given as goal
-
-abbrev pub invariant-loop-i : goal.invariant-loop-i
-invariant-loop-i l =
-    has_key l.key (drop l.i l.members.items) ≡ has_key l.key (drop l.base l.members.items)
