@@ -3,8 +3,8 @@
 ghost use Rattle.std.specs.Prelude.{◌≡◌, ◌+◌, ◌≤◌, ◌++◌, OnOk, length, nat_le, take, vec_len};
 ghost use Rattle.jiter_scan.specs.Scan.{scan_stop};
 
-use jiter_scan::memory::{AllocFailed, lengthen};
 use jiter_scan::bytes::simd::stops;
+use jiter_scan::memory::{AllocFailed, lengthen};
 use std::simd::Simd;
 use std::simd::prelude::*;
 

@@ -6,8 +6,8 @@ ghost use Rattle.jiter_print.specs.Print.{with_line_feed, Appends};
 ghost use Rattle.jiter_print.specs.Printed.{IsLineOf, string_from};
 
 use crate::buffer::{is_plain_to, make_room_for, place_text};
-use jiter_scan::memory::AllocFailed;
 use jiter_scan::bytes::simd::string_stop;
+use jiter_scan::memory::AllocFailed;
 use std::alloc::AllocError;
 
 /// Appends the JSON text of a string, with its quotes and escapes, as [`print`](crate::print) writes it.

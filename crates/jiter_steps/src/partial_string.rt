@@ -14,10 +14,10 @@ use crate::partial_escape::{EscapeStep, PartialEscape};
 use crate::partial_text::{PartialText, SHORT_READ};
 use crate::read_error::ReadError;
 use crate::string_decoder::{checked_text, decode};
-use jiter_scan::errors::FaultKind;
-use jiter_scan::memory::{AllocFailed, copy_text};
 use jiter_scan::bytes::short_scan::{Look, look_at};
 use jiter_scan::bytes::simd::{scan_string, string_stop};
+use jiter_scan::errors::FaultKind;
+use jiter_scan::memory::{AllocFailed, copy_text};
 use jiter_scan::text::utf8_text;
 use std::alloc::Global;
 

@@ -10,8 +10,8 @@ ghost use Rattle.jiter_scan.specs.Ascii as ascii;
 use crate::escape::{StringEnd, StringEvent, event_at, next_event};
 use crate::parse::Parser;
 use crate::string_decoder::cut_short;
-use jiter_scan::errors::Fault;
 use jiter_scan::bytes::simd::string_stop;
+use jiter_scan::errors::Fault;
 use jiter_scan::word::byte_at;
 
 // For a string with a backslash at `from`.

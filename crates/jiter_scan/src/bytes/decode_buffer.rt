@@ -3,8 +3,8 @@ ghost use Rattle.std.specs.Prelude.{◌≡◌, ◌+◌, ◌^◌, ◌<◌, ◌≤
 ghost use Rattle.std.specs.Prelude.{vec_len, encode_utf8};
 ghost use Rattle.jiter_scan.specs.Words.{chunk, is_plain, is_ascii, failing};
 
-use crate::memory::{AllocFailed, lengthen};
 use crate::bytes::simd::{highs, stops};
+use crate::memory::{AllocFailed, lengthen};
 use std::simd::prelude::*;
 
 /// Writes bytes after the first `count`. Grows if it must. Returns how many count then, with 32 free ones after them.

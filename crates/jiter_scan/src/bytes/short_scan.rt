@@ -2,8 +2,8 @@
 ghost use Rattle.std.specs.Prelude.{◌≡◌, ◌≤◌, ℕ, IsTrue, length};
 ghost use Rattle.jiter_scan.specs.Scan.{IsAsciiTo, IsLook, scan_stop};
 
-use crate::errors::FaultKind;
 use crate::bytes::simd::{ascii_stops, scan_string, string_stop};
+use crate::errors::FaultKind;
 use crate::word::byte_at;
 use std::simd::prelude::*;
 

@@ -5,12 +5,12 @@ ghost use Rattle.jiter_value.specs.Words.{owned_text, owned_tree, ReadHolds, IsO
 ghost use Rattle.jiter_value.specs.Words.{Parses, reading_as, HoldsNothing, IsCleared, each, rules, rules_as};
 ghost use Rattle.jiter_value.specs.Words.{view, BeginsContainer, MayGrowAt, MayGrow};
 
-use crate::value::copies::move_value;
 use crate::parse::reading::{error_at, read_text, read_text_as, read_value};
 use crate::parse::settings::Settings;
 use crate::parse::string_storage::Owning;
 use crate::parse::turns::Reading;
 use crate::value::JsonValue;
+use crate::value::copies::move_value;
 use jiter_scan::{JsonError, PartialMode};
 use jiter_steps::parse::{Parser, Start, start_of};
 use jiter_steps::read_error::ReadError;

@@ -6,8 +6,8 @@ ghost use Rattle.jiter_value.specs.Words.{text_view, Adds, HasKeys, IsKeyOf, IsN
 ghost use Rattle.jiter_value.specs.Words.{IsSomewhere, IsUpToDate, bucket_of, has_text, hash_of, keys_of};
 ghost use Rattle.jiter_value.specs.Words.{has_key};
 
-use crate::value::copies::copy_cow;
 use crate::value::JsonValue;
+use crate::value::copies::copy_cow;
 use jiter_scan::memory::{AllocFailed, insert, push, with_capacity};
 use std::alloc::Global;
 use std::borrow::CowStr;
