@@ -16,8 +16,9 @@ mod peek;
 
 pub use errors::{JiterError, JiterErrorType, JiterResult, JsonType};
 pub use jiter::Jiter;
+pub use jiter_scan::bytes::simd;
 pub use jiter_scan::{
-    JsonError, JsonErrorType, JsonResult, LinePosition, NumberAny, NumberInt, PartialMode, simd,
+    JsonError, JsonErrorType, JsonResult, LinePosition, NumberAny, NumberInt, PartialMode,
 };
 pub use jiter_value::{
     JsonArray, JsonObject, JsonValue, JsonValueScratch, Machine, Turn, UniqueError, UniqueErrorType,
