@@ -97,7 +97,7 @@ module _ (level : ℕ) (chunk : List ℕ) (i : Reader) (v : Tree) (h : IsHere le
           still = (refl, refl, refl, refl);
           depth = (up, down);
           low = low;
-          deeper = λ _. h.unset;
+          calm = λ _. h.unset;
         } in
         steps-one level chunk i v j w h.inside moves
         (λ t outer at r.
@@ -282,7 +282,7 @@ module _ (level : ℕ) (chunk : List ℕ) (i : Reader) (v : Tree) (h : IsHere le
                     still = (refl, refl, refl, refl);
                     depth = (omega (arith, h.here, some), omega (arith, h.here));
                     low = omega (arith, h.here, h.low);
-                    deeper = λ _. h.unset;
+                    calm = λ _. h.unset;
                   };
             }
 

@@ -3,6 +3,7 @@ pub mod Arms
 pub mod Arrivals
 pub mod Between
 pub mod Chunks
+pub mod Commas
 pub mod Documents
 pub mod Innermost
 pub mod Leading

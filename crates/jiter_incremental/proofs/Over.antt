@@ -51,7 +51,7 @@ over-step level chunk i v r here inside over =
             still = (refl, refl, refl, refl);
             depth = (omega (arith, here), omega (arith, here));
             low = r.low;
-            deeper = λ more. absurd (omega (arith, here, more));
+            calm = λ other. absurd (other here);
           };
     }
 
@@ -105,11 +105,11 @@ module _ (level : ℕ) (chunk : List ℕ) (i : Reader) (v : Tree) (j : Reader) (
       refuse-read (ahead i chunk i.at) (document i (filled outer v)) (t ++ take i.at chunk) (slice_index chunk i.at) h.read
       unset begun)
 
-  -- Where a container was opened the document is read on.
-  pub opened-so : {E : Type 0} (r : Result ℕ E) → i.depth ≡ level → IfOk r (Steps level chunk i v j w)
-      → OnErr r (ReadsAsBefore level chunk i v j w) → level < j.depth → j.fault ≡ None
-  opened-so (Ok n) here steps stays more = steps.moves.deeper more
-  opened-so (Err e) here steps stays more = absurd (omega (arith, here, stays.depth, more))
+  -- Where a container was opened or ended the document is read on.
+  pub calm-so : {E : Type 0} (r : Result ℕ E) → i.depth ≡ level → IfOk r (Steps level chunk i v j w)
+      → OnErr r (ReadsAsBefore level chunk i v j w) → ¬ (j.depth ≡ level) → j.fault ≡ None
+  calm-so (Ok n) here steps stays other = steps.moves.calm other
+  calm-so (Err e) here steps stays other = absurd (other (stays.depth ∙ here))
 
 -- An allocation for it fails before a chunk.
 pub refuses-scalar : (level : ℕ) (chunk : List ℕ) (i : Reader) (v : Tree) → i.at < length chunk → i.fault ≡ None

@@ -99,7 +99,7 @@ module _ (level : ℕ) (chunk : List ℕ) (i : Reader) (v : Tree) (h : IsHere le
             still = (refl, refl, refl, refl);
             depth = (omega (arith, h.here), omega (arith, h.here));
             low = omega (arith, h.here, low);
-            deeper = λ more. h.unset;
+            calm = λ other. h.unset;
           } in
           steps-one level chunk i v j w h.inside moves
           (λ t outer at r.

@@ -133,7 +133,7 @@ module _ (level : ℕ) (chunk : List ℕ) (i : Reader) (here : i.depth ≡ level
     still = still;
     depth = (omega (arith, here, depth), omega (arith, here, depth));
     low = omega (arith, here, low, depth);
-    deeper = λ more. absurd (omega (arith, here, depth, more));
+    calm = λ other. absurd (other (depth ∙ here));
   }
 
 -- It moves as one that is where it is.
@@ -145,7 +145,7 @@ moves-from level chunk i j k n still m = record {
   still = (m.still.0 ∙ still.0, m.still.1 ∙ still.1, m.still.2 ∙ still.2, m.still.3 ∙ still.3);
   depth = m.depth;
   low = m.low;
-  deeper = m.deeper;
+  calm = m.calm;
 }
 
 module _ (level : ℕ) (chunk : List ℕ) (i : Reader) (v : Tree) (j : Reader) (w : Tree) where

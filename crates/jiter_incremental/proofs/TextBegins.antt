@@ -28,7 +28,7 @@ buffer-steps level chunk i v j w n s h = record {
     still = h.moves.still;
     depth = h.moves.depth;
     low = h.moves.low;
-    deeper = h.moves.deeper;
+    calm = h.moves.calm;
   };
 }
 

@@ -80,12 +80,19 @@ pub record MovesBy (level : ℕ) (chunk : List ℕ) (i j : Reader) (n : ℕ) : T
   pub still : IsStill i j
   pub depth : (level ≤ j.depth + 1) × (j.depth ≤ level + 1)
   pub low : j.depth ≤ nesting_limit + 1
-  pub deeper : level < j.depth → j.fault ≡ None
+  pub calm : ¬ (j.depth ≡ level) → j.fault ≡ None
 
 pub record Steps (level : ℕ) (chunk : List ℕ) (i : Reader) (v : Tree) (j : Reader) (w : Tree) (n : ℕ) : Type 0 where
   pub goes : (t : List ℕ) (outer : List OpenFrame) → IsAt level outer → HasTakenTo chunk i (filled outer v) t
       → HasTakenIn (ahead j chunk (i.at + n)) (document j (filled outer w)) (t ++ slice_range chunk i.at (i.at + n))
   pub moves : MovesBy level chunk i j n
+
+-- A value ended at e. The comma after it is taken too, up to n, if one is awaited and the chunk has it.
+abbrev pub TakesComma : List ℕ → ℕ → Reader → Reader → ℕ → Type 0
+TakesComma chunk e i j n =
+    ((n ≡ e) × (j ≡ i))
+    ⊎ ((i.awaits ≡ awaits.Comma) × (slice_get chunk e ≡ Some ascii.comma) × (n ≡ e + 1)
+    × (j ≡ record i { awaits = awaits.Next }))
 
 -- An allocation failed: what was read is read as before, whatever comes.
 pub record ReadsAsBefore (level : ℕ) (chunk : List ℕ) (i : Reader) (v : Tree) (j : Reader) (w : Tree) : Type 0 where

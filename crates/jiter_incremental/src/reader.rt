@@ -232,7 +232,7 @@ impl Reader {
         ensures steps { IfOk result (λ n. Steps level chunk.now self.old (view slot.old) self.new (view slot.new) n) }
         ensures stays { OnErr result (ReadsAsBefore level chunk.now self.old (view slot.old) self.new (view slot.new)) }
         ensures wanted { OnErr result (Refuses level chunk.now self.old (view slot.old) self.new) }
-        ensures opened { level < self.new.depth → self.new.fault ≡ None }
+        ensures calm { ¬ (self.new.depth ≡ level) → self.new.fault ≡ None }
         ensures room { KeepsRoom level self.new slot.new }
     {
         if self.is_over() {
@@ -257,7 +257,7 @@ impl Reader {
         requires inside { self.old.at < length chunk.now }
         ensures went { Advanced level chunk.now self.old (view slot.old) self.new (view slot.new) }
         ensures wanted { OnErr result (Refuses level chunk.now self.old (view slot.old) self.new) }
-        ensures opened { level < self.new.depth → self.new.fault ≡ None }
+        ensures calm { ¬ (self.new.depth ≡ level) → self.new.fault ≡ None }
         ensures paused { IsPaused level self.new slot.new }
         ensures near { OnOk result (self.new.depth ≤ level + 1) }
         ensures progress { OnOk result ((self.old.at < self.new.at) ⊎ (self.new.depth < level)) }
@@ -286,6 +286,7 @@ impl Reader {
         ensures paused { IsPaused level self.new slot.new }
         ensures depth { level ≤ self.new.depth }
         ensures all { OnOk result (level < self.new.depth → self.new.at ≡ length chunk.now) }
+        ensures calm { OnOk result (self.new.at < length chunk.now → self.new.fault ≡ None) }
     {
         if level == 0 {
             return self.parts(slot, 1, chunk);
@@ -318,6 +319,7 @@ impl Reader {
         ensures wanted { OnErr result (Refuses level chunk.now self.old (view slot.old) self.new) }
         ensures paused { IsPaused level self.new slot.new }
         ensures all { OnOk result (level ≤ self.new.depth → self.new.at ≡ length chunk.now) }
+        ensures calm { OnOk result (self.new.at < length chunk.now → self.new.fault ≡ None) }
     {
         while self.at < chunk.len() && level <= self.depth {
             if level < self.depth {
@@ -346,11 +348,66 @@ impl Reader {
         ensures complete { IsComplete self.new }
         ensures ended { self.new.depth < level → HasEnded self.new }
         ensures all { OnOk result (level ≤ self.new.depth → self.new.at ≡ length chunk.now) }
+        ensures calm { OnOk result (self.new.at < length chunk.now → self.new.fault ≡ None) }
     {
         self.hide(slot, level)?;
         let read = self.read_on(slot, level, chunk);
         self.show(slot, level);
         read
+    }
+
+    // Goes on in the innermost container alone, up to its end or the chunk's.
+    fn innermost(
+        &mut self,
+        slot: &mut JsonValue<'static>,
+        level: usize,
+        chunk: &[u8],
+    ) -> Result<(), AllocFailed>
+        requires ready { Ready level chunk.now self.old (view slot.old) }
+        requires some { 0 < level }
+        requires unset { self.old.fault ≡ None }
+        requires complete { IsComplete self.old }
+        requires inside { self.old.at < length chunk.now }
+        ensures went { Advanced level chunk.now self.old (view slot.old) self.new (view slot.new) }
+        ensures wanted { OnErr result (Refuses level chunk.now self.old (view slot.old) self.new) }
+        ensures complete { IsComplete self.new }
+        ensures calm { OnOk result (self.new.at < length chunk.now → self.new.fault ≡ None) }
+    {
+        if level == self.depth {
+            return self.parts(slot, level, chunk);
+        }
+        match slot {
+            JsonValue::Array(items) => {
+                let last = items.len() - 1;
+                self.innermost(&mut items[last], level + 1, chunk)
+            }
+            JsonValue::Object(members) => {
+                let last = members.len() - 1;
+                self.innermost(&mut members[last].1, level + 1, chunk)
+            }
+            _ => unreachable!(),
+        }
+    }
+
+    // Most chunks end in the innermost container. So it is read first, without a way back through those that it is in.
+    fn go_on(&mut self, root: &mut JsonValue<'static>, chunk: &[u8]) -> Result<(), AllocFailed>
+        requires ready { Ready 0 chunk.now self.old (view root.old) }
+        requires unset { self.old.fault ≡ None }
+        requires complete { IsComplete self.old }
+        requires inside { self.old.at < length chunk.now }
+        ensures went { Advanced 0 chunk.now self.old (view root.old) self.new (view root.new) }
+        ensures wanted { OnErr result (Refuses 0 chunk.now self.old (view root.old) self.new) }
+        ensures complete { IsComplete self.new }
+        ensures all { OnOk result (self.new.at ≡ length chunk.now) }
+    {
+        if self.depth == 0 {
+            return self.parts(root, 0, chunk);
+        }
+        self.innermost(root, 1, chunk)?;
+        if self.at == chunk.len() {
+            return Ok(());
+        }
+        self.parts(root, 0, chunk)
     }
 
     /// Counts the bytes that were taken of a chunk.
@@ -386,6 +443,6 @@ impl Reader {
             self.at = chunk.len();
             return Ok(());
         }
-        self.parts(root, 0, chunk)
+        self.go_on(root, chunk)
     }
 }

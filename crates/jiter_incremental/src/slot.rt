@@ -1,11 +1,11 @@
 //! The open containers of the value so far: the first is the root, and each other the last item or member of one.
 //! A slot is an open container, or the root if none is open. Its level counts the open containers down to it.
-ghost use Rattle.std.specs.Prelude.{◌≡◌, ◌+◌, ◌<◌, ◌∷◌, [], List, OnOk, length, vec_capacity, vec_len, ℕ};
+ghost use Rattle.std.specs.Prelude.{◌≡◌, ◌+◌, ◌<◌, ◌∷◌, [], List, OnOk, length, ℕ};
 ghost use Rattle.jiter_incremental.specs.Words.{HasPart, HasRoomAt, IsContainer, IsOfKey, IsPut, IsRoomy};
 ghost use Rattle.jiter_incremental.specs.Words.{IsTaken, OpenFrame, around, begun, filled, text_view, Tree};
 ghost use Rattle.jiter_incremental.specs.Words.{PartTree, built, empty_tree, view, out-JsonValue};
 
-use jiter_scan::memory::{AllocFailed, make_room, with_capacity};
+use jiter_scan::memory::{AllocFailed, make_room};
 use jiter_steps::parse::ContainerKind;
 use jiter_value::value::JsonValue;
 use std::alloc::Global;
@@ -34,19 +34,6 @@ pub fn kind_of(slot: &JsonValue<'static>) -> ContainerKind
     }
 }
 
-// The first part gets capacity for one: in deep documents most containers have no other.
-#[inline(always)]
-fn make_room_after<T: Drop>(parts: &mut Vec<T>) -> Result<(), AllocFailed>
-    ensures same { parts.new.items ≡ parts.old.items }
-    ensures room { OnOk result (vec_len parts.new < vec_capacity parts.new) }
-{
-    if parts.capacity() > 0 {
-        return make_room(parts);
-    }
-    *parts = with_capacity(*parts.allocator(), 1)?;
-    Ok(())
-}
-
 /// Reserves capacity for one more item or member of a container.
 #[inline(always)]
 pub fn reserve_in(slot: &mut JsonValue<'static>) -> Result<(), AllocFailed>
@@ -54,8 +41,8 @@ pub fn reserve_in(slot: &mut JsonValue<'static>) -> Result<(), AllocFailed>
     ensures room { OnOk result (IsContainer (view slot.old) → IsRoomy (out-JsonValue slot.new)) }
 {
     match slot {
-        JsonValue::Array(items) => make_room_after(items),
-        JsonValue::Object(members) => make_room_after(members),
+        JsonValue::Array(items) => make_room(items),
+        JsonValue::Object(members) => make_room(members),
         _ => Ok(()),
     }
 }

@@ -2,7 +2,7 @@
 ghost use Rattle.std.specs.Prelude.{◌≡◌, ◌+◌, ◌-◌, ◌^◌, ◌<◌, ◌≤◌, ◌++◌, [], IfOk, OnErr, OnOk, length};
 ghost use Rattle.std.specs.Prelude.{slice_index, true, false, string_bytes};
 ghost use Rattle.jiter_incremental.specs.Words.{text_of, name_word, AwaitsKey, AwaitsValue, IsHere, IsScalar, KeepsRoom, ReadsAsBefore};
-ghost use Rattle.jiter_incremental.specs.Words.{Steps, HasRoomAt, quote, number_view, begins_decimal};
+ghost use Rattle.jiter_incremental.specs.Words.{Steps, TakesComma, HasRoomAt, quote, number_view, begins_decimal};
 ghost use Rattle.jiter_incremental.specs.Words.{is_blank, start_of, nesting_limit, number_tree, HasTaken};
 ghost use Rattle.jiter_incremental.specs.Words.{opening, string, owned_text, tree_as, view};
 ghost use Rattle.jiter_incremental.specs.declared.reader.Awaits.TheVariants as awaited;
@@ -62,6 +62,18 @@ impl Reader {
     {
         self.begin = self.position();
         self.token = token;
+    }
+
+    // Takes the comma after a value too, which ended at `end`, if the chunk has it.
+    #[inline(always)]
+    pub(crate) fn past_comma(&mut self, chunk: &[u8], end: usize) -> usize
+        ensures { TakesComma chunk.now end self.old self.new result }
+    {
+        if matches!(self.awaits, Awaits::Comma) && end < chunk.len() && chunk[end] == b',' {
+            self.awaits = Awaits::Next;
+            return end + 1;
+        }
+        end
     }
 
     #[inline(always)]
@@ -176,7 +188,7 @@ impl Reader {
             Some((number, end)) => {
                 let value = number_value(self.alloc, number)?;
                 self.put(slot, level, value);
-                Ok(end - self.at)
+                Ok(self.past_comma(chunk, end) - self.at)
             }
             None => self.begin_number(slot, level, chunk),
         }
@@ -216,7 +228,7 @@ impl Reader {
         match text_within(self.alloc, &mut self.buffer, chunk, self.at)? {
             Some((text, end)) => {
                 self.put(slot, level, text_value(text));
-                Ok(end - self.at)
+                Ok(self.past_comma(chunk, end) - self.at)
             }
             None => {
                 self.begin_string(Token::Text);
@@ -247,7 +259,7 @@ impl Reader {
         match fast_literal_end(chunk, self.at, literal) {
             Some(end) => {
                 self.put(slot, level, literal_value(literal));
-                end - self.at
+                self.past_comma(chunk, end) - self.at
             }
             None => {
                 self.begin_word(WordValue::Literal(literal));

@@ -114,7 +114,7 @@ read_on-inside-requires t c =
     let w = view c.loop-self.slot in
     let so = c.loop-self.invariant in
     let deeper : level < j.depth = omega (arith, c.if-level-self-2.true) in
-    let unset = so.unset c.loop-self-test.true deeper in
+    let unset = so.calm c.loop-self-test.true (λ same. absurd (omega (arith, deeper, same))) in
     let ready = ready-then level chunk c.args.self.now (view c.args.slot.now) j w c.requires.ready so.went (omega (arith, deeper)) in (
       omega (arith, c.decreases, so.nearer c.loop-self-test.true),
       (

@@ -15,7 +15,7 @@ abbrev pub invariant-read_on-loop-self : goal.invariant-read_on-loop-self
 invariant-read_on-loop-self l = record {
   went : Advanced l.level l.chunk l.initial.self (view l.initial.slot) l.self (view l.slot);
   paused : IsPaused l.level l.self l.slot;
-  unset : l.self.at < length l.chunk → l.level < l.self.depth → l.self.fault ≡ None;
+  calm : l.self.at < length l.chunk → ¬ (l.self.depth ≡ l.level) → l.self.fault ≡ None;
   nearer : l.self.at < length l.chunk → 2 * (length l.chunk - l.self.at) + (l.self.depth - l.level)
       ≤ 2 * (length l.chunk - l.initial.self.at) + (l.initial.self.depth - l.level);
 }

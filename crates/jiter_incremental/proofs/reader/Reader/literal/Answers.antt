@@ -1,4 +1,7 @@
-use Rattle.jiter_incremental.proofs.Words.{◌-◌, subst, sym, text_view, Tree, view, Steps, IsPut, Reader, slice_index}
+use Rattle.jiter_incremental.proofs.Words.{refl, subst, sym, text_view, Tree, view, Steps, IsPut, slice_index, after_level}
+use Rattle.jiter_incremental.specs.declared.reader.Token.TheVariants as token_kind
+use Rattle.jiter_incremental.proofs.Arms.{turned}
+use Rattle.jiter_incremental.proofs.Commas.{with-comma}
 use Rattle.jiter_incremental.proofs.Placing.{scalar-put, word-step}
 use Rattle.jiter_incremental.proofs.Documents.Tokens.{literal-begins}
 use Rattle.jiter_incremental.specs.declared.names.WordValue.TheVariants as name
@@ -15,9 +18,12 @@ returns-in-Some-clause-steps c =
     let e = c.in-Some.end in
     let found = c.in-Some.ensures in
     let put = subst (λ (x : Tree). IsPut level v (text_view i.key) x w) c.literal_value.ensures c.put.ensures.put in
-    subst (λ (j : Reader). Steps level chunk i v j w (e - j.at)) (sym c.put.ensures.is)
-    (scalar-put level chunk i v c.requires.here c.requires.token c.requires.awaited c.requires.other c.put.new.self.key _ w e
-    c.requires.low put (literal-scalar chunk i.at c.args.literal e c.requires.starts found.value found.within.0 found.within.1))
+    let key = c.put.new.self.key in
+    let q = record (turned i (after_level level) i.depth key) { token = token_kind.Nothing } in
+    let all = scalar-put level chunk i v c.requires.here c.requires.token c.requires.awaited c.requires.other key _ w e
+    c.requires.low put (literal-scalar chunk i.at c.args.literal e c.requires.starts found.value found.within.0 found.within.1) in
+    with-comma level chunk i v q w e c.requires.here all refl c.requires.here.unset c.requires.here.here
+    c.put.new.self c.past_comma.new.self c.past_comma.result c.put.ensures.is c.past_comma.ensures
 
 pub returns-in-None-clause-steps : goal.returns-in-None-clause-steps
 returns-in-None-clause-steps c =

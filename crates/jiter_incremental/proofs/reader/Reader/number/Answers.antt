@@ -1,4 +1,7 @@
-use Rattle.jiter_incremental.proofs.Words.{◌-◌, subst, sym, view, Steps, Reader}
+use Rattle.jiter_incremental.proofs.Words.{refl, view, after_level}
+use Rattle.jiter_incremental.specs.declared.reader.Token.TheVariants as token_kind
+use Rattle.jiter_incremental.proofs.Arms.{turned}
+use Rattle.jiter_incremental.proofs.Commas.{with-comma}
 use Rattle.jiter_incremental.proofs.Documents.Blanks.{if-refused}
 use Rattle.jiter_incremental.proofs.NumberBegins.{stays-so, whole-number}
 use Rattle.jiter_incremental.proofs.reader.Reader.number.Goals as goal
@@ -18,6 +21,9 @@ returns-in_ok-value-in-Some-clause-steps c =
     let v = view c.args.slot.now in
     let w = view c.put.new.slot in
     let e = c.in-Some.end in
-    subst (λ (j : Reader). Steps level chunk i v j w (e - j.at)) (sym c.put.ensures.is)
-    (whole-number level chunk i v c.requires.here c.requires.token c.requires.awaited c.requires.other c.requires.low
-    c.requires.begins c.put.new.self.key _ _ w e c.in-Some.ensures c.in_ok-value-in-Some.ensures c.put.ensures.put)
+    let key = c.put.new.self.key in
+    let put = whole-number level chunk i v c.requires.here c.requires.token c.requires.awaited c.requires.other c.requires.low
+    c.requires.begins key _ _ w e c.in-Some.ensures c.in_ok-value-in-Some.ensures c.put.ensures.put in
+    let q = record (turned i (after_level level) i.depth key) { token = token_kind.Nothing } in
+    with-comma level chunk i v q w e c.requires.here put refl c.requires.here.unset c.requires.here.here
+    c.put.new.self c.past_comma.new.self c.past_comma.result c.put.ensures.is c.past_comma.ensures

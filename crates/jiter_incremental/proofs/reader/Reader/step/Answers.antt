@@ -1,5 +1,5 @@
 use Rattle.jiter_incremental.proofs.Words.{view}
-use Rattle.jiter_incremental.proofs.Over.{here-of, opened-so, over-step, refuses-blank, refuses-token}
+use Rattle.jiter_incremental.proofs.Over.{calm-so, here-of, over-step, refuses-blank, refuses-token}
 use Rattle.jiter_incremental.proofs.reader.Reader.step.Goals as goal
 
 pub returns-then-is_over-clause-steps : goal.returns-then-is_over-clause-steps
@@ -34,8 +34,8 @@ returns-in_default c =
       wanted =
           refuses-token c.args.level c.args.chunk.now i v j w c.token.result c.requires.inside
           (c.is_over.ensures.unset c.if-is_over.false) c.in_default.not-Nothing c.token.ensures.stays;
-      opened =
-          opened-so c.args.level c.args.chunk.now i v j w c.token.result c.requires.here c.token.ensures.steps
+      calm =
+          calm-so c.args.level c.args.chunk.now i v j w c.token.result c.requires.here c.token.ensures.steps
           c.token.ensures.stays;
       room = c.token.ensures.room;
     }

@@ -1,5 +1,8 @@
-use Rattle.jiter_incremental.proofs.Words.{◌-◌, subst, sym, string_bytes, text_view, Tree, view, Steps, IsPut, Reader}
+use Rattle.jiter_incremental.proofs.Words.{◌-◌, refl, subst, sym, string_bytes, text_view, Tree, view, Steps, IsPut, Reader, after_level}
 use Rattle.jiter_incremental.specs.declared.reader.Awaits.TheVariants as awaits
+use Rattle.jiter_incremental.specs.declared.reader.Token.TheVariants as token_kind
+use Rattle.jiter_incremental.proofs.Arms.{turned}
+use Rattle.jiter_incremental.proofs.Commas.{with-comma}
 use Rattle.jiter_incremental.proofs.Documents.Blanks.{if-refused}
 use Rattle.jiter_incremental.proofs.Documents.WholeTokens.{text-scalar}
 use Rattle.jiter_incremental.proofs.NumberBegins.{stays-so}
@@ -24,10 +27,14 @@ returns-in-Some-clause-steps c =
     let e = c.in-Some.end in
     let within = rw c.in-Some.is at c.in_ok-text.ensures in
     let put = subst (λ (x : Tree). IsPut level v (text_view i.key) x w) c.text_value.ensures c.put.ensures.put in
-    subst (λ (j : Reader). Steps level chunk i v j w (e - j.at)) (sym c.put.ensures.is)
-    (buffer-steps level chunk i v _ w (e - i.at) c.text_within.new.buffer
-    (scalar-put level chunk i v c.requires.here c.requires.token c.requires.awaited c.requires.other c.put.new.self.key
-    _ w e c.requires.low put (text-scalar chunk i.at (string_bytes c.in-Some.text) e within)))
+    let key = c.put.new.self.key in
+    let buffer = c.text_within.new.buffer in
+    let q = record (turned i (after_level level) i.depth key) { token = token_kind.Nothing } in
+    let all = buffer-steps level chunk i v q w (e - i.at) buffer
+    (scalar-put level chunk i v c.requires.here c.requires.token c.requires.awaited c.requires.other key
+    _ w e c.requires.low put (text-scalar chunk i.at (string_bytes c.in-Some.text) e within)) in
+    with-comma level chunk i v (record q { buffer = buffer }) w e c.requires.here all refl c.requires.here.unset
+    c.requires.here.here c.put.new.self c.past_comma.new.self c.past_comma.result c.put.ensures.is c.past_comma.ensures
 
 pub returns-in-None-clause-steps : goal.returns-in-None-clause-steps
 returns-in-None-clause-steps c =
