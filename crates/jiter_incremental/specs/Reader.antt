@@ -87,6 +87,10 @@ pub record Steps (level : ℕ) (chunk : List ℕ) (i : Reader) (v : Tree) (j : R
       → HasTakenIn (ahead j chunk (i.at + n)) (document j (filled outer w)) (t ++ slice_range chunk i.at (i.at + n))
   pub moves : MovesBy level chunk i j n
 
+-- A value was put into the container at this level, and no token is unfinished.
+abbrev pub IsStored : ℕ → Reader → Type 0
+IsStored level r = (r.token ≡ token.Nothing) × (r.fault ≡ None) × (r.depth ≡ level)
+
 -- A value ended at e. The comma after it is taken too, up to n, if one is awaited and the chunk has it.
 abbrev pub TakesComma : List ℕ → ℕ → Reader → Reader → ℕ → Type 0
 TakesComma chunk e i j n =

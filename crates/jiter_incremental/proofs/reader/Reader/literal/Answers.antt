@@ -22,7 +22,7 @@ returns-in-Some-clause-steps c =
     let q = record (turned i (after_level level) i.depth key) { token = token_kind.Nothing } in
     let all = scalar-put level chunk i v c.requires.here c.requires.token c.requires.awaited c.requires.other key _ w e
     c.requires.low put (literal-scalar chunk i.at c.args.literal e c.requires.starts found.value found.within.0 found.within.1) in
-    with-comma level chunk i v q w e c.requires.here all refl c.requires.here.unset c.requires.here.here
+    with-comma level chunk i v q w e c.requires.here all (λ is. (refl, c.requires.here.unset, c.requires.here.here))
     c.put.new.self c.past_comma.new.self c.past_comma.result c.put.ensures.is c.past_comma.ensures
 
 pub returns-in-None-clause-steps : goal.returns-in-None-clause-steps

@@ -25,5 +25,5 @@ returns-in_ok-value-in-Some-clause-steps c =
     let put = whole-number level chunk i v c.requires.here c.requires.token c.requires.awaited c.requires.other c.requires.low
     c.requires.begins key _ _ w e c.in-Some.ensures c.in_ok-value-in-Some.ensures c.put.ensures.put in
     let q = record (turned i (after_level level) i.depth key) { token = token_kind.Nothing } in
-    with-comma level chunk i v q w e c.requires.here put refl c.requires.here.unset c.requires.here.here
+    with-comma level chunk i v q w e c.requires.here put (λ is. (refl, c.requires.here.unset, c.requires.here.here))
     c.put.new.self c.past_comma.new.self c.past_comma.result c.put.ensures.is c.past_comma.ensures

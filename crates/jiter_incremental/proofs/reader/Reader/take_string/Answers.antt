@@ -1,4 +1,5 @@
-use Rattle.jiter_incremental.proofs.Words.{subst, sym, ◌-◌, ◌≡◌, arith, Steps, refused, Reader, view}
+use Rattle.jiter_incremental.proofs.Words.{refl, subst, sym, ◌+◌, ◌-◌, ◌≡◌, arith, Steps, TakesComma, refused, Reader, view}
+use Rattle.jiter_incremental.proofs.Commas.{with-comma}
 use Rattle.jiter_incremental.proofs.StringSteps.{quote-here, quote-is, quote-steps, string-stays, taken-steps, wrong-before, wrong-steps}
 use Rattle.jiter_incremental.proofs.reader.Reader.take_string.Goals as goal
 
@@ -42,10 +43,19 @@ returns-in-Ok-Taken-clause-steps c =
 pub returns-in-Ok-Quote-clause-steps : goal.returns-in-Ok-Quote-clause-steps
 returns-in-Ok-Quote-clause-steps c =
     let r = c.requires in
-    let s = c.next.new.self in
+    let level = c.args.level in
+    let chunk = c.args.chunk.now in
+    let i = c.args.self.now in
+    let v = view c.args.slot.now in
+    let j = c.close_string.new.self in
+    let w = view c.close_string.new.slot in
     let g = rw c.in-Ok-Quote.field-0-is at c.in-Ok-Quote.ensures.goes in
-    quote-steps c.args.level c.args.chunk.now c.args.self.now (view c.args.slot.now) r.here r.token s g c.close_string.new.self (view c.close_string.new.slot) c.close_string.result
-    c.close_string.ensures.steps
+    let all = quote-steps level chunk i v r.here r.token c.next.new.self g j w 1 c.close_string.ensures.steps in
+    let one : 1 ≡ i.at + 1 - i.at = omega arith in
+    let place : j.at ≡ i.at = all.moves.still.2 in
+    let takes = subst (λ a. TakesComma chunk (a + 1) j c.past_comma.new.self c.past_comma.result) place c.past_comma.ensures in
+    with-comma level chunk i v j w (i.at + 1) r.here (subst (λ n. Steps level chunk i v j w n) one all)
+    c.close_string.ensures.put j c.past_comma.new.self c.past_comma.result refl takes
 
 pub returns-in-Ok-Wrong-clause-steps : goal.returns-in-Ok-Wrong-clause-steps
 returns-in-Ok-Wrong-clause-steps c =

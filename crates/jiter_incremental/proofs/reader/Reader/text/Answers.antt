@@ -33,8 +33,7 @@ returns-in-Some-clause-steps c =
     let all = buffer-steps level chunk i v q w (e - i.at) buffer
     (scalar-put level chunk i v c.requires.here c.requires.token c.requires.awaited c.requires.other key
     _ w e c.requires.low put (text-scalar chunk i.at (string_bytes c.in-Some.text) e within)) in
-    with-comma level chunk i v (record q { buffer = buffer }) w e c.requires.here all refl c.requires.here.unset
-    c.requires.here.here c.put.new.self c.past_comma.new.self c.past_comma.result c.put.ensures.is c.past_comma.ensures
+    with-comma level chunk i v (record q { buffer = buffer }) w e c.requires.here all (λ is. (refl, c.requires.here.unset, c.requires.here.here)) c.put.new.self c.past_comma.new.self c.past_comma.result c.put.ensures.is c.past_comma.ensures
 
 pub returns-in-None-clause-steps : goal.returns-in-None-clause-steps
 returns-in-None-clause-steps c =
