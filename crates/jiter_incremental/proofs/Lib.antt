@@ -3,7 +3,6 @@ pub mod Arms
 pub mod Arrivals
 pub mod Between
 pub mod Chunks
-pub mod Commas
 pub mod Documents
 pub mod Innermost
 pub mod Leading
@@ -14,6 +13,7 @@ pub mod Over
 pub mod Placing
 pub mod Pushing
 pub mod Received
+pub mod Separators
 pub mod Settling
 pub mod Showing
 pub mod Slots

@@ -9,8 +9,7 @@ use Rattle.jiter_incremental.proofs.Words.{text_of, Follows, HasTakenAll, HasTak
 use Rattle.jiter_incremental.proofs.Words.{Opened, any_bytes, HoldsScalar, between_tokens, in_key, in_scalar, noted_in}
 use Rattle.jiter_incremental.proofs.Words.{with_byte, name_tree, HasTakenTo, IsAt, IsHere, Steps, after_level, ahead}
 use Rattle.jiter_incremental.proofs.Words.{ahead_as, document, noted, refused, IsPut, OpenFrame, filled, IsClosedAs}
-use Rattle.jiter_incremental.proofs.Words.{Document, IsOfString, IsStored, IsTextAs, Reader, Token}
-use Rattle.jiter_incremental.specs.declared.reader.Awaits.TheVariants as awaits
+use Rattle.jiter_incremental.proofs.Words.{IsOfString, IsSettled, IsTextAs, Reader, Token}
 use Rattle.jiter_incremental.proofs.Documents.Strings.{wrong-refused, closed-refused, index-low, is-held, key-taken}
 use Rattle.jiter_incremental.proofs.Documents.Strings.{noted-held, noted-known, noted-text, taken-on, taken-same}
 use Rattle.jiter_incremental.proofs.Documents.Strings.{whole-text, with_string, wrong-low}
@@ -108,14 +107,14 @@ pub record IsPutSo (level : ℕ) (i : Reader) (v : Tree) (j : Reader) (w : Tree)
   pub key : i.token ≡ token.Key
       → (w ≡ v) × (text_view j.key ≡ text_of i.string.text.text) × (j ≡ after_key i j.key j.string)
 
-pub put-stored : (level : ℕ) (i : Reader) (v : Tree) (j : Reader) (w : Tree) → IsOfString i.token → i.fault ≡ None
-    → i.depth ≡ level → IsPutSo level i v j w → IsStored level j
-put-stored level i v j w (inl is) unset deep p =
+pub put-settled : (level : ℕ) (i : Reader) (v : Tree) (j : Reader) (w : Tree) → IsOfString i.token → i.fault ≡ None
+    → i.depth ≡ level → IsPutSo level i v j w → IsSettled level j
+put-settled level i v j w (inl is) unset deep p =
     let q = (p.text is).1 in
-    (ap (λ (r : Reader). r.token) q, ap (λ (r : Reader). r.fault) q ∙ unset, ap (λ (r : Reader). r.depth) q ∙ deep)
-put-stored level i v j w (inr is) unset deep p =
+    (ap (λ (r : Reader). r.fault) q ∙ unset, ap (λ (r : Reader). r.depth) q ∙ deep)
+put-settled level i v j w (inr is) unset deep p =
     let q = (p.key is).2 in
-    (ap (λ (r : Reader). r.token) q, ap (λ (r : Reader). r.fault) q ∙ unset, ap (λ (r : Reader). r.depth) q ∙ deep)
+    (ap (λ (r : Reader). r.fault) q ∙ unset, ap (λ (r : Reader). r.depth) q ∙ deep)
 
 -- Its text is known: it is put where a value is awaited,
 text-goes : (level : ℕ) (i : Reader) (v w : Tree) (k : CowStr Global) (s : PartialString) (n : Next) (t : List ℕ)
@@ -166,25 +165,9 @@ pub ahead-string : (k : Token) (r : Reader) (chunk : List ℕ) (i : ℕ) → r.t
 ahead-string k r chunk i is (inl e) = ap (λ x. ahead_as x r.awaits chunk i) (is ∙ e)
 ahead-string k r chunk i is (inr e) = ap (λ x. ahead_as x r.awaits chunk i) (is ∙ e)
 
--- No comma is awaited in a string.
-none-of : (k : Token) → IsOfString k → ¬ (k ≡ token.Nothing)
+pub none-of : (k : Token) → IsOfString k → ¬ (k ≡ token.Nothing)
 none-of k (inl is) none = absurd (let no : token.Nothing ≡ token.Text = sym none ∙ is in cc)
 none-of k (inr is) none = absurd (let no : token.Nothing ≡ token.Key = sym none ∙ is in cc)
-
-in-string : (d : Document) (t : List ℕ) (o : Opened) → IsOfString d.token → HoldsOpened d t o
-    → ¬ (d.value.awaits ≡ awaits.Comma)
-in-string d t (between_tokens s) k held comma = none-of d.token k held.0
-in-string d t (in_scalar fs b) k held comma =
-    absurd (let no : awaits.Value ≡ awaits.Comma = sym held.3.0 ∙ comma in cc)
-in-string d t (in_key fs ms b) k held comma =
-    absurd (let no : awaits.Colon ≡ awaits.Comma = sym held.4 ∙ comma in cc)
-
-pub string-awaits : (level : ℕ) (chunk : List ℕ) (i : Reader) (v : Tree) → IsHere level chunk i v → IsOfString i.token
-    → ¬ (i.awaits ≡ awaits.Comma)
-string-awaits level chunk i v h k comma =
-    let r = h.read in
-    let x = filled r.1 v in
-    in-string (document i x) r.0 r.3.read.opened k (r.3.read.held h.unset) comma
 
 -- What was taken of a string
 pub string-come : (chunk : List ℕ) (i : Reader) → IsOfString i.token → (t : List ℕ) (x : Tree)

@@ -1,18 +1,17 @@
 -- A string or a key of a chunk, in an open container whatever that is in: it is read whole, or begins there.
-use Rattle.jiter_incremental.proofs.Words.{◌≡◌, ℕ, ◌+◌, ◌-◌, ◌<◌, ◌≤◌, false, List, [], ◌∷◌, ◌++◌, length, get_or, refl}
-use Rattle.jiter_incremental.proofs.Words.{sym, subst, ap, ◌∙◌, arith, slice_index, slice_range, Vec, Global, CowStr}
+use Rattle.jiter_incremental.proofs.Words.{◌≡◌, ℕ, ◌+◌, ◌-◌, ◌≤◌, false, List, [], ◌∷◌, ◌++◌, length, refl}
+use Rattle.jiter_incremental.proofs.Words.{sym, subst, ap, arith, slice_index, slice_range, Vec, Global, CowStr}
 use Rattle.jiter_incremental.proofs.Words.{is_blank, members_frame, HasTaken, IsTextWithin, text_view, Tree}
-use Rattle.jiter_incremental.proofs.Words.{PartialString, Arrived, IsLeft, at_value, TakesByte, text_of, HasTakenIn}
+use Rattle.jiter_incremental.proofs.Words.{PartialString, IsLeft, at_value, text_of, HasTakenIn}
 use Rattle.jiter_incremental.proofs.Words.{any_bytes, in_key, with_byte, AwaitsKey, AwaitsValue, HasTakenTo, IsAt}
 use Rattle.jiter_incremental.proofs.Words.{IsHere, Steps, document, OpenFrame, filled, Reader}
 use Rattle.jiter_scan.specs.Ascii as ascii
 use Rattle.jiter_incremental.specs.declared.reader.Awaits.TheVariants as awaits
 use Rattle.jiter_incremental.specs.declared.reader.Token.TheVariants as token
-use Rattle.jiter_incremental.proofs.Between.{at-value, goes-colon, key-read}
+use Rattle.jiter_incremental.proofs.Between.{key-read}
 use Rattle.jiter_incremental.proofs.Documents.{follows-byte, known-in}
-use Rattle.jiter_incremental.proofs.Documents.Bytes.{takes-here}
 use Rattle.jiter_incremental.proofs.Documents.Strings.{key-taken}
-use Rattle.jiter_incremental.proofs.Documents.Tokens.{range-after, string-begins}
+use Rattle.jiter_incremental.proofs.Documents.Tokens.{string-begins}
 use Rattle.jiter_incremental.proofs.Documents.WholeTokens.{text-follows, text-key, text-some}
 use Rattle.jiter_incremental.proofs.Placing.{begins-there}
 use Rattle.jiter_incremental.proofs.Settling.{steps-here, steps-run}
@@ -97,7 +96,7 @@ module _ (level : ℕ) (chunk : List ℕ) (i : Reader) (v : Tree) (h : IsHere le
       module _ (text : List ℕ) (e : ℕ) (within : IsTextWithin chunk i.at text e) (k : CowStr Global) (s : Vec ℕ Global)
           (named : text_view k ≡ text_of text)
         where
-          -- One that lies whole in the chunk is read:
+          -- One that lies whole in the chunk is read.
           abbrev ended : Reader
           ended = record i { awaits = awaits.Colon; key = k; buffer = s }
 
@@ -125,29 +124,3 @@ module _ (level : ℕ) (chunk : List ℕ) (i : Reader) (v : Tree) (h : IsHere le
               (λ t outer at r.
               subst (λ m. HasTakenIn any_bytes (document ended (filled outer v)) (t ++ slice_range chunk i.at m)) (sym end)
               (key-there t outer at r))
-
-          -- also with its colon.
-          pub key-colon : e < length chunk → get_or chunk e 0 ≡ 58
-              → Steps level chunk i v (record ended { awaits = awaits.Value }) v (e + 1 - i.at)
-          key-colon more colon =
-              let j = record ended { awaits = awaits.Value } in
-              let end : i.at + (e + 1 - i.at) ≡ e + 1 = omega (arith, within.within.0) in
-              steps-run level chunk i v j v h (e + 1 - i.at) (omega (arith, within.within.0)) (omega (arith, end, more))
-              (refl, refl, refl, refl) refl
-              (λ t outer at r.
-              let x = filled outer v in
-              let d = document j x in
-              let was = document ended x in
-              let new = d.value in
-              let u = t ++ slice_range chunk i.at e in
-              let passes : (s : Arrived) → IsLeft was.value s → TakesByte new s 58 =
-              λ s left.
-              let a = at-value was.value awaits.Colon s refl tt left in
-              subst (λ y. TakesByte new y 58) (sym a.all)
-              (goes-colon new a.frames 58 refl refl a.left a.key refl) in
-              let one : HasTakenIn any_bytes d (u ++ 58 ∷ []) =
-              takes-here 58 was new u (key-there t outer at r) h.unset none passes in
-              let bytes : u ++ 58 ∷ [] ≡ t ++ slice_range chunk i.at (e + 1) =
-              ap (λ b. u ++ b ∷ []) (sym colon) ∙ range-after t chunk i.at e (omega (arith, within.within.0)) more in
-              subst (λ m. HasTakenIn any_bytes d (t ++ slice_range chunk i.at m)) (sym end)
-              (subst (HasTakenIn any_bytes d) bytes one))

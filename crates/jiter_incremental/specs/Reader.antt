@@ -87,16 +87,22 @@ pub record Steps (level : ℕ) (chunk : List ℕ) (i : Reader) (v : Tree) (j : R
       → HasTakenIn (ahead j chunk (i.at + n)) (document j (filled outer w)) (t ++ slice_range chunk i.at (i.at + n))
   pub moves : MovesBy level chunk i j n
 
--- A value was put into the container at this level, and no token is unfinished.
-abbrev pub IsStored : ℕ → Reader → Type 0
-IsStored level r = (r.token ≡ token.Nothing) × (r.fault ≡ None) × (r.depth ≡ level)
+-- No error is final, and the container at this level is the innermost.
+abbrev pub IsSettled : ℕ → Reader → Type 0
+IsSettled level r = (r.fault ≡ None) × (r.depth ≡ level)
 
--- A value ended at e. The comma after it is taken too, up to n, if one is awaited and the chunk has it.
-abbrev pub TakesComma : List ℕ → ℕ → Reader → Reader → ℕ → Type 0
-TakesComma chunk e i j n =
+-- The byte of the separator that is awaited (RFC 8259, 2), and what is awaited after it
+abbrev pub Separates : Awaits → ℕ → Awaits → Type 0
+Separates awaits.Comma c a = (c ≡ ascii.comma) × (a ≡ awaits.Next)
+Separates awaits.Colon c a = (c ≡ ascii.colon) × (a ≡ awaits.Value)
+Separates other c a = ⊥
+
+-- A value or a key ended at e. The separator after it is taken too, up to n, if the chunk has it.
+abbrev pub TakesSeparator : List ℕ → ℕ → Reader → Reader → ℕ → Type 0
+TakesSeparator chunk e i j n =
     ((n ≡ e) × (j ≡ i))
-    ⊎ ((i.awaits ≡ awaits.Comma) × (slice_get chunk e ≡ Some ascii.comma) × (n ≡ e + 1)
-    × (j ≡ record i { awaits = awaits.Next }))
+    ⊎ ((c : ℕ) × (a : Awaits) × Separates i.awaits c a × (i.token ≡ token.Nothing) × (slice_get chunk e ≡ Some c)
+    × (n ≡ e + 1) × (j ≡ record i { awaits = a }))
 
 -- An allocation failed: what was read is read as before, whatever comes.
 pub record ReadsAsBefore (level : ℕ) (chunk : List ℕ) (i : Reader) (v : Tree) (j : Reader) (w : Tree) : Type 0 where

@@ -3,13 +3,12 @@ ghost use Rattle.std.specs.Prelude.{◌≡◌, ◌⊎◌, ◌+◌, ◌^◌, ◌<
 ghost use Rattle.std.specs.Prelude.{slice_get, slice_index, Some, string_bytes, false, true, ℕ};
 ghost use Rattle.jiter_incremental.specs.Words.{text_of, Next, HasMoved, HasReadIn, bytes_in, is_shown};
 ghost use Rattle.jiter_incremental.specs.Words.{token_tree, name_word, AsRead, HasEnded, IsAt, IsComplete, IsPaused, IsScalar, KeepsRoom};
-ghost use Rattle.jiter_incremental.specs.Words.{IsHere, ReadsAsBefore, Steps, after_level, IsOfString, IsStored};
+ghost use Rattle.jiter_incremental.specs.Words.{IsHere, ReadsAsBefore, Steps, after_level, IsOfString, IsSettled};
 ghost use Rattle.jiter_incremental.specs.Words.{document, with_shown, HasRoomAt, IsPut};
 ghost use Rattle.jiter_incremental.specs.Words.{OpenFrame, filled, Number, allows_trailing_strings, Fits};
 ghost use Rattle.jiter_incremental.specs.Words.{IsBegun, is_whole, kept_bytes, own_view, number_tree};
 ghost use Rattle.jiter_incremental.specs.Words.{with_text, text_view, Tree, null, string, owned_text};
 ghost use Rattle.jiter_incremental.specs.Words.{tree_as, view};
-ghost use Rattle.jiter_incremental.specs.declared.reader.Awaits.TheVariants as awaited;
 ghost use Rattle.jiter_incremental.specs.declared.reader.Token.TheVariants as token_kind;
 ghost use Rattle.jiter_scan.specs.Ascii as ascii;
 ghost use Rattle.jiter_scan.specs.declared.number.partial_number.NumberStep.TheVariants as number_went;
@@ -321,7 +320,7 @@ impl Reader {
         requires whole { self.old.string.escape ≡ None }
         requires room { KeepsRoom level self.old slot.old }
         ensures steps { Steps level chunk.now self.old (view slot.old) self.new (view slot.new) 1 }
-        ensures put { self.new.awaits ≡ awaited.Comma → IsStored level self.new }
+        ensures closed { self.new.token ≡ token_kind.Nothing → IsSettled level self.new }
         ensures room { KeepsRoom level self.new slot.new }
     {
         let index = self.begin + 1 + self.string.text().len();
@@ -356,7 +355,7 @@ impl Reader {
             Ok(StringStep::Taken(count)) => Ok(count),
             Ok(StringStep::Quote) => {
                 self.close_string(slot, level, chunk);
-                Ok(self.past_comma(chunk, self.at + 1) - self.at)
+                Ok(self.past_separator(chunk, self.at + 1) - self.at)
             }
             Ok(StringStep::Wrong(kind, back)) => {
                 self.refuse(kind, self.position() - back);

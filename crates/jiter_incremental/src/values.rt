@@ -2,7 +2,7 @@
 ghost use Rattle.std.specs.Prelude.{◌≡◌, ◌+◌, ◌-◌, ◌^◌, ◌<◌, ◌≤◌, ◌++◌, [], IfOk, OnErr, OnOk, length};
 ghost use Rattle.std.specs.Prelude.{slice_index, true, false, string_bytes};
 ghost use Rattle.jiter_incremental.specs.Words.{text_of, name_word, AwaitsKey, AwaitsValue, IsHere, IsScalar, KeepsRoom, ReadsAsBefore};
-ghost use Rattle.jiter_incremental.specs.Words.{Steps, TakesComma, HasRoomAt, quote, number_view, begins_decimal};
+ghost use Rattle.jiter_incremental.specs.Words.{Steps, TakesSeparator, HasRoomAt, quote, number_view, begins_decimal};
 ghost use Rattle.jiter_incremental.specs.Words.{is_blank, start_of, nesting_limit, number_tree, HasTaken};
 ghost use Rattle.jiter_incremental.specs.Words.{opening, string, owned_text, tree_as, view};
 ghost use Rattle.jiter_incremental.specs.declared.reader.Awaits.TheVariants as awaited;
@@ -64,16 +64,20 @@ impl Reader {
         self.token = token;
     }
 
-    // Takes the comma after a value too, which ended at `end`, if the chunk has it.
+    // Takes the separator too that is awaited where a value or a key ended, if the chunk has it at `end` (RFC 8259, 2).
     #[inline(always)]
-    pub(crate) fn past_comma(&mut self, chunk: &[u8], end: usize) -> usize
-        ensures { TakesComma chunk.now end self.old self.new result }
+    pub(crate) fn past_separator(&mut self, chunk: &[u8], end: usize) -> usize
+        ensures { TakesSeparator chunk.now end self.old self.new result }
     {
-        if matches!(self.awaits, Awaits::Comma) && end < chunk.len() && chunk[end] == b',' {
-            self.awaits = Awaits::Next;
-            return end + 1;
+        if end >= chunk.len() || !matches!(self.token, Token::Nothing) {
+            return end;
         }
-        end
+        match self.awaits {
+            Awaits::Comma if chunk[end] == b',' => self.awaits = Awaits::Next,
+            Awaits::Colon if chunk[end] == b':' => self.awaits = Awaits::Value,
+            _ => return end,
+        }
+        end + 1
     }
 
     #[inline(always)]
@@ -188,7 +192,7 @@ impl Reader {
             Some((number, end)) => {
                 let value = number_value(self.alloc, number)?;
                 self.put(slot, level, value);
-                Ok(self.past_comma(chunk, end) - self.at)
+                Ok(self.past_separator(chunk, end) - self.at)
             }
             None => self.begin_number(slot, level, chunk),
         }
@@ -228,7 +232,7 @@ impl Reader {
         match text_within(self.alloc, &mut self.buffer, chunk, self.at)? {
             Some((text, end)) => {
                 self.put(slot, level, text_value(text));
-                Ok(self.past_comma(chunk, end) - self.at)
+                Ok(self.past_separator(chunk, end) - self.at)
             }
             None => {
                 self.begin_string(Token::Text);
@@ -259,7 +263,7 @@ impl Reader {
         match fast_literal_end(chunk, self.at, literal) {
             Some(end) => {
                 self.put(slot, level, literal_value(literal));
-                self.past_comma(chunk, end) - self.at
+                self.past_separator(chunk, end) - self.at
             }
             None => {
                 self.begin_word(WordValue::Literal(literal));
@@ -325,12 +329,8 @@ impl Reader {
         match text_within(self.alloc, &mut self.buffer, chunk, self.at)? {
             Some((text, end)) => {
                 self.key = CowStr::Owned(text);
-                if end < chunk.len() && chunk[end] == b':' {
-                    self.awaits = Awaits::Value;
-                    return Ok(end + 1 - self.at);
-                }
                 self.awaits = Awaits::Colon;
-                Ok(end - self.at)
+                Ok(self.past_separator(chunk, end) - self.at)
             }
             None => {
                 self.begin_string(Token::Key);

@@ -1,6 +1,5 @@
-use Rattle.jiter_incremental.proofs.Words.{◌-◌, ◌<◌, ◌≡◌, ◌∙◌, ap, arith, refl, sym, vec_len, with_item, view, around, Array, Object}
+use Rattle.jiter_incremental.proofs.Words.{◌-◌, ◌<◌, ◌∙◌, ap, arith, refl, sym, vec_len, with_item, view, Array, Object}
 use Rattle.std.proofs.lemmas.Result.{on_err_weaker}
-use Rattle.jiter_incremental.proofs.Words.{OpenFrame, Tree}
 use Rattle.jiter_incremental.proofs.Innermost.{none-other}
 use Rattle.jiter_incremental.proofs.Leading.{above, below, last-part, refuses-above}
 use Rattle.jiter_incremental.proofs.Slots.{array-place, array-swaps, object-place, object-swaps, out-array, out-object}

@@ -1,5 +1,5 @@
 use Rattle.jiter_incremental.proofs.Words.{List, arith, length, ℕ, ◌+◌, ◌∙◌, ap, sym, subst, IsOfString, Steps, Reader, view}
-use Rattle.jiter_incremental.proofs.StringSteps.{IsPutSo, put-stored, quote-kept-put, quote-low, quote-refused, quote-whole-put, string-awaits}
+use Rattle.jiter_incremental.proofs.StringSteps.{IsPutSo, none-of, put-settled, quote-kept-put, quote-low, quote-refused, quote-whole-put}
 use Rattle.jiter_incremental.proofs.reader.Reader.close_string.Goals as goal
 
 pub overflow_add-index-2 : goal.overflow_add-index-2
@@ -41,24 +41,23 @@ returns-else-is_text-2-clause-steps c =
     c.requires.quote c.requires.whole c.keeps-kept.result c.keeps-kept.ensures.text c.keeps-kept.ensures.key
     c.if-is_text.ensures.closed _ place c.if-is_text-2.ensures.closed)
 
-pub returns-then-is_text-clause-put : goal.returns-then-is_text-clause-put
-returns-then-is_text-clause-put c = λ _.
-    put-stored c.args.level c.args.self.now (view c.args.slot.now) c.put_text.new.self (view c.put_text.new.slot)
+pub returns-then-is_text-clause-closed : goal.returns-then-is_text-clause-closed
+returns-then-is_text-clause-closed c = λ _.
+    put-settled c.args.level c.args.self.now (view c.args.slot.now) c.put_text.new.self (view c.put_text.new.slot)
     c.requires.token c.requires.here.unset c.requires.here.here
     record { text = c.put_text.ensures.text; key = c.put_text.ensures.key }
 
-pub returns-then-is_text-2-clause-put : goal.returns-then-is_text-2-clause-put
-returns-then-is_text-2-clause-put c = λ _.
+pub returns-then-is_text-2-clause-closed : goal.returns-then-is_text-2-clause-closed
+returns-then-is_text-2-clause-closed c = λ _.
     let put : IsPutSo c.args.level c.note.new.self (view c.args.slot.now) c.put_text-then-is_text-2.new.self
     (view c.put_text-then-is_text-2.new.slot) =
     record { text = c.put_text-then-is_text-2.ensures.text; key = c.put_text-then-is_text-2.ensures.key } in
     let same = c.note.ensures in
-    put-stored c.args.level c.note.new.self (view c.args.slot.now) c.put_text-then-is_text-2.new.self
+    put-settled c.args.level c.note.new.self (view c.args.slot.now) c.put_text-then-is_text-2.new.self
     (view c.put_text-then-is_text-2.new.slot)
     (subst IsOfString (sym (ap (λ (r : Reader). r.token) same)) c.requires.token)
     (ap (λ (r : Reader). r.fault) same ∙ c.requires.here.unset) (ap (λ (r : Reader). r.depth) same ∙ c.requires.here.here) put
 
-pub returns-else-is_text-2-clause-put : goal.returns-else-is_text-2-clause-put
-returns-else-is_text-2-clause-put c = λ comma.
-    absurd (string-awaits c.args.level c.args.chunk.now c.args.self.now (view c.args.slot.now) c.requires.here
-    c.requires.token (sym (ap (λ (r : Reader). r.awaits) c.refuse.ensures) ∙ comma))
+pub returns-else-is_text-2-clause-closed : goal.returns-else-is_text-2-clause-closed
+returns-else-is_text-2-clause-closed c = λ none.
+    absurd (none-of c.args.self.now.token c.requires.token (sym (ap (λ (r : Reader). r.token) c.refuse.ensures) ∙ none))

@@ -2,8 +2,9 @@ use Rattle.jiter_incremental.proofs.Words.{refl, subst, sym, string_bytes, view,
 use Rattle.std.specs.declared.borrow.CowStr.TheVariants.{Owned}
 use Rattle.jiter_incremental.specs.declared.reader.Awaits.TheVariants as awaits
 use Rattle.jiter_incremental.proofs.Documents.Blanks.{if-refused}
+use Rattle.jiter_incremental.proofs.Separators.{with-separator}
 use Rattle.jiter_incremental.proofs.NumberBegins.{stays-so}
-use Rattle.jiter_incremental.proofs.TextBegins.{key-colon, key-kept, key-whole}
+use Rattle.jiter_incremental.proofs.TextBegins.{key-kept, key-whole}
 use Rattle.jiter_incremental.proofs.reader.Reader.key.Goals as goal
 
 pub returns-in_err-text-clause-stays : goal.returns-in_err-text-clause-stays
@@ -13,17 +14,20 @@ returns-in_err-text-clause-stays c =
     (stays-so c.args.level c.args.chunk.now i (view c.args.slot.now) c.requires.here c.requires.token
     c.requires.awaited.free i.number c.text_within.new.buffer)
 
-pub returns-then-chunk-end-eq58-clause-steps : goal.returns-then-chunk-end-eq58-clause-steps
-returns-then-chunk-end-eq58-clause-steps c =
-    key-colon c.args.level c.args.chunk.now c.args.self.now (view c.args.slot.now) c.requires.here c.requires.token
-    c.requires.awaited (string_bytes c.in-Some.text) c.in-Some.end (rw c.in-Some.is at c.in_ok-text.ensures)
-    (Owned c.in-Some.text) c.text_within.new.buffer refl c.if-end-chunk.true c.if-chunk-end-eq58.true
-
-pub returns-else-end-chunk-clause-steps : goal.returns-else-end-chunk-clause-steps
-returns-else-end-chunk-clause-steps c =
-    key-whole c.args.level c.args.chunk.now c.args.self.now (view c.args.slot.now) c.requires.here c.requires.token
-    c.requires.awaited (string_bytes c.in-Some.text) c.in-Some.end (rw c.in-Some.is at c.in_ok-text.ensures)
-    (Owned c.in-Some.text) c.text_within.new.buffer refl
+pub returns-in-Some-clause-steps : goal.returns-in-Some-clause-steps
+returns-in-Some-clause-steps c =
+    let i = c.args.self.now in
+    let level = c.args.level in
+    let chunk = c.args.chunk.now in
+    let v = view c.args.slot.now in
+    let e = c.in-Some.end in
+    let buffer = c.text_within.new.buffer in
+    let key = Owned c.in-Some.text in
+    let whole = key-whole level chunk i v c.requires.here c.requires.token c.requires.awaited (string_bytes c.in-Some.text) e
+    (rw c.in-Some.is at c.in_ok-text.ensures) key buffer refl in
+    let q = record i { awaits = awaits.Colon; key = key; buffer = buffer } in
+    with-separator level chunk i v q v e c.requires.here whole (λ _. (c.requires.here.unset, c.requires.here.here))
+    q c.past_separator.new.self c.past_separator.result refl c.past_separator.ensures
 
 pub returns-in-None-clause-steps : goal.returns-in-None-clause-steps
 returns-in-None-clause-steps c =

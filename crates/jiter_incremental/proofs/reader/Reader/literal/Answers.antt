@@ -1,7 +1,7 @@
-use Rattle.jiter_incremental.proofs.Words.{refl, subst, sym, text_view, Tree, view, Steps, IsPut, slice_index, after_level}
+use Rattle.jiter_incremental.proofs.Words.{subst, sym, text_view, Tree, view, Steps, IsPut, slice_index, after_level}
 use Rattle.jiter_incremental.specs.declared.reader.Token.TheVariants as token_kind
 use Rattle.jiter_incremental.proofs.Arms.{turned}
-use Rattle.jiter_incremental.proofs.Commas.{with-comma}
+use Rattle.jiter_incremental.proofs.Separators.{with-separator}
 use Rattle.jiter_incremental.proofs.Placing.{scalar-put, word-step}
 use Rattle.jiter_incremental.proofs.Documents.Tokens.{literal-begins}
 use Rattle.jiter_incremental.specs.declared.names.WordValue.TheVariants as name
@@ -22,8 +22,8 @@ returns-in-Some-clause-steps c =
     let q = record (turned i (after_level level) i.depth key) { token = token_kind.Nothing } in
     let all = scalar-put level chunk i v c.requires.here c.requires.token c.requires.awaited c.requires.other key _ w e
     c.requires.low put (literal-scalar chunk i.at c.args.literal e c.requires.starts found.value found.within.0 found.within.1) in
-    with-comma level chunk i v q w e c.requires.here all (λ is. (refl, c.requires.here.unset, c.requires.here.here))
-    c.put.new.self c.past_comma.new.self c.past_comma.result c.put.ensures.is c.past_comma.ensures
+    with-separator level chunk i v q w e c.requires.here all (λ _. (c.requires.here.unset, c.requires.here.here))
+    c.put.new.self c.past_separator.new.self c.past_separator.result c.put.ensures.is c.past_separator.ensures
 
 pub returns-in-None-clause-steps : goal.returns-in-None-clause-steps
 returns-in-None-clause-steps c =

@@ -1,7 +1,7 @@
-use Rattle.jiter_incremental.proofs.Words.{refl, view, after_level}
+use Rattle.jiter_incremental.proofs.Words.{view, after_level}
 use Rattle.jiter_incremental.specs.declared.reader.Token.TheVariants as token_kind
 use Rattle.jiter_incremental.proofs.Arms.{turned}
-use Rattle.jiter_incremental.proofs.Commas.{with-comma}
+use Rattle.jiter_incremental.proofs.Separators.{with-separator}
 use Rattle.jiter_incremental.proofs.Documents.Blanks.{if-refused}
 use Rattle.jiter_incremental.proofs.NumberBegins.{stays-so, whole-number}
 use Rattle.jiter_incremental.proofs.reader.Reader.number.Goals as goal
@@ -25,5 +25,5 @@ returns-in_ok-value-in-Some-clause-steps c =
     let put = whole-number level chunk i v c.requires.here c.requires.token c.requires.awaited c.requires.other c.requires.low
     c.requires.begins key _ _ w e c.in-Some.ensures c.in_ok-value-in-Some.ensures c.put.ensures.put in
     let q = record (turned i (after_level level) i.depth key) { token = token_kind.Nothing } in
-    with-comma level chunk i v q w e c.requires.here put (λ is. (refl, c.requires.here.unset, c.requires.here.here))
-    c.put.new.self c.past_comma.new.self c.past_comma.result c.put.ensures.is c.past_comma.ensures
+    with-separator level chunk i v q w e c.requires.here put (λ _. (c.requires.here.unset, c.requires.here.here))
+    c.put.new.self c.past_separator.new.self c.past_separator.result c.put.ensures.is c.past_separator.ensures

@@ -1,5 +1,5 @@
-use Rattle.jiter_incremental.proofs.Words.{refl, subst, sym, ◌+◌, ◌-◌, ◌≡◌, arith, Steps, TakesComma, refused, Reader, view}
-use Rattle.jiter_incremental.proofs.Commas.{with-comma}
+use Rattle.jiter_incremental.proofs.Words.{refl, subst, sym, ◌+◌, ◌-◌, ◌≡◌, arith, Steps, TakesSeparator, refused, Reader, view}
+use Rattle.jiter_incremental.proofs.Separators.{with-separator}
 use Rattle.jiter_incremental.proofs.StringSteps.{quote-here, quote-is, quote-steps, string-stays, taken-steps, wrong-before, wrong-steps}
 use Rattle.jiter_incremental.proofs.reader.Reader.take_string.Goals as goal
 
@@ -53,9 +53,9 @@ returns-in-Ok-Quote-clause-steps c =
     let all = quote-steps level chunk i v r.here r.token c.next.new.self g j w 1 c.close_string.ensures.steps in
     let one : 1 ≡ i.at + 1 - i.at = omega arith in
     let place : j.at ≡ i.at = all.moves.still.2 in
-    let takes = subst (λ a. TakesComma chunk (a + 1) j c.past_comma.new.self c.past_comma.result) place c.past_comma.ensures in
-    with-comma level chunk i v j w (i.at + 1) r.here (subst (λ n. Steps level chunk i v j w n) one all)
-    c.close_string.ensures.put j c.past_comma.new.self c.past_comma.result refl takes
+    let takes = subst (λ a. TakesSeparator chunk (a + 1) j c.past_separator.new.self c.past_separator.result) place c.past_separator.ensures in
+    with-separator level chunk i v j w (i.at + 1) r.here (subst (λ n. Steps level chunk i v j w n) one all)
+    c.close_string.ensures.closed j c.past_separator.new.self c.past_separator.result refl takes
 
 pub returns-in-Ok-Wrong-clause-steps : goal.returns-in-Ok-Wrong-clause-steps
 returns-in-Ok-Wrong-clause-steps c =

@@ -1,8 +1,8 @@
-use Rattle.jiter_incremental.proofs.Words.{◌-◌, refl, subst, sym, string_bytes, text_view, Tree, view, Steps, IsPut, Reader, after_level}
+use Rattle.jiter_incremental.proofs.Words.{◌-◌, subst, sym, string_bytes, text_view, Tree, view, Steps, IsPut, Reader, after_level}
 use Rattle.jiter_incremental.specs.declared.reader.Awaits.TheVariants as awaits
 use Rattle.jiter_incremental.specs.declared.reader.Token.TheVariants as token_kind
 use Rattle.jiter_incremental.proofs.Arms.{turned}
-use Rattle.jiter_incremental.proofs.Commas.{with-comma}
+use Rattle.jiter_incremental.proofs.Separators.{with-separator}
 use Rattle.jiter_incremental.proofs.Documents.Blanks.{if-refused}
 use Rattle.jiter_incremental.proofs.Documents.WholeTokens.{text-scalar}
 use Rattle.jiter_incremental.proofs.NumberBegins.{stays-so}
@@ -33,7 +33,7 @@ returns-in-Some-clause-steps c =
     let all = buffer-steps level chunk i v q w (e - i.at) buffer
     (scalar-put level chunk i v c.requires.here c.requires.token c.requires.awaited c.requires.other key
     _ w e c.requires.low put (text-scalar chunk i.at (string_bytes c.in-Some.text) e within)) in
-    with-comma level chunk i v (record q { buffer = buffer }) w e c.requires.here all (λ is. (refl, c.requires.here.unset, c.requires.here.here)) c.put.new.self c.past_comma.new.self c.past_comma.result c.put.ensures.is c.past_comma.ensures
+    with-separator level chunk i v (record q { buffer = buffer }) w e c.requires.here all (λ _. (c.requires.here.unset, c.requires.here.here)) c.put.new.self c.past_separator.new.self c.past_separator.result c.put.ensures.is c.past_separator.ensures
 
 pub returns-in-None-clause-steps : goal.returns-in-None-clause-steps
 returns-in-None-clause-steps c =
