@@ -3,7 +3,7 @@
 ghost use Rattle.std.specs.Prelude.{◌≡◌, ◌+◌, ◌<◌, ◌≤◌, [], IfOk, IfSome, List, None, OnErr, OnOk, Some};
 ghost use Rattle.std.specs.Prelude.{length, ◌++◌, ◌||◌, is_some, false, not, slice_get, slice_index};
 ghost use Rattle.std.specs.Prelude.{slice_range, string_bytes, take, true, ℕ};
-ghost use Rattle.jiter_steps.specs.Words.{eof_string, IsLook, Pass, is_plain, is_plain_ascii, scan_stop};
+ghost use Rattle.jiter_steps.specs.Words.{eof_string, IsLook, Pass, is_plain, is_stop, is_plain_ascii, scan_stop};
 ghost use Rattle.jiter_steps.specs.Words.{failed, GoesOnWith, HasTaken, HasTakenFrom, IsCountAt, IsEven, IsPart};
 ghost use Rattle.jiter_steps.specs.Words.{IsTextWithin, Wherever, grown, text_or, IsWhole, with_text};
 ghost use Rattle.jiter_steps.specs.Words.{content_at, kept, text_form, whole};
@@ -256,6 +256,42 @@ impl PartialString {
         self.text.add(plain_run(chunk, at, most))
     }
 
+    // Takes a run of plain bytes, or an escape.
+    #[inline(always)]
+    fn turn(&mut self, chunk: &[u8], at: usize) -> Result<usize, AllocFailed>
+        requires within { at < length chunk.now }
+        requires none { self.old.escape ≡ None }
+        requires goes_on { is_stop (slice_index chunk.now at) ≡ true → slice_index chunk.now at ≡ ascii.backslash }
+        ensures taken { (w : List ℕ) → HasTaken self.old w → IfOk result (HasTakenFrom self.new w chunk.now at) }
+        ensures part { IfOk result (IsCountAt chunk.now at) }
+        ensures refused { OnErr result (self.new ≡ self.old) }
+    {
+        if chunk[at] == b'\\' {
+            return self.take_escape(chunk, at);
+        }
+        self.plain(chunk, at)
+    }
+
+    // Takes bytes up to the closing quote, a control byte or an incomplete escape. If an allocation fails after some
+    // bytes, they are taken, and the next call tries again.
+    fn turns(&mut self, chunk: &[u8], at: usize) -> Result<usize, AllocFailed>
+        requires within { at < length chunk.now }
+        requires none { self.old.escape ≡ None }
+        requires goes_on { is_stop (slice_index chunk.now at) ≡ true → slice_index chunk.now at ≡ ascii.backslash }
+        ensures taken { (w : List ℕ) → HasTaken self.old w → IfOk result (HasTakenFrom self.new w chunk.now at) }
+        ensures part { IfOk result (IsCountAt chunk.now at) }
+        ensures refused { OnErr result (self.new ≡ self.old) }
+    {
+        let mut end = at + self.turn(chunk, at)?;
+        while end < chunk.len() && self.escape.is_none() && !matches!(chunk[end], b'"' | 0..=31) {
+            match self.turn(chunk, end) {
+                Ok(count) => end += count,
+                Err(_) => break,
+            }
+        }
+        Ok(end - at)
+    }
+
     /// Takes bytes of the chunk from `at` on, and returns how many or what ends the string. `Err` changes nothing.
     pub fn next(&mut self, chunk: &[u8], at: usize) -> Result<StringStep, AllocFailed>
         requires { at < length chunk.now }
@@ -268,9 +304,8 @@ impl PartialString {
         }
         match chunk[at] {
             b'"' => Ok(StringStep::Quote),
-            b'\\' => Ok(StringStep::Taken(self.take_escape(chunk, at)?)),
             0..=31 => Ok(StringStep::Wrong(FaultKind::ControlCharacterWhileParsingString, 0)),
-            _ => Ok(StringStep::Taken(self.plain(chunk, at)?)),
+            _ => Ok(StringStep::Taken(self.turns(chunk, at)?)),
         }
     }
 
