@@ -23,7 +23,7 @@ pub use Rattle.jiter_scan.specs.declared.errors.Fault.{Fault}
 pub use Rattle.jiter_scan.specs.declared.errors.JsonError.{JsonError}
 pub use Rattle.jiter_scan.specs.declared.number.partial_number.PartialNumber.{PartialNumber}
 pub use Rattle.jiter_scan.specs.declared.number.partial_number.Stage.{Stage}
-pub use Rattle.std.proofs.Common.{Bool, Decides, IfSome, IsAscii, IsTrue, List, None, Option, Some, [], add-one, add-zero, ap, append-nil, append_assoc, ap₂, arith, codes, cond, drop, drop-cons, drop-drop, eq-eqb, eqb, eqb-true, false, get_or, get_or-drop, if◌then◌else◌, inl, inr, le-leb, leb, leb-true, length, length-append, length-drop, length-take, length-take-le, lit<, lt-ltb, ltb, map, map-id, min, mod-lt, nat_le, nat_lt, ne_eqb, not, of_z, pos, pow-suc, refl, replicate, rules, slice_get, slice_range, string_bytes, subst, suc, sym, take, take-add, take-take, take_all, to_z, true, vec_len, w64, w8, zero, zero-lt-suc, ℕ, ◌%◌, ◌&&◌, ◌*◌, ◌++◌, ◌+◌, ◌-ℤ◌, ◌-◌, ◌/◌, ◌<◌, ◌==◌, ◌^◌, ◌||◌, ◌∙◌, ◌∷◌, ◌≡◌, ◌≢◌, ◌≤◌, ◌⊎◌}
+pub use Rattle.std.proofs.Common.{Bool, Decides, IfSome, IsAscii, IsTrue, List, None, Option, Some, [], add-one, add-zero, ap, append-nil, append_assoc, ap₂, arith, codes, cond, drop, drop-cons, drop-drop, eq-eqb, eqb, eqb-true, false, get_or, get_or-drop, if◌then◌else◌, inl, inr, le-leb, leb, leb-true, length, length-append, length-drop, length-take, length-take-le, lit<, lt-ltb, ltb, map, map-id, min, mod-lt, nat_le, nat_lt, ne_eqb, not, of_z, pos, pow-suc, refl, replicate, rules, slice_get, slice_range, string_bytes, subst, suc, sym, take, take-add, take-take, take_all, to_z, to_z-of_z, true, vec_len, w64, w8, zero, zero-lt-suc, ℕ, ◌%◌, ◌&&◌, ◌*◌, ◌++◌, ◌+◌, ◌-ℤ◌, ◌-◌, ◌/◌, ◌<◌, ◌==◌, ◌^◌, ◌||◌, ◌∙◌, ◌∷◌, ◌≡◌, ◌≢◌, ◌≤◌, ◌⊎◌}
 pub use Rattle.std.proofs.Math.Bool.{and-false, and-true, and_assoc}
 pub use Rattle.std.proofs.Math.Nat.{add-mul, mul-le-mul_right, mul_assoc, one-le-pow, pow-le-pow_right}
 pub use Rattle.std.proofs.Math.Seq.{take-append-add}

@@ -173,6 +173,7 @@ pub fn push_ascii(text: &mut String, bytes: &[u8]) -> Result<(), AllocFailed>
     ensures ok { OnOk result (string_bytes text.new ≡ string_bytes text.old ++ bytes.now) }
     ensures err { OnErr result (string_bytes text.new ≡ string_bytes text.old) }
     ensures some { OnErr result (0 < length bytes.now) }
+    ensures full { OnErr result (string_capacity text.old < string_len text.old + length bytes.now) }
 {
     if let [byte] = bytes {
         return push_char(text, *byte as char);

@@ -11,7 +11,7 @@ ghost use Rattle.jiter_scan.specs.Ascii as ascii;
 
 use crate::escape::{StringEnd, StringEvent, next_event, simple_escape_at};
 use crate::partial_escape::{EscapeStep, PartialEscape};
-use crate::partial_text::{PartialText, SHORT_READ};
+use crate::partial_text::{MOST_MISSING, PartialText};
 use crate::read_error::ReadError;
 use crate::string_decoder::{checked_text, decode};
 use jiter_scan::bytes::short_scan::{Look, look_at};
@@ -236,7 +236,7 @@ impl PartialString {
         self.text.add(run)
     }
 
-    // Next to an incomplete character, only a few bytes are read. After a wrong one, nothing is tested.
+    // Next to an incomplete character, only the bytes that it lacks are read. After a wrong one, nothing is tested.
     fn plain(&mut self, chunk: &[u8], at: usize) -> Result<usize, AllocFailed>
         requires within { at < length chunk.now }
         requires none { self.old.escape ≡ None }
@@ -249,7 +249,7 @@ impl PartialString {
             return self.plain_whole(chunk, at);
         }
         let most = if self.text.is_text(true) {
-            SHORT_READ
+            MOST_MISSING
         } else {
             chunk.len()
         };

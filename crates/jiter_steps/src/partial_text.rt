@@ -13,9 +13,8 @@ use std::alloc::Global;
 use std::marker::Model;
 use std::mem;
 
-// At most this many bytes are read with an incomplete character, until a read ends with a complete one. If all
-// characters have the same length, that is so after three reads.
-pub(crate) const SHORT_READ: usize = 7;
+// An incomplete character lacks at most this many bytes.
+pub(crate) const MOST_MISSING: usize = 3;
 
 /// The characters so far, and the bytes of an incomplete one; or the characters before the first wrong byte.
 #[derive(Drop)]
@@ -65,6 +64,21 @@ impl PartialText {
         Ok(())
     }
 
+    // Returns how many bytes the incomplete character lacks, by its first one. Once it has them, the next read begins with
+    // a complete character.
+    fn missing(&self) -> usize
+        requires { 0 < length self.now.rest }
+        ensures { (0 < result) × (result ≤ 3) }
+    {
+        let held = self.rest.as_slice();
+        let width = match held[0] {
+            0xF0..=0xFF => 4usize,
+            0xE0..=0xEF => 3,
+            _ => 2,
+        };
+        width.saturating_sub(held.len()).max(1)
+    }
+
     /// Takes the first bytes of `run` and returns how many, at least one if there is one. An error changes nothing.
     pub fn add(&mut self, run: &[u8]) -> Result<usize, AllocFailed>
         ensures taken { (d : List ℕ) → HoldsText (self.old) d
@@ -80,7 +94,7 @@ impl PartialText {
             self.absorb(run)?;
             run.len()
         } else {
-            let few = run.len().min(SHORT_READ);
+            let few = run.len().min(self.missing());
             let held = self.rest.with(&run[..few]);
             self.absorb(held.as_slice())?;
             few

@@ -3,7 +3,7 @@ ghost use Rattle.std.specs.Prelude.{◌≡◌, ◌+◌, ◌≤◌, ◌++◌, [],
 
 use std::marker::Model;
 
-// The escapes of a surrogate pair have twelve bytes. An incomplete character has three at most; seven are read with it.
+// The escapes of a surrogate pair have twelve bytes. An incomplete character has three at most; four are added at most.
 const LIMIT: usize = 20;
 
 #[derive(Drop)]

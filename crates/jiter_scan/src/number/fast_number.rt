@@ -10,7 +10,7 @@ use crate::bytes::decimal::{digit_count, digit_word, full_block_at, is_digit};
 use crate::number::number_decoder::{digits_magnitude, is_float_sign};
 
 // How many bytes, from a number's first digit on, the fast path reads first.
-const BLOCK_SIZE: usize = 16;
+pub(crate) const BLOCK_SIZE: usize = 16;
 
 /// What the fast path finds at a number's first digit.
 #[derive(Debug, Clone, Copy, PartialEq, Eq)]
@@ -199,7 +199,7 @@ pub(crate) fn padded_number_at(bytes: &[u8], at: usize) -> FastNumber
 // the slow path must read the number. Two numbers are returned in registers, but not an `Option` of two.
 #[cold]
 #[inline(never)]
-fn last_integer_at(bytes: &[u8], at: usize) -> (u64, usize)
+pub(crate) fn last_integer_at(bytes: &[u8], at: usize) -> (u64, usize)
     requires within { at ≤ length bytes.now }
     requires last { length bytes.now < at + 16 }
     ensures { 0 < result.1 → IsPlainInteger bytes.now at result.0 result.1 }

@@ -10,10 +10,9 @@ ghost use Rattle.jiter_scan.specs.Words.{number_by, number_from, own_view, tail_
 
 use crate::bytes::decimal::{digit_run_end, is_digit};
 use crate::errors::{Fault, FaultKind, fault_at};
-use crate::memory::{AllocFailed, push_text};
+use crate::memory::{AllocFailed, push_ascii};
 use crate::number::number_decoder::{NumberInt, long_integer};
 use crate::number::number_span::skip_minus;
-use crate::text::ascii_text;
 use std::alloc::Global;
 use std::{cmp, mem};
 
@@ -237,7 +236,7 @@ impl PartialNumber {
             ((string_bytes self.new.text ≡ string_bytes self.old.text) × (self.new.stage ≡ self.old.stage)) }
         ensures full { OnErr result (string_capacity self.old.text < string_len self.old.text + (end - at)) }
     {
-        push_text(&mut self.text, ascii_text(&chunk[at..end]))?;
+        push_ascii(&mut self.text, &chunk[at..end])?;
         self.stage = stage;
         Ok(())
     }
