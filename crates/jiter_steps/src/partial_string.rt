@@ -274,6 +274,7 @@ impl PartialString {
 
     // Takes bytes up to the closing quote, a control byte or an incomplete escape. If an allocation fails after some
     // bytes, they are taken, and the next call tries again.
+    #[inline(always)]
     fn turns(&mut self, chunk: &[u8], at: usize) -> Result<usize, AllocFailed>
         requires within { at < length chunk.now }
         requires none { self.old.escape ≡ None }
@@ -282,11 +283,15 @@ impl PartialString {
         ensures part { IfOk result (IsCountAt chunk.now at) }
         ensures refused { OnErr result (self.new ≡ self.old) }
     {
-        let mut end = at + self.turn(chunk, at)?;
-        while end < chunk.len() && self.escape.is_none() && !matches!(chunk[end], b'"' | 0..=31) {
+        let mut end = at;
+        'turning: loop {
             match self.turn(chunk, end) {
                 Ok(count) => end += count,
-                Err(_) => break,
+                Err(_) if at < end => break 'turning,
+                Err(refused) => return Err(refused),
+            }
+            if end == chunk.len() || self.escape.is_some() || matches!(chunk[end], b'"' | 0..=31) {
+                break 'turning;
             }
         }
         Ok(end - at)

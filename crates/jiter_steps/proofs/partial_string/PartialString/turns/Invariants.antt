@@ -1,12 +1,17 @@
-use Rattle.jiter_steps.proofs.Words.{length, List, ℕ, ◌-◌, ◌≤◌, ◌++◌, slice_range, HasTaken}
+use Rattle.jiter_steps.proofs.Words.{length, List, ℕ, ◌≡◌, ◌-◌, ◌<◌, ◌≤◌, ◌++◌, None, true, slice_index, slice_range, HasTaken}
+use Rattle.jiter_scan.specs.Ascii as ascii
+use Rattle.jiter_scan.specs.Scan.{is_stop}
 use Rattle.jiter_steps.proofs.partial_string.PartialString.turns.Given as goal
 
-abbrev pub invariant-loop-end : goal.invariant-loop-end
-invariant-loop-end l = record {
-  after : l.initial.end ≤ l.end;
-  within : l.end ≤ length l.chunk;
-  taken : (w : List ℕ) → HasTaken l.initial.self w → HasTaken l.self (w ++ slice_range l.chunk l.initial.end l.end);
+abbrev pub invariant-turning : goal.invariant-turning
+invariant-turning l = record {
+  after : l.at ≤ l.end;
+  within : l.end < length l.chunk;
+  none : l.self.escape ≡ None;
+  goes_on : is_stop (slice_index l.chunk l.end) ≡ true → slice_index l.chunk l.end ≡ ascii.backslash;
+  same : l.end ≡ l.at → l.self ≡ l.initial.self;
+  taken : (w : List ℕ) → HasTaken l.initial.self w → HasTaken l.self (w ++ slice_range l.chunk l.at l.end);
 }
 
-abbrev pub decreases-loop-end : goal.decreases-loop-end
-decreases-loop-end l = length l.chunk - l.end
+abbrev pub decreases-turning : goal.decreases-turning
+decreases-turning l = length l.chunk - l.end
