@@ -16,6 +16,8 @@ use Rattle.jiter_scan.proofs.Standing.{slice-stands, stands-slice}
 use Rattle.jiter_scan.specs.Number.{IsNumberText}
 use Rattle.jiter_scan.specs.NumberReading.{begins_number, number_span}
 use Rattle.jiter_scan.specs.Scanned.{Scans}
+use Rattle.jiter_steps.proofs.Grammar.Blanks.{past_blanks-above}
+use Rattle.jiter_steps.specs.Words.{past_blanks}
 use Rattle.jiter_steps.specs.declared.parse.Start.TheVariants as start
 use Rattle.jiter_steps.specs.declared.read_error.ReadError.TheVariants as error
 use Rattle.jiter_steps.specs.ReadError.{UnlessRefused}
@@ -132,6 +134,14 @@ pub number-starts : (names : Bool) (t : List ℕ) (i e : ℕ) → i < e → e �
 number-starts names t i e some within h =
     let text = subst (IsNumberText names) (slice-first t i e some within) (number_span-sound t names i e h) in
     number-start (slice_index t i) (number-begins names (slice_index t i) (slice_range t (i + 1) e) text)
+
+-- no whitespace is before a number
+pub number-place : (names : Bool) (t : List ℕ) (i e : ℕ) → i < e → e ≤ length t → number_span names t i ≡ taken tt e
+    → i ≡ past_blanks t i
+number-place names t i e some within h =
+    let text = subst (IsNumberText names) (slice-first t i e some within) (number_span-sound t names i e h) in
+    let begins = number-begins names (slice_index t i) (slice_range t (i + 1) e) text in
+    sym (past_blanks-above t i (omega arith) (grind (arith, nat_tests, begins)))
 
 -- The next value is the number from i to e.
 pub number-read : (v s : ReaderState) (i e b : ℕ) (bytes : Bor (List ℕ)) → v ≡ s → i ≡ value_place v

@@ -14,7 +14,7 @@ use jiter_scan::word::byte_at;
 use jiter_scan::{JsonError, JsonErrorType, NumberAny};
 use jiter_steps::parse::{Literal, Parser, Start, start_of};
 use jiter_steps::read_error::ReadError;
-use jiter_steps::step::peek;
+use jiter_steps::step::{peek, peek_spaced};
 use jiter_value::parse::reading::error_at;
 use std::alloc::{AllocError, Global};
 use std::borrow::CowStr;
@@ -234,7 +234,7 @@ impl<'j> Jiter<'j> {
         ensures here { MatchResult result (λ p. StandsAt self.new (byte_of p))
             (λ _. slice_get self.new.text self.new.position ≡ None) }
     {
-        let (at, byte) = peek(self.parser.bytes, self.parser.index);
+        let (at, byte) = peek_spaced(self.parser.bytes, self.parser.index);
         self.parser.index = at;
         match byte {
             None => Err(refusal(fault_at(FaultKind::EofWhileParsingValue, at))),

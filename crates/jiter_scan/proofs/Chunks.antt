@@ -58,7 +58,7 @@ module _ (test : ℕ → Bool) where
     by true h go = omega (arith, go h)
     by false h go = absurd (false≢true h)
 
-  prefix_len-some : (w : List ℕ) → list_all test w ≡ false → prefix_len test w < length w
+  pub prefix_len-some : (w : List ℕ) → list_all test w ≡ false → prefix_len test w < length w
   prefix_len-some [] h = absurd (false≢true (sym h))
   prefix_len-some (c ∷ w) h = by (test c) h (prefix_len-some w) where
     by : (b : Bool) → (b && list_all test w) ≡ false → (list_all test w ≡ false → prefix_len test w < length w)

@@ -1,9 +1,12 @@
 -- Masks that are computed lane by lane, held to a test at each of the 256 bytes.
-use Rattle.jiter_scan.proofs.Words.{◌≡◌, ℕ, ◌^◌, ◌%◌, leb, Bool, true, false, not, ◌&&◌, ◌||◌, cond, eqb, ◌==◌, List}
+use Rattle.jiter_scan.proofs.Words.{◌≡◌, ℕ, ◌^◌, ◌%◌, leb, Bool, true, false, not, ◌&&◌, cond, eqb, List}
 use Rattle.jiter_scan.proofs.Words.{[], ◌∷◌, map, length, refl, sym, ap, ap₂, ◌∙◌, arith, length-map, agree_below_at}
 use Rattle.jiter_scan.proofs.Words.{replicate, list_all, nat_tests, is_plain, is_ascii, failing, is_no_mark}
 use Rattle.jiter_scan.proofs.Words.{is_no_control, ltb, w8, mask_l-mod, agree_below, mask_l, sel_l, top, Each1}
+use Rattle.jiter_scan.proofs.Words.{flipped}
 use Rattle.std.proofs.Common.{Fits}
+use Rattle.std.proofs.lemmas.Nat.{and_le_r}
+use Rattle.std.specs.Int.Bits.{xor_add_and}
 use lib.Lanes.{zip2}
 
 -- all ones where two bytes are equal, where the first is less, and where it is no greater
@@ -85,29 +88,30 @@ list_all-greater (x ∷ v) (y ∷ w) h =
     ap₂ (λ a b. a && b) (greater-byte x y) (list_all-greater v w (omega arith))
     ∙ and-swap (is_ascii x) (is_ascii y) (list_all is_ascii v) (list_all is_ascii w)
 
--- a plain byte is neither a mark nor a control byte
-plain-byte : (c : ℕ) → is_plain c ≡ (is_no_mark c && is_no_control c)
-plain-byte c = by ((c == 34) || (c == 92)) (ltb c 32) (leb 32 c) (grind (arith, nat_tests)) where
-  by : (m l g : Bool) → g ≡ not l → not (m || l) ≡ (not m && g)
-  by true l g e = refl
-  by false l g e = sym e
+-- a plain byte is no backslash, and flipped no byte below 33
+plain-byte : (c : ℕ) → is_plain c ≡ (is_no_mark c && is_no_control (flipped c))
+plain-byte c = by (leb 128 c) refl where
+  by : (b : Bool) → leb 128 c ≡ b → is_plain c ≡ (is_no_mark c && is_no_control (flipped c))
+  by true e = grind (arith, nat_tests, xor_add_and c 2, and_le_r c 2)
+  by false e = agree_below_at is_plain (λ x. is_no_mark x && is_no_control (flipped x)) 128 c refl (grind (arith, nat_tests))
 
-pub list_all-plain : (v : List ℕ) → list_all is_plain v ≡ (list_all is_no_mark v && list_all is_no_control v)
+pub list_all-plain : (v : List ℕ)
+    → list_all is_plain v ≡ (list_all is_no_mark v && list_all is_no_control (map flipped v))
 list_all-plain [] = refl
 list_all-plain (c ∷ v) =
     ap₂ (λ a b. a && b) (plain-byte c) (list_all-plain v)
-    ∙ and-swap (is_no_mark c) (is_no_control c) (list_all is_no_mark v) (list_all is_no_control v)
+    ∙ and-swap (is_no_mark c) (is_no_control (flipped c)) (list_all is_no_mark v) (list_all is_no_control (map flipped v))
 
 -- the same of four vectors
 pub list_all-plain-four : (a b c d : List ℕ)
     → (((list_all is_no_mark a && list_all is_no_mark b) && (list_all is_no_mark c && list_all is_no_mark d))
-    && ((list_all is_no_control a && list_all is_no_control b)
-    && (list_all is_no_control c && list_all is_no_control d)))
+    && ((list_all is_no_control (map flipped a) && list_all is_no_control (map flipped b))
+    && (list_all is_no_control (map flipped c) && list_all is_no_control (map flipped d))))
     ≡ ((list_all is_plain a && list_all is_plain b) && (list_all is_plain c && list_all is_plain d))
 list_all-plain-four a b c d =
     let both : Bool → Bool → Bool = λ x y. x && y in
-    let two = λ (u v : List ℕ). and-swap (list_all is_no_mark u) (list_all is_no_mark v) (list_all is_no_control u)
-    (list_all is_no_control v)
+    let two = λ (u v : List ℕ). and-swap (list_all is_no_mark u) (list_all is_no_mark v)
+    (list_all is_no_control (map flipped u)) (list_all is_no_control (map flipped v))
     ∙ ap₂ both (sym (list_all-plain u)) (sym (list_all-plain v)) in
     and-swap (list_all is_no_mark a && list_all is_no_mark b) (list_all is_no_mark c && list_all is_no_mark d) _ _
     ∙ ap₂ both (two a b) (two c d)

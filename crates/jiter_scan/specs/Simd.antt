@@ -1,6 +1,7 @@
 -- What the kernels give, and the masks and words that they work on.
-use Rattle.std.specs.Prelude.{◌≡◌, ℕ, ◌+◌, ◌-◌, ◌%◌, ◌==◌, ◌||◌, Bool, not, if◌then◌else◌, List, length, drop, take}
+use Rattle.std.specs.Prelude.{◌≡◌, ℕ, ◌+◌, ◌-◌, ◌%◌, ◌==◌, Bool, not, if◌then◌else◌, List, length, drop, take}
 use Rattle.std.specs.Prelude.{map, nat_le, Option, Some, None}
+use Rattle.std.specs.Int.Bits.{bit_xor}
 use Rattle.std.specs.Int.Digits.{AllBelowBase}
 use Rattle.std.specs.List.{prefix_len, list_all}
 use Rattle.std.specs.Simd.Lanes.{mask_l}
@@ -20,13 +21,17 @@ ascii_from t i = list_all is_ascii (take (prefix_len is_plain (drop i t)) (drop 
 abbrev pub failing : (ℕ → Bool) → List ℕ → ℕ
 failing test v = mask_l (map (λ c. not (test c)) v)
 
--- neither a quote nor a backslash
+-- no backslash
 abbrev pub is_no_mark : ℕ → Bool
-is_no_mark c = not ((c == ascii.quote) || (c == ascii.backslash))
+is_no_mark c = not (c == ascii.backslash)
 
--- no byte below the space
+-- a byte with one bit flipped: the quote becomes a space, and a space becomes a quote
+abbrev pub flipped : ℕ → ℕ
+flipped c = bit_xor c 2
+
+-- a flipped byte that was neither a control byte nor a quote
 abbrev pub is_no_control : ℕ → Bool
-is_no_control c = nat_le ascii.space c
+is_no_control c = nat_le 33 c
 
 -- a byte less 30 hex, wrapping
 abbrev pub less_zero : ℕ → ℕ

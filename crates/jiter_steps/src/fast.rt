@@ -12,7 +12,8 @@ fn has_four(bytes: &[u8], at: usize, a: u8, b: u8, c: u8, d: u8) -> bool
     ensures third { IsTrue result → slice_get bytes.now (at + 2) ≡ Some c }
     ensures fourth { IsTrue result → slice_get bytes.now (at + 3) ≡ Some d }
 {
-    bytes[at] == a && bytes[at + 1] == b && bytes[at + 2] == c && bytes[at + 3] == d
+    let found = [bytes[at], bytes[at + 1], bytes[at + 2], bytes[at + 3]];
+    u32::from_le_bytes(found) == u32::from_le_bytes([a, b, c, d])
 }
 
 /// Returns the index after the literal at `at`, if it is there and at least five bytes are left (RFC 8259, 3).

@@ -38,6 +38,28 @@ pub fn peek(bytes: &[u8], from: usize) -> (usize, Option<u8>)
     (at, byte_at(bytes, at))
 }
 
+/// Returns what [`peek`] does. Fastest also if one space is at `from`, as after the colon of a document that is laid out.
+#[inline(always)]
+pub fn peek_spaced(bytes: &[u8], from: usize) -> (usize, Option<u8>)
+    requires { from ≤ length bytes.now }
+    ensures place { result.0 ≡ past_blanks bytes.now from }
+    ensures byte { result.1 ≡ slice_get bytes.now result.0 }
+    ensures within { (from ≤ result.0) × (result.0 ≤ length bytes.now) }
+    ensures inside { IfSome result.1 (λ _. result.0 < length bytes.now) }
+{
+    if from < bytes.len() {
+        let byte = bytes[from];
+        if byte > b' ' {
+            return (from, Some(byte));
+        }
+        if byte == b' ' {
+            return peek(bytes, from + 1);
+        }
+    }
+    let at = blanks_end(bytes, from);
+    (at, byte_at(bytes, at))
+}
+
 /// Returns what [`peek`] does. Fastest if `wanted`, which is not whitespace, is the byte at `from`.
 #[inline(always)]
 pub fn peek_for(bytes: &[u8], from: usize, wanted: u8) -> (usize, Option<u8>)
@@ -90,7 +112,10 @@ fn after_comma(bytes: &[u8], from: usize, shape: ContainerKind) -> (usize, Step)
     requires { from ≤ length bytes.now }
     ensures { Finds bytes.now from result (step bytes.now (container_comma shape) from) }
 {
-    let (at, byte) = peek(bytes, from);
+    let (at, byte) = match shape {
+        ContainerKind::Array => peek(bytes, from),
+        ContainerKind::Object => peek_for(bytes, from, b'"'),
+    };
     match byte {
         None => (at, fault(FaultKind::EofWhileParsingValue)),
         Some(byte) => {
@@ -165,7 +190,7 @@ pub fn value_first(bytes: &[u8], from: usize) -> (usize, Option<FaultKind>)
     ensures within { (from ≤ result.0) × (result.0 ≤ length bytes.now) }
     ensures inside { result.1 ≡ None → result.0 < length bytes.now }
 {
-    let (at, byte) = peek(bytes, from);
+    let (at, byte) = peek_spaced(bytes, from);
     match byte {
         None => (at, Some(FaultKind::EofWhileParsingValue)),
         Some(_) => (at, None),

@@ -138,7 +138,8 @@ impl<'j> Jiter<'j> {
             (reply_seen key_bytes (member_reply whole self.old.text (step_of found.0 found.1))) result self.entry) }
     {
         match self.plain_key(found) {
-            Some(Ok(key)) => Ok(key),
+            Some(Ok(Some(key))) => Ok(Some(key)),
+            Some(Ok(None)) => Ok(None),
             Some(Err(error)) => Err(error),
             None => self.slow_key(alloc, found.0),
         }

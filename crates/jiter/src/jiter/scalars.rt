@@ -9,7 +9,7 @@ use crate::errors::{JiterResult, JsonType};
 use crate::jiter::{Jiter, refusal, wrong_type};
 use crate::peek::Peek;
 use jiter_scan::number::number_decoder::{Integer, int_at};
-use jiter_scan::number::number_span::fast_number_end;
+use jiter_scan::number::number_span::{NUMBER_REACH, padded_number_end};
 use jiter_scan::{NumberAny, NumberInt};
 use jiter_steps::fast::fast_literal_end;
 use jiter_steps::parse::{Literal, Start, literal_end, start_of};
@@ -283,10 +283,11 @@ impl<'j> Jiter<'j> {
     pub fn next_number_bytes(&mut self) -> JiterResult<&'j [u8]>
         ensures reads { Reads never (λ b. b.now) (next self.old (number_bytes_read self.old)) result self.old self.new }
     {
-        if let (at, Some(_)) = peek(self.parser.bytes, self.parser.index) {
-            if let Some(end) = fast_number_end(self.parser.bytes, at) {
+        let (bytes, at) = (self.parser.bytes, self.parser.index);
+        if at + NUMBER_REACH <= bytes.len() {
+            if let Some(end) = padded_number_end(bytes, at) {
                 self.parser.index = end;
-                return Ok(&self.parser.bytes[at..end]);
+                return Ok(&bytes[at..end]);
             }
         }
         self.slow_number_bytes()

@@ -1,5 +1,5 @@
 //! Decimal digits, sixteen bytes at a time.
-ghost use Rattle.std.specs.Prelude.{◌≡◌, ℕ, List, ◌+◌, ◌*◌, ◌^◌, ◌<◌, ◌≤◌, length, take, drop, map};
+ghost use Rattle.std.specs.Prelude.{◌≡◌, ℕ, List, ◌+◌, ◌*◌, ◌^◌, ◌<◌, ◌≤◌, length, take, drop, map, IfSome, IfNone};
 ghost use Rattle.std.specs.Prelude.{slice_range};
 ghost use Rattle.jiter_scan.specs.Words.{number_from_digits, AllBelowBase, number_l, is_digit, digit_run_end};
 ghost use Rattle.jiter_scan.specs.Words.{decimal_of, digits_end, failing, less_zero, IsEightBytes};
@@ -45,6 +45,21 @@ pub(crate) fn block_at(bytes: &[u8], at: usize) -> [u8; 16]
         let mut block = [0; 16];
         block[..rest.len()].copy_from_slice(rest);
         block
+    }
+}
+
+// Returns how many digits the sixteen bytes begin with, or `None` if all of them are digits. An integer is read with it,
+// since the test for sixteen digits is then the only one.
+#[inline(always)]
+pub(crate) fn few_digits(block: [u8; 16]) -> Option<usize>
+    ensures some { IfSome result (λ n. (n ≡ digit_run_end block 0) × (n < 16)) }
+    ensures none { IfNone result (digit_run_end block 0 ≡ 16) }
+{
+    let others = no_digits(u8x16::from_array(block));
+    if others == 0 {
+        None
+    } else {
+        Some(others.trailing_zeros() as usize)
     }
 }
 

@@ -52,7 +52,7 @@ pub fn look_at(bytes: &[u8], from: usize) -> (usize, Look)
     ensures within { (from ≤ result.0) × (result.0 ≤ length bytes.now) }
     ensures means { IsLook bytes.now from result.0 result.1 }
 {
-    let (to, ascii) = if bytes.len() - from < 16 {
+    let (to, ascii) = if from + 16 > bytes.len() {
         scan_string(bytes, from)
     } else {
         let found = ascii_stops(u8x16::from_slice(&bytes[from..]));

@@ -5,21 +5,27 @@ ghost use Rattle.jiter_scan.specs.Words.{w64, trailing_zeros, number_from_digits
 ghost use Rattle.jiter_scan.specs.Words.{chunk, number_l, is_digit, digit_run_end, decimal_of};
 ghost use Rattle.jiter_scan.specs.Words.{is_plain, is_ascii, is_plain_ascii, scan_stop, IsAsciiTo};
 ghost use Rattle.jiter_scan.specs.Words.{digits_end, ascii_from, failing, is_no_mark, is_no_control};
-ghost use Rattle.jiter_scan.specs.Words.{less_zero, IsEightBytes};
+ghost use Rattle.jiter_scan.specs.Words.{less_zero, IsEightBytes, flipped};
 
 pub use crate::bytes::decimal::{digit_count, digit_word, digits_end};
 use crate::bytes::decode_buffer::{put_block, put_slice};
 use crate::memory::AllocFailed;
 use std::simd::prelude::*;
 
+// Flips a bit of each byte. Then the control bytes and the quote, and no other bytes, are below 33.
+#[inline(always)]
+fn flip(v: u8x16) -> u8x16
+    ensures { result ≡ map flipped v }
+{
+    v ^ u8x16::splat(2)
+}
+
 /// Returns a mask with a bit for each byte that is not plain. In each mask the lowest bit is for the first byte.
 #[inline(always)]
 pub fn stops(v: u8x16) -> u64
     ensures { result ≡ failing is_plain v }
 {
-    (v.simd_eq(u8x16::splat(b'"'))
-        | v.simd_eq(u8x16::splat(b'\\'))
-        | v.simd_lt(u8x16::splat(b' '))).to_bitmask()
+    (flip(v).simd_lt(u8x16::splat(33)) | v.simd_eq(u8x16::splat(b'\\'))).to_bitmask()
 }
 
 #[inline(always)]
@@ -93,21 +99,21 @@ fn scan_last(bytes: &[u8], from: usize, ascii: bool) -> (usize, bool)
     first_stop(from, found, high, ascii)
 }
 
-// Each lane is FF hex for a quote or a backslash, otherwise 0.
+// Each lane is FF hex for a backslash, otherwise 0.
 #[inline(always)]
 fn marks(v: u8x16) -> u8x16
     ensures { list_all is_ascii result ≡ list_all is_no_mark v }
 {
-    let found = v.simd_eq(u8x16::splat(b'"')) | v.simd_eq(u8x16::splat(b'\\'));
+    let found = v.simd_eq(u8x16::splat(b'\\'));
     found.select(u8x16::splat(0xff), u8x16::splat(0))
 }
 
-// Each lane is FF hex for a control byte, otherwise 0.
+// Each lane is FF hex for a byte below 33, otherwise 0.
 #[inline(always)]
 fn controls(v: u8x16) -> u8x16
     ensures { list_all is_ascii result ≡ list_all is_no_control v }
 {
-    let found = v.simd_lt(u8x16::splat(b' '));
+    let found = v.simd_lt(u8x16::splat(33));
     found.select(u8x16::splat(0xff), u8x16::splat(0))
 }
 
@@ -145,7 +151,7 @@ fn is_plain_blocks(bytes: &[u8], i: usize) -> (bool, bool)
     let c = u8x16::from_slice(&bytes[i + 32..]);
     let d = u8x16::from_slice(&bytes[i + 48..]);
     let marked = greater(greater(marks(a), marks(b)), greater(marks(c), marks(d)));
-    let controlled = controls(lesser(lesser(a, b), lesser(c, d)));
+    let controlled = controls(lesser(lesser(flip(a), flip(b)), lesser(flip(c), flip(d))));
     let highest = greater(greater(a, b), greater(c, d));
     (
         is_ascii_block(greater(marked, controlled)),
@@ -247,7 +253,7 @@ pub fn scan_string(bytes: &[u8], from: usize) -> (usize, bool)
     ensures within { (from ≤ result.0) × (result.0 ≤ length bytes.now) }
     ensures ascii { IsTrue result.1 ↔ IsAsciiTo bytes.now from result.0 }
 {
-    if bytes.len() - from < 16 {
+    if from + 16 > bytes.len() {
         return scan_far(bytes, from, true);
     }
     let v = u8x16::from_slice(&bytes[from..]);
@@ -270,7 +276,7 @@ pub fn string_stop(bytes: &[u8], from: usize) -> usize
     ensures stop { result ≡ scan_stop bytes.now from }
     ensures within { (from ≤ result) × (result ≤ length bytes.now) }
 {
-    if bytes.len() - from < 16 {
+    if from + 16 > bytes.len() {
         return stop_far(bytes, from);
     }
     let found = stops(u8x16::from_slice(&bytes[from..]));

@@ -6,7 +6,7 @@ ghost use Rattle.jiter_scan.specs.Words.{span_then, digits_from, fraction_at, po
 ghost use Rattle.jiter_scan.specs.Words.{is_float_sign, taken, IsPlainInteger, IsFastNumber};
 ghost use Rattle.jiter_scan.specs.Ascii as ascii;
 
-use crate::bytes::decimal::{digit_count, digit_word, full_block_at, is_digit};
+use crate::bytes::decimal::{digit_count, digit_word, few_digits, full_block_at, is_digit};
 use crate::number::number_decoder::{digits_magnitude, is_float_sign};
 
 // How many bytes, from a number's first digit on, the fast path reads first.
@@ -113,7 +113,7 @@ fn fast_exponent_end(bytes: &[u8], at: usize) -> Option<usize>
     if !is_exponent_letter(bytes[at]) {
         return Some(at);
     }
-    if bytes.len() - at < 18 {
+    if at + 18 > bytes.len() {
         return None;
     }
     few_digits_end(bytes, sign_end(bytes, at + 1))
@@ -125,7 +125,7 @@ fn fast_float_end(bytes: &[u8], at: usize) -> Option<usize>
     ensures { IfSome result
         (λ e. span_then (fraction_at bytes.now at) (exponent_at bytes.now) ≡ taken tt e) }
 {
-    if bytes.len() - at < 33 {
+    if at + 33 > bytes.len() {
         return None;
     }
     match fast_fraction_end(bytes, at) {
@@ -141,7 +141,7 @@ fn two_blocks_at(bytes: &[u8], at: usize) -> FastNumber
     requires digits { at + 16 ≤ digit_run_end bytes.now at }
     ensures { IsFastNumber bytes.now at result }
 {
-    if bytes.len() - at < 32 {
+    if at + 32 > bytes.len() {
         return FastNumber::Other;
     }
     let back = full_block_at(bytes, at + 16);
@@ -178,10 +178,9 @@ pub(crate) fn padded_number_at(bytes: &[u8], at: usize) -> FastNumber
     ensures { IsFastNumber bytes.now at result }
 {
     let block = full_block_at(bytes, at);
-    let count = digit_count(block);
-    if count > 15 {
+    let Some(count) = few_digits(block) else {
         return two_blocks_at(bytes, at);
-    }
+    };
     if !may_lead(bytes[at], count) {
         return FastNumber::Other;
     }
@@ -225,7 +224,7 @@ pub fn fast_number_at(bytes: &[u8], at: usize) -> FastNumber
     requires { at ≤ length bytes.now }
     ensures { IsFastNumber bytes.now at result }
 {
-    if bytes.len() - at < BLOCK_SIZE {
+    if at + BLOCK_SIZE > bytes.len() {
         return match last_integer_at(bytes, at) {
             (_, 0) => FastNumber::Other,
             (magnitude, end) => FastNumber::Int(magnitude, end),

@@ -119,7 +119,7 @@ pub fn fast_number_end(bytes: &[u8], at: usize) -> Option<usize>
         (λ e. (names : Bool) → number_span names bytes.now at ≡ taken tt e) }
     ensures place { IfSome result (λ e. (at < e) × (e ≤ length bytes.now)) }
 {
-    if bytes.len() - at < NUMBER_REACH {
+    if at + NUMBER_REACH > bytes.len() {
         return None;
     }
     padded_number_end(bytes, at)

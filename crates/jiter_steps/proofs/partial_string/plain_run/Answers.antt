@@ -1,4 +1,4 @@
-use Rattle.jiter_steps.proofs.Words.{◌+◌, ◌-◌, take, drop, arith, is_plain, prefix_len-pass}
+use Rattle.jiter_steps.proofs.Words.{◌+◌, take, drop, arith, is_plain, prefix_len-pass}
 use Rattle.jiter_steps.proofs.Chunks.OpenStrings.{near-range}
 use Rattle.jiter_steps.proofs.partial_string.plain_run.Goals as goal
 

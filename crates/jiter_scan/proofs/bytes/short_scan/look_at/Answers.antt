@@ -1,13 +1,13 @@
-use Rattle.jiter_scan.proofs.Words.{◌≡◌, ◌≢◌, ℕ, Bool, ◌+◌, ◌-◌, ◌<◌, ◌≤◌, ◌∙◌, ap, true, false, refl, sym, arith}
+use Rattle.jiter_scan.proofs.Words.{◌≡◌, ◌≢◌, ℕ, Bool, ◌+◌, ◌<◌, ◌≤◌, ◌∙◌, ap, true, false, refl, sym, arith}
 use Rattle.jiter_scan.proofs.Words.{subst, get_or, length, List, IsTrue, Some, slice_get, slice_get-get_or}
 use Rattle.jiter_scan.proofs.Words.{count_trailing_zeros, chunk, is_plain, is_plain_ascii, run_end}
 use Rattle.jiter_scan.proofs.Words.{scan_stop, IsAsciiTo, failing, ◌↔◌}
 use Rattle.jiter_scan.proofs.AsciiRuns.{ascii-again, ascii-before, ascii-stops, ascii-through, low-stops, text-through}
 use Rattle.jiter_scan.proofs.Chunks.{run_end-near, run_end-stopped}
 use Rattle.jiter_scan.proofs.bytes.short_scan.look_at.Goals as goal
-use Rattle.jiter_scan.proofs.bytes.short_scan.look_at.Goals.{then-bytes-from-lt16, else-bytes-from-lt16+then-found-eq0}
-use Rattle.jiter_scan.proofs.bytes.short_scan.look_at.Goals.{else-bytes-from-lt16+else-found-eq0+else-byte-eq34+then-byte-ge128}
-use Rattle.jiter_scan.proofs.bytes.short_scan.look_at.Goals.{else-bytes-from-lt16+else-found-eq0+else-byte-eq34+else-byte-ge128}
+use Rattle.jiter_scan.proofs.bytes.short_scan.look_at.Goals.{then-from-bytes, else-from-bytes+then-found-eq0}
+use Rattle.jiter_scan.proofs.bytes.short_scan.look_at.Goals.{else-from-bytes+else-found-eq0+else-byte-eq34+then-byte-ge128}
+use Rattle.jiter_scan.proofs.bytes.short_scan.look_at.Goals.{else-from-bytes+else-found-eq0+else-byte-eq34+else-byte-ge128}
 
 module _ (t : List ℕ) (i : ℕ) (inside : i ≤ length t) where
   -- the first byte that is not plain, and whether those before it are known to be ASCII
@@ -30,10 +30,7 @@ module _ (t : List ℕ) (i : ℕ) (inside : i ≤ length t) where
   scanned same s = subst Stop (sym same) (record { stop = s.stop; within = s.within; ascii = s.ascii.0 })
 
   -- by the bits of the first sixteen bytes that are no plain ASCII
-  module _ (mask : ℕ) (long : 16 ≤ length t - i) (is : mask ≡ failing is_plain_ascii (chunk i 16 t)) where
-    reach : i + 16 ≤ length t
-    reach = omega arith
-
+  module _ (mask : ℕ) (reach : i + 16 ≤ length t) (is : mask ≡ failing is_plain_ascii (chunk i 16 t)) where
     after : {to found : ℕ × Bool} → to ≡ found → mask ≡ 0 → Scanned (i + 16) found → Stop to
     after {found} same none s =
         let clear = sym is ∙ none in
@@ -79,7 +76,7 @@ module _ (t : List ℕ) (i : ℕ) (inside : i ≤ length t) where
 pub bounds-bytes-to : goal.bounds-bytes-to
 bounds-bytes-to c =
     let found = c.ascii_stops-found in
-    before c.args.bytes.now c.args.from c.requires found.result c.if-bytes-from-lt16.false found.ensures
+    before c.args.bytes.now c.args.from c.requires found.result c.if-from-bytes.false found.ensures
     c.if-found-eq0.false
 
 pub returns-then-byte-eq34 : goal.returns-then-byte-eq34
@@ -87,7 +84,7 @@ returns-then-byte-eq34 c =
     let t = c.args.bytes.now in
     let i = c.args.from in
     let found = c.ascii_stops-found in
-    let long = c.if-bytes-from-lt16.false in
+    let long = c.if-from-bytes.false in
     let end = near t i c.requires found.result long found.ensures c.if-found-eq0.false (ap is_plain c.if-byte-eq34.true) in
     let quote = here t i c.requires found.result long found.ensures c.if-found-eq0.false ∙ ap Some c.if-byte-eq34.true in
     record { stop = end.stop; within = end.within; means = (quote, end.ascii refl) }
@@ -96,16 +93,16 @@ pub returns : goal.returns
 returns c =
     let t = c.args.bytes.now in
     let i = c.args.from in
-    let end : Stop t i c.requires c.if-bytes-from-lt16.to = elim c.if-bytes-from-lt16.branch [
-      | then-bytes-from-lt16 w ↦ scanned t i c.requires w.to-is w.scan_string.ensures
-      | else-bytes-from-lt16+then-found-eq0 w ↦ after t i c.requires w.ascii_stops-found.result
-          w.if-bytes-from-lt16.false w.ascii_stops-found.ensures w.to-is w.if-found-eq0.true
+    let end : Stop t i c.requires c.if-from-bytes.to = elim c.if-from-bytes.branch [
+      | then-from-bytes w ↦ scanned t i c.requires w.to-is w.scan_string.ensures
+      | else-from-bytes+then-found-eq0 w ↦ after t i c.requires w.ascii_stops-found.result
+          w.if-from-bytes.false w.ascii_stops-found.ensures w.to-is w.if-found-eq0.true
           w.scan_string-then-found-eq0.ensures
-      | else-bytes-from-lt16+else-found-eq0+else-byte-eq34+then-byte-ge128 w ↦ high t i c.requires
-          w.ascii_stops-found.result w.if-bytes-from-lt16.false w.ascii_stops-found.ensures w.if-found-eq0.false
+      | else-from-bytes+else-found-eq0+else-byte-eq34+then-byte-ge128 w ↦ high t i c.requires
+          w.ascii_stops-found.result w.if-from-bytes.false w.ascii_stops-found.ensures w.if-found-eq0.false
           w.string_stop.result w.to-is w.string_stop.ensures
-      | else-bytes-from-lt16+else-found-eq0+else-byte-eq34+else-byte-ge128 w ↦ low t i c.requires
-          w.ascii_stops-found.result w.if-bytes-from-lt16.false w.ascii_stops-found.ensures w.if-found-eq0.false
+      | else-from-bytes+else-found-eq0+else-byte-eq34+else-byte-ge128 w ↦ low t i c.requires
+          w.ascii_stops-found.result w.if-from-bytes.false w.ascii_stops-found.ensures w.if-found-eq0.false
           w.to-is w.if-byte-ge128.false
     ] in
     record { stop = end.stop; within = end.within; means = c.look_there.ensures i end.stop end.ascii }

@@ -5,4 +5,4 @@ use Rattle.jiter_scan.proofs.bytes.simd.controls.Goals as goal
 pub returns : goal.returns
 returns c =
     let v = c.args.v in
-    list_all-chosen _ is_no_control v _ c.fits-v.0 c.fits-v.1 (zip2_splat if_less v 16 32 c.fits-v.0) refl
+    list_all-chosen _ is_no_control v _ c.fits-v.0 c.fits-v.1 (zip2_splat if_less v 16 33 c.fits-v.0) refl

@@ -1,10 +1,8 @@
-use Rattle.jiter_scan.proofs.Words.{refl, zip2_splat, zip2_of_maps, bit_or, is_no_mark}
+use Rattle.jiter_scan.proofs.Words.{refl, zip2_splat, is_no_mark}
 use Rattle.jiter_scan.proofs.Lanes.{if_equal, list_all-chosen}
 use Rattle.jiter_scan.proofs.bytes.simd.marks.Goals as goal
 
 pub returns : goal.returns
 returns c =
     let v = c.args.v in
-    let long = c.fits-v.0 in
-    list_all-chosen _ is_no_mark v _ long c.fits-v.1
-    (zip2_of_maps bit_or _ _ v (zip2_splat if_equal v 16 34 long) (zip2_splat if_equal v 16 92 long)) refl
+    list_all-chosen _ is_no_mark v _ c.fits-v.0 c.fits-v.1 (zip2_splat if_equal v 16 92 c.fits-v.0) refl

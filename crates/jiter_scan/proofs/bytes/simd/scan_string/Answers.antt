@@ -27,8 +27,8 @@ returns-then-found-ne0 c =
       ascii = IsAsciiTo-iff t i _ c.first_stop.result.1 (omega arith) (c.first_stop.ensures.ascii ∙ sym low);
     }
 
-pub returns-then-bytes-from-lt16-clause-ascii : goal.returns-then-bytes-from-lt16-clause-ascii
-returns-then-bytes-from-lt16-clause-ascii c =
+pub returns-then-from-bytes-clause-ascii : goal.returns-then-from-bytes-clause-ascii
+returns-then-from-bytes-clause-ascii c =
     let far = c.scan_far in
     IsAsciiTo-iff c.args.bytes.now c.args.from far.result.0 far.result.1 far.ensures.stop far.ensures.ascii
 

@@ -7,8 +7,8 @@ use Rattle.jiter_scan.proofs.bytes.simd.string_stop.Goals as goal
 within : (t : List ℕ) (i to : ℕ) → i ≤ length t → to ≡ scan_stop t i → (i ≤ to) × (to ≤ length t)
 within t i to h stop = (omega (arith, stop, run_end-ahead is_plain t i), omega (arith, stop, run_end-within is_plain t i h))
 
-pub returns-then-bytes-from-lt16-clause-within : goal.returns-then-bytes-from-lt16-clause-within
-returns-then-bytes-from-lt16-clause-within c =
+pub returns-then-from-bytes-clause-within : goal.returns-then-from-bytes-clause-within
+returns-then-from-bytes-clause-within c =
     within c.args.bytes.now c.args.from c.stop_far.result c.requires c.stop_far.ensures
 
 pub returns-then-found-ne0 : goal.returns-then-found-ne0

@@ -1,4 +1,4 @@
-use Rattle.jiter_scan.proofs.Words.{◌+◌, inl, inr, get_or, length, subst, sym, ap, ◌∙◌, arith, slice_get-get_or}
+use Rattle.jiter_scan.proofs.Words.{◌+◌, ◌<◌, inl, inr, get_or, length, subst, sym, ap, ◌∙◌, arith, slice_get-get_or}
 use Rattle.jiter_scan.proofs.Words.{false≢true, decimal_of, is_digit, is_float_sign}
 use Rattle.jiter_scan.proofs.Runs.{run_end-passes}
 use Rattle.jiter_scan.proofs.NumberSpans.{decimal_at-tail}
@@ -13,34 +13,36 @@ returns-then-not-goes_on c =
     let t = c.args.bytes.now in
     let i = c.args.at in
     let block = c.full_block_at-block in
-    let n = c.digit_count-count.result in
-    let run = digits-counted t block.result i n c.digit_count-count.ensures (omega arith) (omega arith) block.ensures in
-    let some = some-counted t block.result i n c.digit_count-count.ensures (omega arith) (omega arith) block.ensures
+    let n = c.in-Some.count in
+    let few : n < 16 = c.in-Some.ensures.some.1 in
+    let run = digits-counted t block.result i n c.in-Some.ensures.some.0 (omega arith) (omega arith) block.ensures in
+    let some = some-counted t block.result i n c.in-Some.ensures.some.0 (omega arith) (omega arith) block.ensures
     (c.may_lead.ensures.digit c.if-not-may_lead.false) in
     integer-run t i c.digit_word.result (i + n) run (omega (arith, some)) (omega arith) (omega arith)
     (first-alone t i n (c.may_lead.ensures.zero c.if-not-may_lead.false))
     (λ _. sym c.goes_on.ensures ∙ c.if-not-goes_on.true)
     (c.digit_word.ensures ∙ ap decimal_of (block.ensures n (omega arith) (omega arith)))
 
-pub returns-in-Some : goal.returns-in-Some
-returns-in-Some c =
+pub returns-in-Some-fast_float_end : goal.returns-in-Some-fast_float_end
+returns-in-Some-fast_float_end c =
     let t = c.args.bytes.now in
     let i = c.args.at in
     let block = c.full_block_at-block in
-    let n = c.digit_count-count.result in
-    let some = some-counted t block.result i n c.digit_count-count.ensures (omega arith) (omega arith) block.ensures
+    let n = c.in-Some.count in
+    let few : n < 16 = c.in-Some.ensures.some.1 in
+    let some = some-counted t block.result i n c.in-Some.ensures.some.0 (omega arith) (omega arith) block.ensures
     (c.may_lead.ensures.digit c.if-not-may_lead.false) in
     let int_part =
-    int_part_at-counted t block.result i n c.digit_count-count.ensures (omega arith) (omega arith) block.ensures some
+    int_part_at-counted t block.result i n c.in-Some.ensures.some.0 (omega arith) (omega arith) block.ensures some
     (c.may_lead.ensures.zero c.if-not-may_lead.false) in
-    let end = c.in-Some.after in
-    let place = subst (IsPast (i + n + 1) (length t)) c.in-Some.ensures
+    let end = c.in-Some-fast_float_end.after in
+    let place = subst (IsPast (i + n + 1) (length t)) c.in-Some-fast_float_end.ensures
     (tail-past t (i + n) (get_or t (i + n) 0) (slice_get-get_or t (i + n) 0 (omega arith))
     (sym c.goes_on.ensures ∙ c.if-not-goes_on.false)) in
     record {
-      decimal = decimal_at-tail t i (i + n) end int_part c.in-Some.ensures;
+      decimal = decimal_at-tail t i (i + n) end int_part c.in-Some-fast_float_end.ensures;
       value = λ j le.
-          number_value-tail t j (i + n) end (omega arith) (omega (arith, place.0)) (omega arith) c.in-Some.ensures;
+          number_value-tail t j (i + n) end (omega arith) (omega (arith, place.0)) (omega arith) c.in-Some-fast_float_end.ensures;
       some = omega (arith, place.0, some);
       within = place.1;
     }
@@ -58,7 +60,8 @@ returns-in-None c h =
     let t = c.args.bytes.now in
     let i = c.args.at in
     let block = c.full_block_at-block in
-    let run = digits-counted t block.result i c.digit_count-count.result c.digit_count-count.ensures (omega arith)
+    let few : c.in-Some.count < 16 = c.in-Some.ensures.some.1 in
+    let run = digits-counted t block.result i c.in-Some.count c.in-Some.ensures.some.0 (omega arith)
     (omega arith) block.ensures in
     let alone = ap (λ k. is_float_sign (get_or t k 0)) (sym run) ∙ h.alone in
     absurd (false≢true (sym alone ∙ sym c.goes_on.ensures ∙ c.if-not-goes_on.false))
@@ -66,5 +69,5 @@ returns-in-None c h =
 pub two_blocks_at-requires-clause-digits : goal.two_blocks_at-requires-clause-digits
 two_blocks_at-requires-clause-digits c =
     let block = c.full_block_at-block in
-    digits-of_block c.args.bytes.now block.result c.args.at 16 (omega (arith, c.digit_count-count.ensures))
+    digits-of_block c.args.bytes.now block.result c.args.at 16 (omega (arith, c.in_default.ensures.none))
     (block.ensures 16 (omega arith) (omega arith))

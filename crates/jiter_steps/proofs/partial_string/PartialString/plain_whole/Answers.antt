@@ -1,4 +1,4 @@
-use Rattle.jiter_steps.proofs.Words.{◌-◌, refl, slice_range}
+use Rattle.jiter_steps.proofs.Words.{refl, slice_range}
 use Rattle.jiter_steps.proofs.Chunks.OpenStrings.{grown-range, run-goes-if, run-plain, run-whole}
 use Rattle.jiter_steps.proofs.partial_string.PartialString.plain_whole.Goals as goal
 
