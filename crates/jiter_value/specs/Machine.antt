@@ -1,5 +1,5 @@
 -- The machine as contracts see it.
-use Rattle.std.specs.Prelude.{◌≡◌, ℕ, ◌≤◌, Bool, true, false, List, length, reverse, Err}
+use Rattle.std.specs.Prelude.{◌≡◌, ℕ, ◌≤◌, List, [], length, reverse, Err}
 use Rattle.jiter_steps.specs.Blank.{past_blanks}
 use Rattle.jiter_steps.specs.ReadError.{WhereRefused}
 use Rattle.jiter_value.specs.Reading.{GivesWhole}
@@ -8,6 +8,8 @@ use Rattle.jiter_value.specs.Size.{held_in, left_at}
 use Rattle.jiter_value.specs.Stacks.{Member, Stands}
 use Rattle.jiter_value.specs.Turns.{GoesOn, HasReached}
 use Rattle.jiter_value.specs.Value.{MayGrow}
+use Rattle.jiter_value.specs.declared.parse.machine.Stage.{Stage}
+use Rattle.jiter_value.specs.declared.parse.machine.Stage.TheVariants as stage
 use Rattle.jiter_value.specs.declared.parse.settings.Settings.{Settings}
 use Rattle.jiter_value.specs.declared.parse.stacks.OpenContainer.{OpenContainer}
 use Rattle.jiter_value.specs.declared.parse.stacks.Slot.TheVariants as slot
@@ -31,8 +33,8 @@ pub record Progress : Type 0 where
   pub state : State
   pub within : position ≤ length text
 
-abbrev pub progress : (t : List ℕ) → (r : Reading) → r.at ≤ length t → Progress
-progress t r h = record {
+abbrev pub progress_of : (t : List ℕ) → (r : Reading) → r.at ≤ length t → Progress
+progress_of t r h = record {
   text = t;
   settings = r.settings;
   position = r.at;
@@ -43,6 +45,24 @@ progress t r h = record {
   within = h;
 }
 
+-- where a machine is, and all that it holds: of a new one nothing is read
+abbrev pub position_in : Stage → ℕ
+position_in (stage.New a p) = 0
+position_in (stage.Begun b) = b.value.at
+
+abbrev pub progress : (t : List ℕ) → (a : Stage) → position_in a ≤ length t → Progress
+progress t (stage.New a p) h = record {
+  text = t;
+  settings = p;
+  position = 0;
+  elements = [];
+  members = [];
+  nest = [];
+  state = state.Root;
+  within = h;
+}
+progress t (stage.Begun b) h = progress_of t b.value h
+
 -- how much is left to do
 abbrev pub turns_left : Progress → ℕ
 turns_left m = left_at m.text m.nest m.position
@@ -51,13 +71,24 @@ turns_left m = left_at m.text m.nest m.position
 abbrev pub held : Progress → ℕ
 held m = held_in m.state (reverse m.nest) m.elements m.members 0
 
--- Nothing is read yet, or more of the text's value is awaited; no value is beside the stacks.
-abbrev pub IsUnderWay : Bool → List ℕ → Settings → ℕ → State → Stacks → Type 0
-IsUnderWay false t p i a s = Stands s slot.Root × (i ≡ 0) × (a ≡ state.Root) × (s.root ≡ Null)
-IsUnderWay true t p i a s = HasReached borrowed ⊥ t (past_blanks t 0) p s i a × GoesOn a × (s.root ≡ Null)
+-- the same of a reading
+abbrev pub held_by : Reading → ℕ
+held_by r = held_in r.state (reverse r.stacks.nest.items) r.stacks.items.items r.stacks.members.items 0
 
-abbrev pub IsReadingOn : Bool → List ℕ → Reading → Type 0
-IsReadingOn begun t r = IsUnderWay begun t r.settings r.at r.state r.stacks
+-- nothing is read yet
+abbrev pub IsNew : Reading → Type 0
+IsNew r = Stands r.stacks slot.Root × (r.state ≡ state.Root) × (r.stacks.root ≡ Null)
+
+-- Turns led here, and more of the text's value is awaited; no value is beside the stacks.
+abbrev pub IsGoingOn : List ℕ → Settings → ℕ → State → Stacks → Type 0
+IsGoingOn t p i a s = HasReached borrowed ⊥ t (past_blanks t 0) p s i a × GoesOn a × (s.root ≡ Null)
+
+abbrev pub IsReadingOn : List ℕ → Reading → Type 0
+IsReadingOn t r = IsGoingOn t r.settings r.at r.state r.stacks
+
+abbrev pub IsUnderWay : List ℕ → Stage → Type 0
+IsUnderWay t (stage.New a p) = Unit {0}
+IsUnderWay t (stage.Begun b) = IsReadingOn t b.value
 
 -- The reading of a text has ended: its value is beside the stacks, or it was given up for what the text answers.
 abbrev pub HasEnded : List ℕ → Settings → ℕ → State → Stacks → Type 0

@@ -1,8 +1,10 @@
 //! A parse that the caller takes on turn by turn.
-ghost use Rattle.std.specs.Prelude.{◌≡◌, ◌≤◌, ◌+◌, ◌*◌, IfOk, false, length, true};
-ghost use Rattle.jiter_value.specs.Machine.{turns_left, held, IsOver, IsReadingOn};
+ghost use Rattle.std.specs.Prelude.{◌≡◌, ◌≤◌, ◌<◌, ◌+◌, ◌*◌, IfOk, false, length, true};
+ghost use Rattle.jiter_value.specs.Machine.{held_by, position_in, IsNew, IsOver, IsReadingOn};
 ghost use Rattle.jiter_value.specs.Parses.{Parses, as_read};
-ghost use Rattle.jiter_value.specs.Value.{MayGrow};
+ghost use Rattle.jiter_value.specs.Size.{size};
+ghost use Rattle.jiter_value.specs.Turns.{work_left};
+ghost use Rattle.jiter_value.specs.Value.{view, MayGrow};
 
 use crate::parse::reading::{error_at, finish_whole};
 use crate::parse::settings::Settings;
@@ -11,7 +13,7 @@ use crate::parse::string_storage::Borrowing;
 use crate::parse::turns::{AnyKey, Reading};
 use crate::value::JsonValue;
 use jiter_scan::errors::{FaultKind, fault_at};
-use jiter_scan::{JsonError, PartialMode};
+use jiter_scan::{JsonError, JsonErrorType, PartialMode};
 use jiter_steps::parse::Parser;
 use jiter_steps::read_error::ReadError;
 use jiter_steps::whitespace::past_blanks;
@@ -36,22 +38,30 @@ use std::marker::Model;
 #[derive(Drop)]
 pub struct Machine<'j> {
     bytes: &'j [u8],
-    reading: Reading<'j>,
-    begun: bool,
-    ghost within: { reading.at ≤ length bytes.now },
+    stage: Stage<'j>,
+    ghost within: { position_in stage ≤ length bytes.now },
+}
+
+// A reading is some 300 bytes long. In a box, a turn moves only a pointer to it.
+#[derive(Drop)]
+enum Stage<'j> {
+    // No turn was taken, and nothing is allocated.
+    New(Global, Settings),
+    // The first turn was taken.
+    Begun(Box<Reading<'j>>),
 }
 
 impl<'j> Model for Machine<'j> {
-    ghost use Rattle.jiter_value.specs.Machine.{Progress, progress, IsReadingOn};
+    ghost use Rattle.jiter_value.specs.Machine.{Progress, progress, IsUnderWay};
     ghost use Rattle.jiter_value.specs.ValueCode.{codes};
 
     ghost Value = { Progress };
 
     ghost coded = { Prim.hlevel codes };
 
-    ghost view = { λ m. progress m.bytes.now m.reading m.within };
+    ghost view = { λ m. progress m.bytes.now m.stage m.within };
 
-    ghost invariant = { λ m. IsReadingOn m.begun m.bytes.now m.reading };
+    ghost invariant = { λ m. IsUnderWay m.bytes.now m.stage };
 }
 
 /// What a turn returns: a machine for the next turn, or the result.
@@ -63,21 +73,17 @@ pub enum Turn<'j> {
     Done(Result<JsonValue<'j>, JsonError>),
 }
 
-// Skips the whitespace before the value, once. If the input ends there, stores the error and returns `false`.
+// Skips the whitespace before the value. If the input ends there, stores the error and returns `false`.
 #[inline(always)]
-fn begin<'j>(reading: &mut Reading<'j>, bytes: &'j [u8], begun: bool) -> bool
-    requires { IsReadingOn begun bytes.now reading.old }
-    ensures begun { result ≡ true → IsReadingOn true bytes.now reading.new }
+fn begin<'j>(reading: &mut Reading<'j>, bytes: &'j [u8]) -> bool
+    requires { IsNew reading.old }
+    ensures begun { result ≡ true → IsReadingOn bytes.now reading.new }
     ensures over { result ≡ false → IsOver bytes.now reading.new }
     ensures given_up { result ≡ false → reading.new.state ≡ State.GivenUp }
-    ensures forward { result ≡ true → reading.old.at ≤ reading.new.at }
     ensures stacks { result ≡ true → reading.new.stacks ≡ reading.old.stacks }
     ensures state { result ≡ true → reading.new.state ≡ reading.old.state }
     ensures settings { reading.new.settings ≡ reading.old.settings }
 {
-    if begun {
-        return true;
-    }
     reading.at = past_blanks(bytes, 0);
     if reading.at < bytes.len() {
         return true;
@@ -86,6 +92,31 @@ fn begin<'j>(reading: &mut Reading<'j>, bytes: &'j [u8], begun: bool) -> bool
     reading.stacks.error = ReadError::Fault(fault);
     reading.state = State::GivenUp;
     false
+}
+
+// Takes one turn and returns whether more is awaited.
+#[inline(always)]
+fn take_turn<'j>(reading: &mut Reading<'j>, bytes: &'j [u8]) -> bool
+    requires { IsReadingOn bytes.now reading.old }
+    ensures on { result ≡ true → IsReadingOn bytes.now reading.new }
+    ensures over { result ≡ false → IsOver bytes.now reading.new }
+    ensures forward { reading.old.at ≤ reading.new.at }
+    ensures work_left { result ≡ true → work_left bytes.now reading.new.stacks reading.new.at
+        < work_left bytes.now reading.old.stacks reading.old.at }
+    ensures held { result ≡ true → held_by reading.new ≤ held_by reading.old + 1 }
+    ensures size { reading.new.state ≡ State.Done
+        → size (view reading.new.stacks.root) ≤ held_by reading.old + 1 }
+    ensures settings { reading.new.settings ≡ reading.old.settings }
+{
+    match reading.go::<Borrowing<'j>, AnyKey, true>(Borrowing { bytes }, &mut AnyKey, bytes) {
+        State::Done => false,
+        State::GivenUp => false,
+        _ => {
+            // The machine's invariant: between turns the root is `Null`.
+            drop_root(&mut reading.stacks);
+            true
+        }
+    }
 }
 
 // The result of a reading that has ended.
@@ -118,7 +149,10 @@ fn answer<'j>(reading: &mut Reading<'j>, bytes: &'j [u8]) -> Result<JsonValue<'j
 }
 
 impl<'j> Machine<'j> {
+    ghost use Rattle.std.specs.Prelude.{◌≡◌, ◌≤◌, ◌+◌, ◌*◌, length};
+    ghost use Rattle.jiter_value.specs.Machine.{turns_left, held, progress};
     ghost use Rattle.jiter_value.specs.TurnsTo.{TurnsTo};
+    ghost use Rattle.jiter_value.specs.declared.parse.machine.Stage.TheVariants as stage;
 
     /// Creates a machine at index 0, with the settings of [`JsonValue::parse_with_config`].
     ///
@@ -142,8 +176,29 @@ impl<'j> Machine<'j> {
         };
         Machine {
             bytes,
-            reading: Reading::new(alloc, settings),
-            begun: false,
+            stage: Stage::New(alloc, settings),
+        }
+    }
+
+    // Takes the first turn. Only a reading that goes on is put in a box: a scalar needs no memory for one.
+    #[inline(never)]
+    fn first_turn(alloc: Global, bytes: &'j [u8], settings: Settings) -> Turn<'j>
+        ensures { (h : 0 ≤ length bytes.now) → TurnsTo (progress bytes.now (stage.New alloc settings) h) result }
+    {
+        let mut reading = Reading::new(alloc, settings);
+        if !begin(&mut reading, bytes) || !take_turn(&mut reading, bytes) {
+            return Turn::Done(answer(&mut reading, bytes));
+        }
+        let index = reading.at;
+        match Box::new(alloc, reading) {
+            Ok(reading) => Turn::More(Machine {
+                bytes,
+                stage: Stage::Begun(reading),
+            }),
+            Err(_) => Turn::Done(Err(JsonError {
+                error_type: JsonErrorType::OutOfMemory,
+                index,
+            })),
         }
     }
 
@@ -153,25 +208,18 @@ impl<'j> Machine<'j> {
     pub fn turn(self) -> Turn<'j>
         ensures { TurnsTo self.entry result }
     {
-        let Machine {
-            bytes,
-            reading: old,
-            begun,
-        } = self;
-        let mut reading = old;
-        if !begin(&mut reading, bytes, begun) {
-            return Turn::Done(answer(&mut reading, bytes));
-        }
-        match reading.go::<Borrowing<'j>, AnyKey, true>(Borrowing { bytes }, &mut AnyKey, bytes) {
-            State::Done => Turn::Done(answer(&mut reading, bytes)),
-            State::GivenUp => Turn::Done(answer(&mut reading, bytes)),
-            _ => {
-                // The machine's invariant: between turns the root is `Null`.
-                drop_root(&mut reading.stacks);
+        let Machine { bytes, stage } = self;
+        match stage {
+            Stage::New(alloc, settings) => Machine::first_turn(alloc, bytes, settings),
+            Stage::Begun(boxed) => {
+                let mut boxed = boxed;
+                let reading = &mut *boxed;
+                if !take_turn(reading, bytes) {
+                    return Turn::Done(answer(reading, bytes));
+                }
                 Turn::More(Machine {
                     bytes,
-                    reading,
-                    begun: true,
+                    stage: Stage::Begun(boxed),
                 })
             }
         }

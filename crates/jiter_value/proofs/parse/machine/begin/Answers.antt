@@ -4,17 +4,13 @@ use Rattle.jiter_scan.specs.Kind.{eof_value}
 use Rattle.jiter_value.proofs.WholeTextAnswers.{answer-none, begins-at-value}
 use Rattle.jiter_value.proofs.parse.machine.begin.Goals as goal
 
-pub returns-then-begun-clause-begun : goal.returns-then-begun-clause-begun
-returns-then-begun-clause-begun c = λ _. rw c.if-begun.true at c.requires
-
 pub returns-then-reading-bytes-clause-begun : goal.returns-then-reading-bytes-clause-begun
 returns-then-reading-bytes-clause-begun c = λ _.
     let r = c.args.reading.now in
-    let t = c.args.bytes.now in
-    let u = rw c.if-begun.false at c.requires in
+    let new = c.requires in
     let blanks = c.past_blanks-reading in
-    rw (u.2, sym blanks.ensures.value)
-    (begins-at-value borrowed ⊥ r.settings t r.stacks blanks.result u.0 c.if-reading-bytes.true, tt, u.3)
+    rw (new.1, sym blanks.ensures.value)
+    (begins-at-value borrowed ⊥ r.settings c.args.bytes.now r.stacks blanks.result new.0 c.if-reading-bytes.true, tt, new.2)
 
 pub returns-clause-over : goal.returns-clause-over
 returns-clause-over c = λ _.
@@ -29,8 +25,3 @@ returns-clause-over c = λ _.
       tt,
       tt,
     )
-
-pub returns-then-reading-bytes-clause-forward : goal.returns-then-reading-bytes-clause-forward
-returns-then-reading-bytes-clause-forward c = λ _.
-    let u = rw c.if-begun.false at c.requires in
-    omega (arith, u.1)
