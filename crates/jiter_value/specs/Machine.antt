@@ -1,5 +1,6 @@
 -- The machine as contracts see it.
-use Rattle.std.specs.Prelude.{◌≡◌, ℕ, ◌≤◌, List, [], length, reverse, Err}
+use Rattle.std.specs.Prelude.{◌≡◌, ℕ, ◌≤◌, List, [], length, reverse, Option, None, Some, Err}
+use Rattle.std.specs.Global.{Box}
 use Rattle.jiter_steps.specs.Blank.{past_blanks}
 use Rattle.jiter_steps.specs.ReadError.{WhereRefused}
 use Rattle.jiter_value.specs.Reading.{GivesWhole}
@@ -8,8 +9,6 @@ use Rattle.jiter_value.specs.Size.{held_in, left_at}
 use Rattle.jiter_value.specs.Stacks.{Member, Stands}
 use Rattle.jiter_value.specs.Turns.{GoesOn, HasReached}
 use Rattle.jiter_value.specs.Value.{MayGrow}
-use Rattle.jiter_value.specs.declared.parse.machine.Stage.{Stage}
-use Rattle.jiter_value.specs.declared.parse.machine.Stage.TheVariants as stage
 use Rattle.jiter_value.specs.declared.parse.settings.Settings.{Settings}
 use Rattle.jiter_value.specs.declared.parse.stacks.OpenContainer.{OpenContainer}
 use Rattle.jiter_value.specs.declared.parse.stacks.Slot.TheVariants as slot
@@ -45,13 +44,13 @@ progress_of t r h = record {
   within = h;
 }
 
--- where a machine is, and all that it holds: of a new one nothing is read
-abbrev pub position_in : Stage → ℕ
-position_in (stage.New a p) = 0
-position_in (stage.Begun b) = b.value.at
+-- where a machine is, and all that it holds: before its first turn it has no reading
+abbrev pub position_in : Option (Box Reading) → ℕ
+position_in None = 0
+position_in (Some b) = b.value.at
 
-abbrev pub progress : (t : List ℕ) → (a : Stage) → position_in a ≤ length t → Progress
-progress t (stage.New a p) h = record {
+abbrev pub progress : (t : List ℕ) → Settings → (r : Option (Box Reading)) → position_in r ≤ length t → Progress
+progress t p None h = record {
   text = t;
   settings = p;
   position = 0;
@@ -61,7 +60,7 @@ progress t (stage.New a p) h = record {
   state = state.Root;
   within = h;
 }
-progress t (stage.Begun b) h = progress_of t b.value h
+progress t p (Some b) h = progress_of t b.value h
 
 -- how much is left to do
 abbrev pub turns_left : Progress → ℕ
@@ -86,9 +85,9 @@ IsGoingOn t p i a s = HasReached borrowed ⊥ t (past_blanks t 0) p s i a × Goe
 abbrev pub IsReadingOn : List ℕ → Reading → Type 0
 IsReadingOn t r = IsGoingOn t r.settings r.at r.state r.stacks
 
-abbrev pub IsUnderWay : List ℕ → Stage → Type 0
-IsUnderWay t (stage.New a p) = Unit {0}
-IsUnderWay t (stage.Begun b) = IsReadingOn t b.value
+abbrev pub IsUnderWay : List ℕ → Option (Box Reading) → Type 0
+IsUnderWay t None = Unit {0}
+IsUnderWay t (Some b) = IsReadingOn t b.value
 
 -- The reading of a text has ended: its value is beside the stacks, or it was given up for what the text answers.
 abbrev pub HasEnded : List ℕ → Settings → ℕ → State → Stacks → Type 0

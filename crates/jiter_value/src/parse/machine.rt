@@ -37,18 +37,12 @@ use std::marker::Model;
 /// ```
 #[derive(Drop)]
 pub struct Machine<'j> {
+    alloc: Global,
+    settings: Settings,
+    // From the first turn on. A reading is some 300 bytes long: in a box, a turn moves only a pointer to it.
+    reading: Option<Box<Reading<'j>>>,
     bytes: &'j [u8],
-    stage: Stage<'j>,
-    ghost within: { position_in stage ≤ length bytes.now },
-}
-
-// A reading is some 300 bytes long. In a box, a turn moves only a pointer to it.
-#[derive(Drop)]
-enum Stage<'j> {
-    // No turn was taken, and nothing is allocated.
-    New(Global, Settings),
-    // The first turn was taken.
-    Begun(Box<Reading<'j>>),
+    ghost within: { position_in reading ≤ length bytes.now },
 }
 
 impl<'j> Model for Machine<'j> {
@@ -59,9 +53,9 @@ impl<'j> Model for Machine<'j> {
 
     ghost coded = { Prim.hlevel codes };
 
-    ghost view = { λ m. progress m.bytes.now m.stage m.within };
+    ghost view = { λ m. progress m.bytes.now m.settings m.reading m.within };
 
-    ghost invariant = { λ m. IsUnderWay m.bytes.now m.stage };
+    ghost invariant = { λ m. IsUnderWay m.bytes.now m.reading };
 }
 
 /// What a turn returns: a machine for the next turn, or the result.
@@ -149,10 +143,9 @@ fn answer<'j>(reading: &mut Reading<'j>, bytes: &'j [u8]) -> Result<JsonValue<'j
 }
 
 impl<'j> Machine<'j> {
-    ghost use Rattle.std.specs.Prelude.{◌≡◌, ◌≤◌, ◌+◌, ◌*◌, length};
+    ghost use Rattle.std.specs.Prelude.{◌≡◌, ◌≤◌, ◌+◌, ◌*◌, None, length};
     ghost use Rattle.jiter_value.specs.Machine.{turns_left, held, progress};
     ghost use Rattle.jiter_value.specs.TurnsTo.{TurnsTo};
-    ghost use Rattle.jiter_value.specs.declared.parse.machine.Stage.TheVariants as stage;
 
     /// Creates a machine at index 0, with the settings of [`JsonValue::parse_with_config`].
     ///
@@ -175,15 +168,17 @@ impl<'j> Machine<'j> {
             mode: allow_partial,
         };
         Machine {
+            alloc,
+            settings,
+            reading: None,
             bytes,
-            stage: Stage::New(alloc, settings),
         }
     }
 
     // Takes the first turn. Only a reading that goes on is put in a box: a scalar needs no memory for one.
     #[inline(never)]
     fn first_turn(alloc: Global, bytes: &'j [u8], settings: Settings) -> Turn<'j>
-        ensures { (h : 0 ≤ length bytes.now) → TurnsTo (progress bytes.now (stage.New alloc settings) h) result }
+        ensures { (h : 0 ≤ length bytes.now) → TurnsTo (progress bytes.now settings None h) result }
     {
         let mut reading = Reading::new(alloc, settings);
         if !begin(&mut reading, bytes) || !take_turn(&mut reading, bytes) {
@@ -192,8 +187,10 @@ impl<'j> Machine<'j> {
         let index = reading.at;
         match Box::new(alloc, reading) {
             Ok(reading) => Turn::More(Machine {
+                alloc,
+                settings,
+                reading: Some(reading),
                 bytes,
-                stage: Stage::Begun(reading),
             }),
             Err(_) => Turn::Done(Err(JsonError {
                 error_type: JsonErrorType::OutOfMemory,
@@ -208,20 +205,25 @@ impl<'j> Machine<'j> {
     pub fn turn(self) -> Turn<'j>
         ensures { TurnsTo self.entry result }
     {
-        let Machine { bytes, stage } = self;
-        match stage {
-            Stage::New(alloc, settings) => Machine::first_turn(alloc, bytes, settings),
-            Stage::Begun(boxed) => {
-                let mut boxed = boxed;
-                let reading = &mut *boxed;
-                if !take_turn(reading, bytes) {
-                    return Turn::Done(answer(reading, bytes));
-                }
-                Turn::More(Machine {
-                    bytes,
-                    stage: Stage::Begun(boxed),
-                })
-            }
+        let Machine {
+            alloc,
+            settings,
+            reading,
+            bytes,
+        } = self;
+        let mut boxed = match reading {
+            None => return Machine::first_turn(alloc, bytes, settings),
+            Some(boxed) => boxed,
+        };
+        let reading = &mut *boxed;
+        if !take_turn(reading, bytes) {
+            return Turn::Done(answer(reading, bytes));
         }
+        Turn::More(Machine {
+            alloc,
+            settings,
+            reading: Some(boxed),
+            bytes,
+        })
     }
 }
