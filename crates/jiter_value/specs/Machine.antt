@@ -6,12 +6,11 @@ use Rattle.jiter_steps.specs.ReadError.{WhereRefused}
 use Rattle.jiter_value.specs.Reading.{GivesWhole}
 use Rattle.jiter_value.specs.Settings.{answer_as, borrowed}
 use Rattle.jiter_value.specs.Size.{held_in, left_at}
-use Rattle.jiter_value.specs.Stacks.{Member, Stands}
+use Rattle.jiter_value.specs.Stacks.{Member}
 use Rattle.jiter_value.specs.Turns.{GoesOn, HasReached}
 use Rattle.jiter_value.specs.Value.{MayGrow}
 use Rattle.jiter_value.specs.declared.parse.settings.Settings.{Settings}
 use Rattle.jiter_value.specs.declared.parse.stacks.OpenContainer.{OpenContainer}
-use Rattle.jiter_value.specs.declared.parse.stacks.Slot.TheVariants as slot
 use Rattle.jiter_value.specs.declared.parse.stacks.Stacks.{Stacks}
 use Rattle.jiter_value.specs.declared.parse.stacks.State.{State}
 use Rattle.jiter_value.specs.declared.parse.stacks.State.TheVariants as state
@@ -32,19 +31,7 @@ pub record Progress : Type 0 where
   pub state : State
   pub within : position ≤ length text
 
-abbrev pub progress_of : (t : List ℕ) → (r : Reading) → r.at ≤ length t → Progress
-progress_of t r h = record {
-  text = t;
-  settings = r.settings;
-  position = r.at;
-  elements = r.stacks.items.items;
-  members = r.stacks.members.items;
-  nest = r.stacks.nest.items;
-  state = r.state;
-  within = h;
-}
-
--- where a machine is, and all that it holds: before its first turn it has no reading
+-- where the reading is: before the first turn there is none
 abbrev pub position_in : Option (Box Reading) → ℕ
 position_in None = 0
 position_in (Some b) = b.value.at
@@ -60,7 +47,16 @@ progress t p None h = record {
   state = state.Root;
   within = h;
 }
-progress t p (Some b) h = progress_of t b.value h
+progress t p (Some b) h = record {
+  text = t;
+  settings = b.value.settings;
+  position = b.value.at;
+  elements = b.value.stacks.items.items;
+  members = b.value.stacks.members.items;
+  nest = b.value.stacks.nest.items;
+  state = b.value.state;
+  within = h;
+}
 
 -- how much is left to do
 abbrev pub turns_left : Progress → ℕ
@@ -74,20 +70,12 @@ held m = held_in m.state (reverse m.nest) m.elements m.members 0
 abbrev pub held_by : Reading → ℕ
 held_by r = held_in r.state (reverse r.stacks.nest.items) r.stacks.items.items r.stacks.members.items 0
 
--- nothing is read yet
-abbrev pub IsNew : Reading → Type 0
-IsNew r = Stands r.stacks slot.Root × (r.state ≡ state.Root) × (r.stacks.root ≡ Null)
-
 -- Turns led here, and more of the text's value is awaited; no value is beside the stacks.
-abbrev pub IsGoingOn : List ℕ → Settings → ℕ → State → Stacks → Type 0
-IsGoingOn t p i a s = HasReached borrowed ⊥ t (past_blanks t 0) p s i a × GoesOn a × (s.root ≡ Null)
+abbrev pub IsUnderWay : List ℕ → Settings → ℕ → State → Stacks → Type 0
+IsUnderWay t p i a s = HasReached borrowed ⊥ t (past_blanks t 0) p s i a × GoesOn a × (s.root ≡ Null)
 
 abbrev pub IsReadingOn : List ℕ → Reading → Type 0
-IsReadingOn t r = IsGoingOn t r.settings r.at r.state r.stacks
-
-abbrev pub IsUnderWay : List ℕ → Option (Box Reading) → Type 0
-IsUnderWay t None = Unit {0}
-IsUnderWay t (Some b) = IsReadingOn t b.value
+IsReadingOn t r = IsUnderWay t r.settings r.at r.state r.stacks
 
 -- The reading of a text has ended: its value is beside the stacks, or it was given up for what the text answers.
 abbrev pub HasEnded : List ℕ → Settings → ℕ → State → Stacks → Type 0

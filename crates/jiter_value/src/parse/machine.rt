@@ -1,7 +1,8 @@
 //! A parse that the caller takes on turn by turn.
 ghost use Rattle.std.specs.Prelude.{◌≡◌, ◌≤◌, ◌<◌, ◌+◌, ◌*◌, IfOk, false, length, true};
-ghost use Rattle.jiter_value.specs.Machine.{held_by, position_in, IsNew, IsOver, IsReadingOn};
+ghost use Rattle.jiter_value.specs.Machine.{held_by, position_in, IsOver, IsReadingOn};
 ghost use Rattle.jiter_value.specs.Parses.{Parses, as_read};
+ghost use Rattle.jiter_value.specs.Scratch.{IsCleared};
 ghost use Rattle.jiter_value.specs.Size.{size};
 ghost use Rattle.jiter_value.specs.Turns.{work_left};
 ghost use Rattle.jiter_value.specs.Value.{view, MayGrow};
@@ -46,7 +47,8 @@ pub struct Machine<'j> {
 }
 
 impl<'j> Model for Machine<'j> {
-    ghost use Rattle.jiter_value.specs.Machine.{Progress, progress, IsUnderWay};
+    ghost use Rattle.std.specs.Prelude.{IfSome};
+    ghost use Rattle.jiter_value.specs.Machine.{Progress, progress, IsReadingOn};
     ghost use Rattle.jiter_value.specs.ValueCode.{codes};
 
     ghost Value = { Progress };
@@ -55,7 +57,7 @@ impl<'j> Model for Machine<'j> {
 
     ghost view = { λ m. progress m.bytes.now m.settings m.reading m.within };
 
-    ghost invariant = { λ m. IsUnderWay m.bytes.now m.reading };
+    ghost invariant = { λ m. IfSome m.reading (λ b. IsReadingOn m.bytes.now b.value) };
 }
 
 /// What a turn returns: a machine for the next turn, or the result.
@@ -70,7 +72,8 @@ pub enum Turn<'j> {
 // Skips the whitespace before the value. If the input ends there, stores the error and returns `false`.
 #[inline(always)]
 fn begin<'j>(reading: &mut Reading<'j>, bytes: &'j [u8]) -> bool
-    requires { IsNew reading.old }
+    requires cleared { IsCleared reading.old.stacks }
+    requires state { reading.old.state ≡ State.Root }
     ensures begun { result ≡ true → IsReadingOn bytes.now reading.new }
     ensures over { result ≡ false → IsOver bytes.now reading.new }
     ensures given_up { result ≡ false → reading.new.state ≡ State.GivenUp }

@@ -1,16 +1,17 @@
 use Rattle.jiter_value.proofs.Words.{refl, ap, ◌∙◌, sym, arith, slice_get, value_first, borrowed, rules_as}
 use Rattle.std.proofs.lemmas.Option.{slice_get_past}
 use Rattle.jiter_scan.specs.Kind.{eof_value}
-use Rattle.jiter_value.proofs.WholeTextAnswers.{answer-none, begins-at-value}
+use Rattle.jiter_value.proofs.Ended.{come-first}
+use Rattle.jiter_value.proofs.WholeTextAnswers.{answer-none}
 use Rattle.jiter_value.proofs.parse.machine.begin.Goals as goal
 
 pub returns-then-reading-bytes-clause-begun : goal.returns-then-reading-bytes-clause-begun
 returns-then-reading-bytes-clause-begun c = λ _.
     let r = c.args.reading.now in
-    let new = c.requires in
+    let cleared = c.requires.cleared in
     let blanks = c.past_blanks-reading in
-    rw (new.1, sym blanks.ensures.value)
-    (begins-at-value borrowed ⊥ r.settings c.args.bytes.now r.stacks blanks.result new.0 c.if-reading-bytes.true, tt, new.2)
+    rw (c.requires.state, sym blanks.ensures.value)
+    (come-first borrowed ⊥ r.settings c.args.bytes.now r.stacks blanks.result cleared.holds c.if-reading-bytes.true, tt, cleared.root)
 
 pub returns-clause-over : goal.returns-clause-over
 returns-clause-over c = λ _.
