@@ -1,5 +1,5 @@
 -- A machine under way, row by row: before its first turn, at the first byte and after a bracket.
-use Rattle.std.proofs.Common.{◌≡◌, ◌<◌, inl, inr, true, false, List, [], ◌∷◌, Vec, refl, ◌∙◌, arith, codes, pos}
+use Rattle.std.proofs.Common.{◌≡◌, ◌≤◌, ◌<◌, inl, inr, true, List, [], ◌∷◌, None, Vec, refl, ◌∙◌, arith, codes, pos}
 use Rattle.std.specs.Prelude.{vec_capacity, vec_len}
 use Rattle.std.specs.declared.alloc.Global.{Global}
 use Rattle.jiter_steps.specs.Read.{done}
@@ -55,7 +55,12 @@ module _ (p : Settings) (error : ReadError) (es : Vec JsonValue Global) (ms : Ve
         refl,
       )
 
-  -- No item is there that was not read.
+  -- Before its first part no byte is passed, and no item is there that was not read.
+  no_byte_passed : IsUnderWay (codes "[1]") p 1 state.Root (stacks error es ms [] Null) → ⊥
+  no_byte_passed h = by (unfold computed_readings in h.0.reaches.0) where
+    by : done (listed (int (pos 1) ∷ [])) 3 ≡ done (int (pos 1)) 2 → ⊥
+    by e = cc
+
   no_other_item : (more : Vec JsonValue Global) → more.items ≡ Null ∷ []
       → IsUnderWay (codes "[1]") p 1 state.Item (stacks error more ms (outermost ∷ []) Null) → ⊥
   no_other_item more has h = by (unfold computed_readings in h.0.reaches.0 ∙ rw has refl) where
