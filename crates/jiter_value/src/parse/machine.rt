@@ -40,7 +40,7 @@ use std::marker::Model;
 pub struct Machine<'j> {
     alloc: Global,
     settings: Settings,
-    // From the first turn on. A reading is some 300 bytes long: in a box, a turn moves only a pointer to it.
+    // There is one from the first turn on. It is in a box, so that a turn doesn't move its 300 bytes.
     reading: Option<Box<Reading<'j>>>,
     bytes: &'j [u8],
     ghost within: { position_in reading ≤ length bytes.now },
@@ -178,7 +178,7 @@ impl<'j> Machine<'j> {
         }
     }
 
-    // Takes the first turn. Only a reading that goes on is put in a box: a scalar needs no memory for one.
+    // Takes the first turn. Only a reading that goes on is put in a box, as a parse of a scalar may not allocate.
     #[inline(never)]
     fn first_turn(alloc: Global, bytes: &'j [u8], settings: Settings) -> Turn<'j>
         ensures { (h : 0 ≤ length bytes.now) → TurnsTo (progress bytes.now settings None h) result }
@@ -204,7 +204,8 @@ impl<'j> Machine<'j> {
 
     /// Takes one turn: reads one scalar, opening bracket or key, and the steps after it, closing brackets included.
     ///
-    /// The last turn returns the result in [`Turn::Done`]. Its errors are those of [`JsonValue::parse_with_config`].
+    /// The last turn returns the result in [`Turn::Done`]. Its errors are those of [`JsonValue::parse_with_config`]. The
+    /// first turn allocates a block of some 300 bytes, unless it is the last one.
     pub fn turn(self) -> Turn<'j>
         ensures { TurnsTo self.entry result }
     {
