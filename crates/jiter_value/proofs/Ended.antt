@@ -1,18 +1,16 @@
 -- Where a reading begins, and where it has ended.
-use Rattle.jiter_value.proofs.Words.{◌≡◌, ◌≢◌, ◌∙◌, inl, inr, ℕ, ◌+◌, ◌<◌, ◌≤◌, List, [], ap₂, arith, length, refl}
-use Rattle.jiter_value.proofs.Words.{reverse, subst, Err, IfOk, Returns, done, value_at, WhereRefused, ReadError}
-use Rattle.jiter_value.proofs.Words.{HoldsNothing, TextPolicy, rules_as, HaveKeys, Member, keys_of, held, held_in, size}
-use Rattle.jiter_value.proofs.Words.{GoesOn, HasReached, MayGrowFor, outcome, view, MayGrowBy, Settings, Stacks, State}
+use Rattle.jiter_value.proofs.Words.{◌≡◌, ◌≢◌, inl, inr, ℕ, ◌<◌, ◌≤◌, List, [], length, refl}
+use Rattle.jiter_value.proofs.Words.{subst, Err, Returns, done, value_at, WhereRefused, ReadError}
+use Rattle.jiter_value.proofs.Words.{HoldsNothing, TextPolicy, rules_as, HaveKeys, Member, keys_of}
+use Rattle.jiter_value.proofs.Words.{GoesOn, HasReached, MayGrowFor, view, MayGrowBy, Settings, Stacks, State}
 use Rattle.jiter_value.proofs.Words.{JsonValue, past_blanks, borrowed}
 use Rattle.jiter_steps.specs.declared.read_error.ReadError.TheVariants as error
-use Rattle.jiter_value.specs.Turns.{HasTurned}
-use Rattle.jiter_value.specs.declared.parse.turns.Reading.{Reading}
 use Rattle.jiter_value.specs.declared.parse.stacks.State.TheVariants as state
 use Rattle.jiter_value.proofs.StackTurns.{root-holds-nothing, root-stands}
 use Rattle.jiter_value.specs.Machine.{HasEnded}
 use Rattle.jiter_value.proofs.KeptKeys.{leaves-all}
 use Rattle.jiter_value.proofs.TurnOutcomes.{grows-borrowing, refused-any, refused-weaker}
-use Rattle.jiter_value.proofs.WholeTextAnswers.{answer-refused, begins-at-value, fails-gives, held-begun}
+use Rattle.jiter_value.proofs.WholeTextAnswers.{answer-refused, begins-at-value, fails-gives}
 
 -- With nothing held, a reading begins where a value does,
 pub come-first : (policy : TextPolicy) (W : Type 0) (p : Settings) (t : List ℕ) (s : Stacks) (i : ℕ) → HoldsNothing s
@@ -90,14 +88,3 @@ has-ended t p s j state.GivenUp come over =
           (failed-memory borrowed ⊥ t i p s j state.GivenUp come refl),
       refused-any JsonValue s.error (i ≤ j) come.within.0,
     )
-
--- how much a value that a turn ends counts
-pub turned-size : (t : List ℕ) (old new : Reading) (s : Stacks) (a : State) → HasTurned t old new → GoesOn old.state
-    → new.state ≡ state.Done → old.stacks ≡ s → old.state ≡ a
-    → size (view new.stacks.root) ≤ held_in a (reverse s.nest.items) s.items.items s.members.items 0 + 1
-turned-size t old new s a turned on over same begun =
-    let few = subst (λ b. IfOk (outcome new.stacks b) (λ b. held new.stacks b ≤ held old.stacks old.state + 1)) over turned.held
-    in
-    let was = held-begun old.stacks old.state on
-    ∙ ap₂ (λ s a. held_in a (reverse s.nest.items) s.items.items s.members.items 0) same begun in
-    omega (arith, few, was)

@@ -5,8 +5,8 @@ use Rattle.jiter_value.proofs.Words.{Kind, fault_kind, if_case, if_both, is_acti
 use Rattle.jiter_value.proofs.Words.{PartialMode, Off, On, TrailingStrings, answer_in, past_blanks, Returns, Reading}
 use Rattle.jiter_value.proofs.Words.{done, fault, Rules, value_at, if_begun, if_last, to_end, prefix_answer}
 use Rattle.jiter_value.proofs.Words.{whole_answer, step, value_first, Text, Tree, ReadError, whole-is, Within}
-use Rattle.jiter_value.proofs.Words.{GivesWhole, IsErrorOf, TextPolicy, answer_with, view, Answers, held, held_in, Stands}
-use Rattle.jiter_value.proofs.Words.{Fails, GoesOn, HasReached, Settings, Stacks, State}
+use Rattle.jiter_value.proofs.Words.{GivesWhole, IsErrorOf, TextPolicy, answer_with, view, Answers, Stands}
+use Rattle.jiter_value.proofs.Words.{Fails, HasReached, Settings, Stacks}
 use Rattle.jiter_scan.proofs.Choices.{if-true, if-false}
 use Rattle.jiter_steps.specs.Step.{document_end}
 use Rattle.jiter_steps.specs.declared.read_error.ReadError.TheVariants as error
@@ -131,13 +131,3 @@ begins-at-value policy W p t s i b lt =
       within = (omega arith, omega (arith, lt));
       grows = inl (refl, refl);
     }
-
--- what is held then, as the machine shows it
-pub held-begun : (s : Stacks) (a : State) → GoesOn a
-    → held s a ≡ held_in a (reverse s.nest.items) s.items.items s.members.items 0
-held-begun s state.Root on = refl
-held-begun s state.Item on = refl
-held-begun s state.Member on = refl
-held-begun s state.Key on = refl
-held-begun s state.Done on = absurd on
-held-begun s state.GivenUp on = absurd on

@@ -1,16 +1,16 @@
 -- The machine as contracts see it.
-use Rattle.std.specs.Prelude.{◌≡◌, ℕ, ◌≤◌, Bool, true, false, List, length, reverse, Err}
+use Rattle.std.specs.Prelude.{◌≡◌, ℕ, ◌≤◌, List, [], length, reverse, Option, None, Some, Err}
+use Rattle.std.specs.Global.{Box}
 use Rattle.jiter_steps.specs.Blank.{past_blanks}
 use Rattle.jiter_steps.specs.ReadError.{WhereRefused}
 use Rattle.jiter_value.specs.Reading.{GivesWhole}
 use Rattle.jiter_value.specs.Settings.{answer_as, borrowed}
 use Rattle.jiter_value.specs.Size.{held_in, left_at}
-use Rattle.jiter_value.specs.Stacks.{Member, Stands}
+use Rattle.jiter_value.specs.Stacks.{Member}
 use Rattle.jiter_value.specs.Turns.{GoesOn, HasReached}
 use Rattle.jiter_value.specs.Value.{MayGrow}
 use Rattle.jiter_value.specs.declared.parse.settings.Settings.{Settings}
 use Rattle.jiter_value.specs.declared.parse.stacks.OpenContainer.{OpenContainer}
-use Rattle.jiter_value.specs.declared.parse.stacks.Slot.TheVariants as slot
 use Rattle.jiter_value.specs.declared.parse.stacks.Stacks.{Stacks}
 use Rattle.jiter_value.specs.declared.parse.stacks.State.{State}
 use Rattle.jiter_value.specs.declared.parse.stacks.State.TheVariants as state
@@ -31,15 +31,30 @@ pub record Progress : Type 0 where
   pub state : State
   pub within : position ≤ length text
 
-abbrev pub progress : (t : List ℕ) → (r : Reading) → r.at ≤ length t → Progress
-progress t r h = record {
+-- where the reading is: before the first turn there is none
+abbrev pub position_in : Option (Box Reading) → ℕ
+position_in None = 0
+position_in (Some b) = b.value.at
+
+abbrev pub progress : (t : List ℕ) → Settings → (r : Option (Box Reading)) → position_in r ≤ length t → Progress
+progress t p None h = record {
   text = t;
-  settings = r.settings;
-  position = r.at;
-  elements = r.stacks.items.items;
-  members = r.stacks.members.items;
-  nest = r.stacks.nest.items;
-  state = r.state;
+  settings = p;
+  position = 0;
+  elements = [];
+  members = [];
+  nest = [];
+  state = state.Root;
+  within = h;
+}
+progress t p (Some b) h = record {
+  text = t;
+  settings = b.value.settings;
+  position = b.value.at;
+  elements = b.value.stacks.items.items;
+  members = b.value.stacks.members.items;
+  nest = b.value.stacks.nest.items;
+  state = b.value.state;
   within = h;
 }
 
@@ -51,13 +66,16 @@ turns_left m = left_at m.text m.nest m.position
 abbrev pub held : Progress → ℕ
 held m = held_in m.state (reverse m.nest) m.elements m.members 0
 
--- Nothing is read yet, or more of the text's value is awaited; no value is beside the stacks.
-abbrev pub IsUnderWay : Bool → List ℕ → Settings → ℕ → State → Stacks → Type 0
-IsUnderWay false t p i a s = Stands s slot.Root × (i ≡ 0) × (a ≡ state.Root) × (s.root ≡ Null)
-IsUnderWay true t p i a s = HasReached borrowed ⊥ t (past_blanks t 0) p s i a × GoesOn a × (s.root ≡ Null)
+-- the same of a reading
+abbrev pub held_by : Reading → ℕ
+held_by r = held_in r.state (reverse r.stacks.nest.items) r.stacks.items.items r.stacks.members.items 0
 
-abbrev pub IsReadingOn : Bool → List ℕ → Reading → Type 0
-IsReadingOn begun t r = IsUnderWay begun t r.settings r.at r.state r.stacks
+-- Turns led here, and more of the text's value is awaited; no value is beside the stacks.
+abbrev pub IsUnderWay : List ℕ → Settings → ℕ → State → Stacks → Type 0
+IsUnderWay t p i a s = HasReached borrowed ⊥ t (past_blanks t 0) p s i a × GoesOn a × (s.root ≡ Null)
+
+abbrev pub IsReadingOn : List ℕ → Reading → Type 0
+IsReadingOn t r = IsUnderWay t r.settings r.at r.state r.stacks
 
 -- The reading of a text has ended: its value is beside the stacks, or it was given up for what the text answers.
 abbrev pub HasEnded : List ℕ → Settings → ℕ → State → Stacks → Type 0

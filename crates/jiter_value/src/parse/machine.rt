@@ -1,8 +1,11 @@
 //! A parse that the caller takes on turn by turn.
-ghost use Rattle.std.specs.Prelude.{◌≡◌, ◌≤◌, ◌+◌, ◌*◌, IfOk, false, length, true};
-ghost use Rattle.jiter_value.specs.Machine.{turns_left, held, IsOver, IsReadingOn};
+ghost use Rattle.std.specs.Prelude.{◌≡◌, ◌≤◌, ◌<◌, ◌+◌, ◌*◌, IfOk, false, length, true};
+ghost use Rattle.jiter_value.specs.Machine.{held_by, position_in, IsOver, IsReadingOn};
 ghost use Rattle.jiter_value.specs.Parses.{Parses, as_read};
-ghost use Rattle.jiter_value.specs.Value.{MayGrow};
+ghost use Rattle.jiter_value.specs.Scratch.{IsCleared};
+ghost use Rattle.jiter_value.specs.Size.{size};
+ghost use Rattle.jiter_value.specs.Turns.{work_left};
+ghost use Rattle.jiter_value.specs.Value.{view, MayGrow};
 
 use crate::parse::reading::{error_at, finish_whole};
 use crate::parse::settings::Settings;
@@ -11,7 +14,7 @@ use crate::parse::string_storage::Borrowing;
 use crate::parse::turns::{AnyKey, Reading};
 use crate::value::JsonValue;
 use jiter_scan::errors::{FaultKind, fault_at};
-use jiter_scan::{JsonError, PartialMode};
+use jiter_scan::{JsonError, JsonErrorType, PartialMode};
 use jiter_steps::parse::Parser;
 use jiter_steps::read_error::ReadError;
 use jiter_steps::whitespace::past_blanks;
@@ -35,13 +38,16 @@ use std::marker::Model;
 /// ```
 #[derive(Drop)]
 pub struct Machine<'j> {
+    alloc: Global,
+    settings: Settings,
+    // There is one from the first turn on. It is in a box, so that a turn doesn't move its 300 bytes.
+    reading: Option<Box<Reading<'j>>>,
     bytes: &'j [u8],
-    reading: Reading<'j>,
-    begun: bool,
-    ghost within: { reading.at ≤ length bytes.now },
+    ghost within: { position_in reading ≤ length bytes.now },
 }
 
 impl<'j> Model for Machine<'j> {
+    ghost use Rattle.std.specs.Prelude.{IfSome};
     ghost use Rattle.jiter_value.specs.Machine.{Progress, progress, IsReadingOn};
     ghost use Rattle.jiter_value.specs.ValueCode.{codes};
 
@@ -49,9 +55,9 @@ impl<'j> Model for Machine<'j> {
 
     ghost coded = { Prim.hlevel codes };
 
-    ghost view = { λ m. progress m.bytes.now m.reading m.within };
+    ghost view = { λ m. progress m.bytes.now m.settings m.reading m.within };
 
-    ghost invariant = { λ m. IsReadingOn m.begun m.bytes.now m.reading };
+    ghost invariant = { λ m. IfSome m.reading (λ b. IsReadingOn m.bytes.now b.value) };
 }
 
 /// What a turn returns: a machine for the next turn, or the result.
@@ -63,21 +69,18 @@ pub enum Turn<'j> {
     Done(Result<JsonValue<'j>, JsonError>),
 }
 
-// Skips the whitespace before the value, once. If the input ends there, stores the error and returns `false`.
+// Skips the whitespace before the value. If the input ends there, stores the error and returns `false`.
 #[inline(always)]
-fn begin<'j>(reading: &mut Reading<'j>, bytes: &'j [u8], begun: bool) -> bool
-    requires { IsReadingOn begun bytes.now reading.old }
-    ensures begun { result ≡ true → IsReadingOn true bytes.now reading.new }
+fn begin<'j>(reading: &mut Reading<'j>, bytes: &'j [u8]) -> bool
+    requires cleared { IsCleared reading.old.stacks }
+    requires state { reading.old.state ≡ State.Root }
+    ensures begun { result ≡ true → IsReadingOn bytes.now reading.new }
     ensures over { result ≡ false → IsOver bytes.now reading.new }
     ensures given_up { result ≡ false → reading.new.state ≡ State.GivenUp }
-    ensures forward { result ≡ true → reading.old.at ≤ reading.new.at }
     ensures stacks { result ≡ true → reading.new.stacks ≡ reading.old.stacks }
     ensures state { result ≡ true → reading.new.state ≡ reading.old.state }
     ensures settings { reading.new.settings ≡ reading.old.settings }
 {
-    if begun {
-        return true;
-    }
     reading.at = past_blanks(bytes, 0);
     if reading.at < bytes.len() {
         return true;
@@ -86,6 +89,31 @@ fn begin<'j>(reading: &mut Reading<'j>, bytes: &'j [u8], begun: bool) -> bool
     reading.stacks.error = ReadError::Fault(fault);
     reading.state = State::GivenUp;
     false
+}
+
+// Takes one turn and returns whether more is awaited.
+#[inline(always)]
+fn take_turn<'j>(reading: &mut Reading<'j>, bytes: &'j [u8]) -> bool
+    requires { IsReadingOn bytes.now reading.old }
+    ensures on { result ≡ true → IsReadingOn bytes.now reading.new }
+    ensures over { result ≡ false → IsOver bytes.now reading.new }
+    ensures forward { reading.old.at ≤ reading.new.at }
+    ensures work_left { result ≡ true → work_left bytes.now reading.new.stacks reading.new.at
+        < work_left bytes.now reading.old.stacks reading.old.at }
+    ensures held { result ≡ true → held_by reading.new ≤ held_by reading.old + 1 }
+    ensures size { reading.new.state ≡ State.Done
+        → size (view reading.new.stacks.root) ≤ held_by reading.old + 1 }
+    ensures settings { reading.new.settings ≡ reading.old.settings }
+{
+    match reading.go::<Borrowing<'j>, AnyKey, true>(Borrowing { bytes }, &mut AnyKey, bytes) {
+        State::Done => false,
+        State::GivenUp => false,
+        _ => {
+            // The machine's invariant: between turns the root is `Null`.
+            drop_root(&mut reading.stacks);
+            true
+        }
+    }
 }
 
 // The result of a reading that has ended.
@@ -118,6 +146,8 @@ fn answer<'j>(reading: &mut Reading<'j>, bytes: &'j [u8]) -> Result<JsonValue<'j
 }
 
 impl<'j> Machine<'j> {
+    ghost use Rattle.std.specs.Prelude.{◌≡◌, ◌≤◌, ◌+◌, ◌*◌, None, length};
+    ghost use Rattle.jiter_value.specs.Machine.{turns_left, held, progress};
     ghost use Rattle.jiter_value.specs.TurnsTo.{TurnsTo};
 
     /// Creates a machine at index 0, with the settings of [`JsonValue::parse_with_config`].
@@ -141,39 +171,63 @@ impl<'j> Machine<'j> {
             mode: allow_partial,
         };
         Machine {
+            alloc,
+            settings,
+            reading: None,
             bytes,
-            reading: Reading::new(alloc, settings),
-            begun: false,
+        }
+    }
+
+    // Takes the first turn. Only a reading that goes on is put in a box, as a parse of a scalar may not allocate.
+    #[inline(never)]
+    fn first_turn(alloc: Global, bytes: &'j [u8], settings: Settings) -> Turn<'j>
+        ensures { (h : 0 ≤ length bytes.now) → TurnsTo (progress bytes.now settings None h) result }
+    {
+        let mut reading = Reading::new(alloc, settings);
+        if !begin(&mut reading, bytes) || !take_turn(&mut reading, bytes) {
+            return Turn::Done(answer(&mut reading, bytes));
+        }
+        let index = reading.at;
+        match Box::new(alloc, reading) {
+            Ok(reading) => Turn::More(Machine {
+                alloc,
+                settings,
+                reading: Some(reading),
+                bytes,
+            }),
+            Err(_) => Turn::Done(Err(JsonError {
+                error_type: JsonErrorType::OutOfMemory,
+                index,
+            })),
         }
     }
 
     /// Takes one turn: reads one scalar, opening bracket or key, and the steps after it, closing brackets included.
     ///
-    /// The last turn returns the result in [`Turn::Done`]. Its errors are those of [`JsonValue::parse_with_config`].
+    /// The last turn returns the result in [`Turn::Done`]. Its errors are those of [`JsonValue::parse_with_config`]. The
+    /// first turn allocates a block of some 300 bytes, unless it is the last one.
     pub fn turn(self) -> Turn<'j>
         ensures { TurnsTo self.entry result }
     {
         let Machine {
+            alloc,
+            settings,
+            reading,
             bytes,
-            reading: old,
-            begun,
         } = self;
-        let mut reading = old;
-        if !begin(&mut reading, bytes, begun) {
-            return Turn::Done(answer(&mut reading, bytes));
+        let mut boxed = match reading {
+            None => return Machine::first_turn(alloc, bytes, settings),
+            Some(boxed) => boxed,
+        };
+        let reading = &mut *boxed;
+        if !take_turn(reading, bytes) {
+            return Turn::Done(answer(reading, bytes));
         }
-        match reading.go::<Borrowing<'j>, AnyKey, true>(Borrowing { bytes }, &mut AnyKey, bytes) {
-            State::Done => Turn::Done(answer(&mut reading, bytes)),
-            State::GivenUp => Turn::Done(answer(&mut reading, bytes)),
-            _ => {
-                // The machine's invariant: between turns the root is `Null`.
-                drop_root(&mut reading.stacks);
-                Turn::More(Machine {
-                    bytes,
-                    reading,
-                    begun: true,
-                })
-            }
-        }
+        Turn::More(Machine {
+            alloc,
+            settings,
+            reading: Some(boxed),
+            bytes,
+        })
     }
 }

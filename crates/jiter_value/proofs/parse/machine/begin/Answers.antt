@@ -1,20 +1,17 @@
 use Rattle.jiter_value.proofs.Words.{refl, ap, ◌∙◌, sym, arith, slice_get, value_first, borrowed, rules_as}
 use Rattle.std.proofs.lemmas.Option.{slice_get_past}
 use Rattle.jiter_scan.specs.Kind.{eof_value}
-use Rattle.jiter_value.proofs.WholeTextAnswers.{answer-none, begins-at-value}
+use Rattle.jiter_value.proofs.Ended.{come-first}
+use Rattle.jiter_value.proofs.WholeTextAnswers.{answer-none}
 use Rattle.jiter_value.proofs.parse.machine.begin.Goals as goal
-
-pub returns-then-begun-clause-begun : goal.returns-then-begun-clause-begun
-returns-then-begun-clause-begun c = λ _. rw c.if-begun.true at c.requires
 
 pub returns-then-reading-bytes-clause-begun : goal.returns-then-reading-bytes-clause-begun
 returns-then-reading-bytes-clause-begun c = λ _.
     let r = c.args.reading.now in
-    let t = c.args.bytes.now in
-    let u = rw c.if-begun.false at c.requires in
+    let cleared = c.requires.cleared in
     let blanks = c.past_blanks-reading in
-    rw (u.2, sym blanks.ensures.value)
-    (begins-at-value borrowed ⊥ r.settings t r.stacks blanks.result u.0 c.if-reading-bytes.true, tt, u.3)
+    rw (c.requires.state, sym blanks.ensures.value)
+    (come-first borrowed ⊥ r.settings c.args.bytes.now r.stacks blanks.result cleared.holds c.if-reading-bytes.true, tt, cleared.root)
 
 pub returns-clause-over : goal.returns-clause-over
 returns-clause-over c = λ _.
@@ -29,8 +26,3 @@ returns-clause-over c = λ _.
       tt,
       tt,
     )
-
-pub returns-then-reading-bytes-clause-forward : goal.returns-then-reading-bytes-clause-forward
-returns-then-reading-bytes-clause-forward c = λ _.
-    let u = rw c.if-begun.false at c.requires in
-    omega (arith, u.1)
