@@ -1,12 +1,11 @@
 //! A client of the pull reader, which builds a value by peeks, steps and scalar reads alone. A submodule parses two
 //! prefixes of one document.
 ghost use Rattle.std.specs.Prelude.{◌≡◌, ◌≤◌, ◌+◌, IfOk, OnErr, IsSome, false, option_map};
-ghost use Rattle.jiter.specs.Words.{out_of_memory, number_view, start_of, number_tree, text_view, whole};
-ghost use Rattle.jiter.specs.Words.{step, array_first, object_first, owned_text, owned_tree};
-ghost use Rattle.jiter.specs.Words.{HoldsBorrowedTextOrPart, view, LeadsOn, json_error, built, built_inside};
-ghost use Rattle.jiter.specs.Words.{own_text, IsTruthOrNothing, OwnedMayGrowAt, RefusesBytes, WhereMemory};
-ghost use Rattle.jiter.specs.Words.{reply_seen, StandsAt, byte_of, refusal_view, Reads, anywhere};
-ghost use Rattle.jiter.specs.Words.{owned_value_memory, value_place, next, known, value_read, object_read};
+ghost use Rattle.jiter.specs.Words.{out_of_memory, number_view, start_of, number_tree, text_view, whole, step, view};
+ghost use Rattle.jiter.specs.Words.{array_first, object_first, owned_text, owned_tree, HoldsBorrowedTextOrPart, built};
+ghost use Rattle.jiter.specs.Words.{LeadsOn, json_error, built_inside, own_text, IsTruthOrNothing, OwnedMayGrowAt};
+ghost use Rattle.jiter.specs.Words.{RefusesBytes, WhereMemory, reply_seen, StandsAt, byte_of, refusal_view, Reads};
+ghost use Rattle.jiter.specs.Words.{anywhere, owned_value_memory, value_place, next, known, value_read, object_read};
 ghost use Rattle.jiter.specs.Words.{key_step};
 ghost use Rattle.jiter_scan.specs.Ascii as ascii;
 

@@ -14,7 +14,7 @@ pub use Rattle.jiter_scan.specs.Kind.{fault_kind}
 pub use Rattle.jiter_scan.specs.Number.{Number}
 pub use Rattle.jiter_scan.specs.NumberDecoder.{number_view}
 pub use Rattle.jiter_scan.specs.PartialMode.{allows_trailing_strings, is_active}
-pub use Rattle.jiter_scan.specs.PartialNumber.{Fits, IsBegun, begins_decimal, is_whole, kept_bytes, own_view}
+pub use Rattle.jiter_scan.specs.PartialNumber.{Fits, IsBegun, begins_decimal, is_whole, kept_bytes, own_view, StepsTo}
 pub use Rattle.jiter_scan.specs.Position.{position_of}
 pub use Rattle.jiter_steps.specs.Blank.{is_blank, past_blanks}
 pub use Rattle.jiter_steps.specs.Literal.{start_of}

@@ -1,9 +1,8 @@
 //! The result for the bytes so far, if the input ended after them.
 ghost use Rattle.std.specs.Prelude.{◌≡◌, ◌+◌, ◌^◌, ◌<◌, List, None, Some, is_some, option_map, true, ℕ};
-ghost use Rattle.jiter_incremental.specs.Words.{Arrived, IsLeft, end_of, shown, HasArrived, Opened, Settled};
-ghost use Rattle.jiter_incremental.specs.Words.{strictly, AnswersSo, IsEndFault, IsInside, kind_at_end};
-ghost use Rattle.jiter_incremental.specs.Words.{so_far, document, fault_kind, is_active, end_kind_of, Tree};
-ghost use Rattle.jiter_incremental.specs.Words.{view};
+ghost use Rattle.jiter_incremental.specs.Words.{Arrived, IsLeft, end_of, shown, HasArrived, Opened, Settled, strictly};
+ghost use Rattle.jiter_incremental.specs.Words.{AnswersSo, IsEndFault, IsInside, kind_at_end, so_far, document, Tree};
+ghost use Rattle.jiter_incremental.specs.Words.{fault_kind, is_active, end_kind_of, view};
 
 use crate::reader::{Awaits, Reader, Token};
 use crate::slot::innermost_kind;

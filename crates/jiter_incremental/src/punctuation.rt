@@ -1,10 +1,9 @@
 //! Takes what stands between the tokens: whitespace, commas, colons and closing brackets (RFC 8259, 2, 4 and 5).
-ghost use Rattle.std.specs.Prelude.{◌≡◌, ◌+◌, ◌^◌, ◌<◌, ◌++◌, ◌∷◌, [], IfOk, List, None, OnErr, false};
-ghost use Rattle.std.specs.Prelude.{slice_index, true, ℕ};
-ghost use Rattle.jiter_incremental.specs.Words.{Arrived, IsLeft, IsAfter, IsBeforePart, HasTakenIn, StandsAt};
-ghost use Rattle.jiter_incremental.specs.Words.{any_bytes, IsHere, IsStill, KeepsRoom, ReadsAsBefore, Steps, document, comma};
-ghost use Rattle.jiter_incremental.specs.Words.{is_blank, begins_part, closer_of, Tree, PartTree, built};
-ghost use Rattle.jiter_incremental.specs.Words.{view};
+ghost use Rattle.std.specs.Prelude.{◌≡◌, ◌+◌, ◌^◌, ◌<◌, ◌++◌, ◌∷◌, [], IfOk, List, None, OnErr, false, slice_index, ℕ};
+ghost use Rattle.std.specs.Prelude.{true};
+ghost use Rattle.jiter_incremental.specs.Words.{Arrived, IsLeft, IsAfter, IsBeforePart, HasTakenIn, StandsAt, IsHere};
+ghost use Rattle.jiter_incremental.specs.Words.{any_bytes, IsStill, KeepsRoom, ReadsAsBefore, Steps, document, comma};
+ghost use Rattle.jiter_incremental.specs.Words.{is_blank, begins_part, closer_of, Tree, PartTree, built, view};
 ghost use Rattle.jiter_incremental.specs.declared.reader.Awaits.TheVariants as awaited;
 ghost use Rattle.jiter_incremental.specs.declared.reader.Token.TheVariants as kind;
 

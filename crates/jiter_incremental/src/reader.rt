@@ -164,15 +164,10 @@ impl Reader {
     {
         match self.first {
             None => false,
-            Some(_) => self.fault.is_some() || self.is_done(),
+            Some(_) => {
+                self.fault.is_some() || (matches!(self.token, Token::Nothing) && self.is_whole())
+            }
         }
-    }
-
-    #[inline(never)]
-    fn is_done(&self) -> bool
-        ensures { result ≡ true → (self.now.token ≡ kind.Nothing) × (self.now.awaits ≡ awaited.Nothing) }
-    {
-        matches!(self.token, Token::Nothing) && self.is_whole()
     }
 
     /// Returns whether the document's value is complete.

@@ -1,18 +1,16 @@
 //! Goes on with the token that the last chunk cut (RFC 8259, 3, 6 and 7). Numbers and strings that may end are shown.
-ghost use Rattle.std.specs.Prelude.{◌≡◌, ◌⊎◌, ◌+◌, ◌^◌, ◌<◌, ◌≤◌, IfOk, List, None, OnErr, OnOk, length};
-ghost use Rattle.std.specs.Prelude.{slice_get, slice_index, Some, string_bytes, false, true, ℕ};
-ghost use Rattle.jiter_incremental.specs.Words.{text_of, Next, HasMoved, HasReadIn, bytes_in, is_shown};
-ghost use Rattle.jiter_incremental.specs.Words.{token_tree, name_word, AsRead, HasEnded, IsAt, IsComplete, IsPaused, IsScalar, KeepsRoom};
-ghost use Rattle.jiter_incremental.specs.Words.{IsHere, ReadsAsBefore, Steps, after_level, IsOfString, IsSettled};
-ghost use Rattle.jiter_incremental.specs.Words.{document, with_shown, HasRoomAt, IsPut};
-ghost use Rattle.jiter_incremental.specs.Words.{OpenFrame, filled, Number, allows_trailing_strings, Fits};
-ghost use Rattle.jiter_incremental.specs.Words.{IsBegun, is_whole, kept_bytes, own_view, number_tree};
-ghost use Rattle.jiter_incremental.specs.Words.{with_text, text_view, Tree, null, string, owned_text};
-ghost use Rattle.jiter_incremental.specs.Words.{tree_as, view};
+ghost use Rattle.std.specs.Prelude.{◌≡◌, ◌⊎◌, ◌+◌, ◌^◌, ◌<◌, ◌≤◌, IfOk, List, None, OnErr, OnOk, length, slice_get, ℕ};
+ghost use Rattle.std.specs.Prelude.{slice_index, Some, string_bytes, false, true};
+ghost use Rattle.jiter_incremental.specs.Words.{text_of, Next, HasMoved, HasReadIn, bytes_in, is_shown, token_tree};
+ghost use Rattle.jiter_incremental.specs.Words.{name_word, AsRead, HasEnded, IsAt, IsComplete, IsPaused, IsScalar};
+ghost use Rattle.jiter_incremental.specs.Words.{KeepsRoom, IsHere, ReadsAsBefore, Steps, after_level, IsOfString, Fits};
+ghost use Rattle.jiter_incremental.specs.Words.{IsSettled, document, with_shown, HasRoomAt, IsPut, OpenFrame, filled};
+ghost use Rattle.jiter_incremental.specs.Words.{Number, allows_trailing_strings, IsBegun, is_whole, kept_bytes, Tree};
+ghost use Rattle.jiter_incremental.specs.Words.{own_view, number_tree, with_text, text_view, null, string, owned_text};
+ghost use Rattle.jiter_incremental.specs.Words.{tree_as, view, StepsTo};
 ghost use Rattle.jiter_incremental.specs.declared.reader.Token.TheVariants as token_kind;
 ghost use Rattle.jiter_scan.specs.Ascii as ascii;
 ghost use Rattle.jiter_scan.specs.declared.number.partial_number.NumberStep.TheVariants as number_went;
-ghost use Rattle.jiter_scan.specs.PartialNumber.{StepsTo};
 
 use crate::names::WordValue;
 use crate::punctuation::is_blank;

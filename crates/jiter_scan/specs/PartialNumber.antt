@@ -17,8 +17,6 @@ use Rattle.jiter_scan.specs.declared.number.partial_number.Stage.{Stage}
 use Rattle.jiter_scan.specs.declared.number.partial_number.Stage.TheVariants as stage
 use Rattle.jiter_scan.specs.declared.number.partial_number.NumberStep.{NumberStep}
 use Rattle.jiter_scan.specs.declared.number.partial_number.NumberStep.TheVariants as went
-use Rattle.jiter_scan.specs.declared.number.partial_number.NumberKind.{NumberKind}
-use Rattle.jiter_scan.specs.declared.number.partial_number.NumberKind.TheVariants as kind
 use Rattle.jiter_scan.specs.declared.number.partial_number.OwnNumber.{OwnNumber}
 use Rattle.jiter_scan.specs.declared.number.partial_number.OwnNumber.TheVariants as own
 
@@ -134,12 +132,6 @@ abbrev pub own_view : OwnNumber → Number
 own_view (own.Int n) = integer n
 own_view (own.BigInt s) = big (string_bytes s)
 own_view (own.Float s) = float (string_bytes s)
-
--- a number of these bytes that is of this kind
-abbrev pub kind_view : NumberKind → List ℕ → Number
-kind_view (kind.Int n) w = integer n
-kind_view kind.BigInt w = big w
-kind_view kind.Float w = float w
 
 -- the bytes that were kept beside a number's value, or that it holds
 abbrev pub kept_bytes : OwnNumber → List ℕ → List ℕ

@@ -1,8 +1,6 @@
 //! Words such as `true`, read byte by byte (RFC 8259, 3).
 ghost use Rattle.std.specs.Prelude.{◌≡◌, ◌+◌, ◌<◌, List, None, Some, length, slice_get, ℕ};
-ghost use Rattle.jiter_scan.specs.Kind.{eof_value};
-ghost use Rattle.jiter_scan.specs.Scanned.{failed};
-ghost use Rattle.jiter_scan.specs.PartialWord.{word_by, word_from};
+ghost use Rattle.jiter_scan.specs.Words.{eof_value, failed, word_by, word_from};
 
 /// What a byte is to a word.
 #[derive(Clone, Copy, Debug, PartialEq, Eq)]

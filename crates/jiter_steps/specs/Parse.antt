@@ -1,10 +1,9 @@
 -- What the calls of the reader say, and where they leave it.
-use Rattle.std.specs.Prelude.{◌≡◌, ◌≤◌, ℕ, Bool, true, false, Result, Ok, Err}
+use Rattle.std.specs.Prelude.{◌≡◌, ◌≤◌, ℕ, Result, Ok, Err}
 use Rattle.jiter_scan.specs.Kind.{fault_kind}
 use Rattle.jiter_scan.specs.Scanned.{taken, failed}
 use Rattle.jiter_scan.specs.Word.{Span}
 use Rattle.jiter_scan.specs.declared.errors.Fault.{Fault}
-use Rattle.jiter_steps.specs.Step.{Step, more, closed, stuck}
 use Rattle.jiter_steps.specs.Read.{Reading, done, fault}
 use Rattle.jiter_steps.specs.ReadError.{UnlessRefused}
 use Rattle.jiter_steps.specs.declared.parse.Parser.{Parser}
@@ -15,17 +14,7 @@ pub record NeverMovesBack (old new : Parser) : Type 0 where
   pub same : new.bytes ≡ old.bytes
   pub forward : old.index ≤ new.index
 
--- a part begins at i, or the container has ended before it
-abbrev pub going : Bool → ℕ → Step
-going true i = more i
-going false i = closed i
-
--- What was returned, and the place i where it left the reader, are this step.
-abbrev pub Steps : Result Bool Fault → ℕ → Step → Type 0
-Steps (Ok next) i s = s ≡ going next i
-Steps (Err f) i s = (s ≡ stuck (fault_kind f.kind) f.index) × (i ≡ f.index)
-
--- The same of a step that only leads on.
+-- What was returned, and the place i where it left the reader, are this step, which only leads on.
 abbrev pub LeadsTo : Result (Unit {0}) Fault → ℕ → Span → Type 0
 LeadsTo (Ok u) i x = x ≡ taken tt i
 LeadsTo (Err f) i x = (x ≡ failed (fault_kind f.kind) f.index) × (i ≡ f.index)

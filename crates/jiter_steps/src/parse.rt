@@ -1,19 +1,10 @@
 //! A reader with a position in the bytes. It reads literals, numbers and strings, and goes to where a step ended.
 ghost use Rattle.std.specs.Prelude.{◌≡◌, ◌≤◌, ◌<◌, IfOk, None, OnOk, OnErr, true, length};
-ghost use Rattle.jiter_scan.specs.Kind.{fault_kind};
-ghost use Rattle.jiter_scan.specs.NumberReading.{number_at};
-ghost use Rattle.jiter_scan.specs.NumberDecoder.{number_view};
-ghost use Rattle.jiter_scan.specs.Scanned.{Scans, taken};
-ghost use Rattle.jiter_steps.specs.Found.{span_of, step_of};
-ghost use Rattle.jiter_steps.specs.Literal.{start_of, word_of, literal_at};
-ghost use Rattle.jiter_steps.specs.Step.{step, closer_of, begins_part, end_kind_of, comma_kind_of, document_end};
-ghost use Rattle.jiter_steps.specs.Read.{scalar_at};
-ghost use Rattle.jiter_steps.specs.ReadError.{WhereRefused};
-ghost use Rattle.jiter_steps.specs.StringReading.{string_at, text_form};
-ghost use Rattle.jiter_steps.specs.StringDecoder.{text_view, WantsMemory};
+ghost use Rattle.jiter_steps.specs.Words.{fault_kind, number_at, number_view, Scans, taken, span_of, start_of, step};
+ghost use Rattle.jiter_steps.specs.Words.{literal_at, closer_of, begins_part, end_kind_of, comma_kind_of, document_end};
+ghost use Rattle.jiter_steps.specs.Words.{scalar_at, WhereRefused, string_at, text_form, text_view, WantsMemory};
 
 use crate::read_error::ReadError;
-use crate::step::Step;
 use crate::string_decoder::string_at;
 use crate::whitespace::past_blanks;
 use jiter_scan::NumberAny;
@@ -141,7 +132,7 @@ pub struct Parser<'j> {
 }
 
 impl<'j> Parser<'j> {
-    ghost use Rattle.jiter_steps.specs.Parse.{NeverMovesBack, Steps, LeadsTo, Reads, Returns};
+    ghost use Rattle.jiter_steps.specs.Parse.{NeverMovesBack, LeadsTo, Reads, Returns};
 
     /// Returns a reader at index 0.
     pub fn new(bytes: &'j [u8]) -> Self
@@ -165,24 +156,6 @@ impl<'j> Parser<'j> {
         match fault {
             None => Ok(()),
             Some(kind) => Err(fault_at(kind, at)),
-        }
-    }
-
-    /// Moves to where a step of a container ended. Returns `true` at a part, and `false` after the container.
-    #[inline(always)]
-    pub fn step(&mut self, found: (usize, Step)) -> Result<bool, Fault>
-        requires { (self.old.index ≤ found.0) × (found.0 ≤ length self.old.bytes.now) }
-        ensures moves { NeverMovesBack self.old self.new }
-        ensures value { Steps result self.new.index (step_of found.0 found.1) }
-        ensures place { self.new.index ≡ found.0 }
-        ensures part { IfOk result (λ more. more ≡ true → found.1 ≡ Step.Part) }
-    {
-        let (at, step) = found;
-        self.index = at;
-        match step {
-            Step::Part => Ok(true),
-            Step::End => Ok(false),
-            Step::Fault(kind) => Err(fault_at(kind, at)),
         }
     }
 

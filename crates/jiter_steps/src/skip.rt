@@ -1,15 +1,9 @@
 //! Skips a value. Nothing is built, decoded or allocated.
-ghost use Rattle.std.specs.Prelude.{◌≡◌, ◌≢◌, ℕ, Bool, true, false, ◌+◌, ◌<◌, ◌≤◌, ◌∷◌, IfOk, OnOk, Ok, length};
-ghost use Rattle.std.specs.Prelude.{slice_index, IfSome, None};
-ghost use Rattle.jiter_steps.specs.Answer.{only_ends, skip_at};
-ghost use Rattle.jiter_steps.specs.Frames.{resume, value_from};
-ghost use Rattle.jiter_steps.specs.Literal.{start_of};
-ghost use Rattle.jiter_steps.specs.Node.{nesting_limit};
+ghost use Rattle.std.specs.Prelude.{◌≡◌, ◌≢◌, ℕ, Bool, true, false, ◌+◌, ◌<◌, ◌≤◌, ◌∷◌, IfOk, OnOk, Ok, length, IfSome};
+ghost use Rattle.std.specs.Prelude.{slice_index, None};
+ghost use Rattle.jiter_steps.specs.Words.{only_ends, skip_at, resume, value_from, start_of, nesting_limit, done, opening};
+ghost use Rattle.jiter_steps.specs.Words.{scalar_at, value_at, step_of, Continues, inside, open_frames};
 ghost use Rattle.jiter_steps.specs.Parse.{NeverMovesBack, Reads};
-ghost use Rattle.jiter_steps.specs.Read.{done, scalar_at, value_at};
-ghost use Rattle.jiter_steps.specs.Found.{step_of};
-ghost use Rattle.jiter_steps.specs.Skip.{Continues, inside, open_frames};
-ghost use Rattle.jiter_steps.specs.Step.{opening};
 
 use crate::fast_skip::{SKIP_REACH, fast_end, fast_first_inside, fast_run, fast_value_end};
 use crate::parse::{ContainerKind, NESTING_LIMIT, Parser, Start, literal_end, start_of};

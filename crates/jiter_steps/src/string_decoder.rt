@@ -1,12 +1,11 @@
 //! Reads strings (RFC 8259, 7 and 8.1). A string without a backslash is borrowed from the input; any other is decoded.
-ghost use Rattle.std.specs.Prelude.{◌≡◌, ◌≢◌, ℕ, Bool, ◌+◌, ◌^◌, ◌<◌, ◌≤◌, length, true, false, List};
-ghost use Rattle.std.specs.Prelude.{slice_get, slice_range, IfOk, IfErr, IfSome, IsTrue, MatchResult, Some};
-ghost use Rattle.std.specs.Prelude.{None, drop, take, vec_len, IsUtf8, encode_utf8};
-ghost use Rattle.jiter_steps.specs.Words.{IsValidUpTo, is_stop, scan_stop, IsAsciiTo, IsLook, fault_kind};
-ghost use Rattle.jiter_steps.specs.Words.{invalid_code_point, Scans, with_end, taken, failed, UnlessRefused};
-ghost use Rattle.jiter_steps.specs.Words.{WhereRefused, body_at, event_at, over, text_form, text_in_form};
-ghost use Rattle.jiter_steps.specs.Words.{checked, string_at, text_view, stop_view, Decodes, PutsEscape};
-ghost use Rattle.jiter_steps.specs.Words.{WantsMemory};
+ghost use Rattle.std.specs.Prelude.{◌≡◌, ◌≢◌, ℕ, Bool, ◌+◌, ◌^◌, ◌<◌, ◌≤◌, length, true, false, List, slice_get, IfOk};
+ghost use Rattle.std.specs.Prelude.{slice_range, IfErr, IfSome, IsTrue, MatchResult, Some, None, drop, take, vec_len};
+ghost use Rattle.std.specs.Prelude.{IsUtf8, encode_utf8};
+ghost use Rattle.jiter_steps.specs.Words.{IsValidUpTo, is_stop, scan_stop, IsAsciiTo, IsLook, fault_kind, Scans, taken};
+ghost use Rattle.jiter_steps.specs.Words.{invalid_code_point, with_end, failed, UnlessRefused, WhereRefused, body_at};
+ghost use Rattle.jiter_steps.specs.Words.{event_at, over, text_form, text_in_form, checked, string_at, text_view};
+ghost use Rattle.jiter_steps.specs.Words.{stop_view, Decodes, PutsEscape, WantsMemory};
 
 use crate::escape::{StringEnd, StringEvent, next_event, simple_escape_at};
 use crate::read_error::ReadError;

@@ -1,7 +1,6 @@
 //! Finds how many of the first bytes are complete characters in UTF-8 (RFC 3629, 3 and 4).
 ghost use Rattle.std.specs.Prelude.{◌≡◌, ◌+◌, ◌≤◌, drop, false, length, take, true};
-ghost use Rattle.std.specs.Str.{IsUtf8};
-ghost use Rattle.jiter_steps.specs.PartialText.{IsBroken, IsUnfinished};
+ghost use Rattle.jiter_steps.specs.Words.{IsUtf8, IsBroken, IsUnfinished};
 
 use std::str::from_utf8;
 

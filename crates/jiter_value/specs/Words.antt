@@ -24,6 +24,7 @@ pub use Rattle.jiter_steps.specs.declared.parse.Start.{Start}
 pub use Rattle.jiter_value.specs.Access.{boolean_in, int_in, is_null_tree, item_at, item_of, items_in, last_such, member_named, members_in, number_text_in, string_in}
 pub use Rattle.jiter_value.specs.DuplicateKeys.{Adds, HasKeys, IsKeyOf, IsNoKeyOf, IsNowhere, IsPlaceOf, IsSomewhere, IsUpToDate, bucket_of, has_text, hash_of}
 pub use Rattle.jiter_value.specs.Equality.{code, same_content}
+pub use Rattle.jiter_value.specs.Machine.{held_by, position_in, IsOver, IsReadingOn}
 pub use Rattle.jiter_value.specs.Owned.{HoldSame, HoldsBorrowedTextOrPart, HoldsOwnedTextOrPart, HoldsTextOrPart, IsOwnedAnswer, OwnedMayGrow, ReadHolds, owned_member, owned_text, owned_tree, tree_as}
 pub use Rattle.jiter_value.specs.Parses.{AnswersBy, Parses, as_read, reading_as}
 pub use Rattle.jiter_value.specs.ParsesUnique.{ParsesUnique, refusing_repeats}
@@ -31,11 +32,11 @@ pub use Rattle.jiter_value.specs.Pointer.{is_slash, item_spelled, part_spelled, 
 pub use Rattle.jiter_value.specs.QuotedKeys.{EndsAtAscii, quoted_from}
 pub use Rattle.jiter_value.specs.Reading.{GivesWhole, IsErrorOf}
 pub use Rattle.jiter_value.specs.Scratch.{HoldsNothing, IsCleared}
-pub use Rattle.jiter_value.specs.Settings.{TextPolicy, answer_as, each, forgives, borrowed_unique, rules, rules_as}
+pub use Rattle.jiter_value.specs.Settings.{TextPolicy, answer_as, each, forgives, borrowed_unique, rules, rules_as, borrowed}
 pub use Rattle.jiter_value.specs.Size.{after_size, inside_size, size, value_size}
-pub use Rattle.jiter_value.specs.Stacks.{HasRoom, HasRoomIn, HaveKeys, HoldsSame, IsFree, LeavesKeys, Member, Stands, StandsAtKey, StandsInside, after, base_of, container_ends, container_fault, empty_tree, from_value, keys_of, member_view, part_of, resume_with, slot_in, without_root}
-pub use Rattle.jiter_value.specs.StringStorage.{IsBorrowedAt, IsNumberAt}
-pub use Rattle.jiter_value.specs.Turns.{Follows, HasTakenKey, IsAtKey, IsAtValue, IsKeyRead, IsPutAt, IsReady, IsRefusedAt, IsResolved, Proceeds, Turned, work_left, outcome}
+pub use Rattle.jiter_value.specs.Stacks.{HasRoom, HasRoomIn, HaveKeys, HoldsSame, IsFree, LeavesKeys, Member, Stands, StandsAtKey, StandsInside, after, base_of, container_ends, container_fault, empty_tree, from_value, keys_of, member_view, part_of, resume_with, slot_in, without_root, slot_of}
+pub use Rattle.jiter_value.specs.StringStorage.{IsBorrowedAt, IsNumberAt, LieAt}
+pub use Rattle.jiter_value.specs.Turns.{Follows, HasTakenKey, IsAtKey, IsAtValue, IsKeyRead, IsPutAt, IsReady, IsRefusedAt, IsResolved, Proceeds, Turned, work_left, outcome, GoesOn, HasGone, HasTurned, MayGrowFor}
 pub use Rattle.jiter_value.specs.UniqueErrors.{IsDuplicateKey, IsMemoryRefused, unique_kind}
 pub use Rattle.jiter_value.specs.UniqueKeys.{GivesUnique, GivesUniqueWhole, HasStopped, IsUniqueErrorOf, WhereUniqueRefused, fault_at_key, fault_of, has_key, innermost_base, object_has_key}
 pub use Rattle.jiter_value.specs.Value.{Answers, BeginsContainer, MayGrow, MayGrowAt, MayGrowBy, member_views, view, views}

@@ -6,7 +6,7 @@ use jiter_steps::fast::fast_literal_end;
 use jiter_steps::parse::{ContainerKind, Literal, Parser, Start, start_of};
 use jiter_steps::read_error::ReadError;
 use jiter_steps::skip::skip;
-use jiter_steps::step::{colon, first, member_value, next, value_first};
+use jiter_steps::step::{Step, colon, first, member_value, next, value_first};
 use jiter_steps::whitespace::past_blanks;
 use std::alloc::Global;
 use std::borrow::CowStr;
@@ -30,6 +30,15 @@ fn tell<T: Debug + Drop>(
     match answer {
         Ok(value) => println!(rt; "{value:?}, reader at {index}"),
         Err(fault) => tell_fault(rt, fault, index),
+    }
+}
+
+// Prints what a step found, and where.
+fn tell_step(rt: &HostRuntime, found: (usize, Step)) -> io::Result<()> {
+    match found {
+        (at, Step::Part) => println!(rt; "true, reader at {at}"),
+        (at, Step::End) => println!(rt; "false, reader at {at}"),
+        (at, Step::Fault(kind)) => println!(rt; "{kind:?} at {at}"),
     }
 }
 
@@ -90,9 +99,7 @@ pub fn answer_first(rt: &HostRuntime, call: &str, bytes: &[u8], at: usize) -> io
     } else {
         ContainerKind::Object
     };
-    let mut parser = Parser { bytes, index: at };
-    let answer = parser.step(first(bytes, at + 1, shape));
-    tell(rt, answer, parser.index)
+    tell_step(rt, first(bytes, at + 1, shape))
 }
 
 /// A step between parts: whether another part follows, or nothing where the step only leads on.
@@ -101,12 +108,10 @@ pub fn answer_step(rt: &HostRuntime, call: &str, bytes: &[u8], at: usize) -> io:
 {
     let mut parser = Parser { bytes, index: at };
     if call == "array_step" {
-        let answer = parser.step(next(bytes, at, ContainerKind::Array));
-        return tell(rt, answer, parser.index);
+        return tell_step(rt, next(bytes, at, ContainerKind::Array));
     }
     if call == "object_step" {
-        let answer = parser.step(next(bytes, at, ContainerKind::Object));
-        return tell(rt, answer, parser.index);
+        return tell_step(rt, next(bytes, at, ContainerKind::Object));
     }
     let answer = match call {
         "colon" => parser.go(colon(bytes, at)),

@@ -1,12 +1,11 @@
 //! The pull reader's steps through objects.
-ghost use Rattle.std.specs.Prelude.{◌≡◌, ◌≢◌, ◌<◌, ◌≤◌, ◌+◌, IfErr, IfOk, IfSome, None, OnErr, OnOk, Some};
-ghost use Rattle.std.specs.Prelude.{length, option_map, slice_get};
-ghost use Rattle.jiter.specs.Words.{sem, step_of, raw_view, more, step, colon, object_first, object_step};
-ghost use Rattle.jiter.specs.Words.{text_view, Form, whole, raw, Text, value_place, next, known, colon_reply};
-ghost use Rattle.jiter.specs.Words.{member_reply, object_read, key_step, position_after, reply_seen};
-ghost use Rattle.jiter.specs.Words.{key_bytes, indexed_key_bytes, StandsAt, StandsBefore, EndsWithColon};
-ghost use Rattle.jiter.specs.Words.{KeyIsAt, Lends, Reads, never, key_memory, first_key_memory};
-ghost use Rattle.jiter.specs.Words.{next_key_memory, LeavesReader};
+ghost use Rattle.std.specs.Prelude.{◌≡◌, ◌≢◌, ◌<◌, ◌≤◌, ◌+◌, IfErr, IfOk, IfSome, None, OnErr, OnOk, Some, length};
+ghost use Rattle.std.specs.Prelude.{option_map, slice_get};
+ghost use Rattle.jiter.specs.Words.{sem, step_of, raw_view, more, step, colon, object_first, object_step, text_view};
+ghost use Rattle.jiter.specs.Words.{Form, whole, raw, Text, value_place, next, known, colon_reply, member_reply, Lends};
+ghost use Rattle.jiter.specs.Words.{object_read, key_step, position_after, reply_seen, key_bytes, indexed_key_bytes};
+ghost use Rattle.jiter.specs.Words.{StandsAt, StandsBefore, EndsWithColon, KeyIsAt, Reads, never, key_memory};
+ghost use Rattle.jiter.specs.Words.{first_key_memory, next_key_memory, LeavesReader};
 ghost use Rattle.jiter_scan.specs.Ascii as ascii;
 
 use crate::errors::{JiterResult, JsonType};

@@ -1,6 +1,5 @@
 //! The pull reader's calls for complete values.
-ghost use Rattle.jiter.specs.Words.{view, value_place, next, known, value_read, StandsAt, byte_of, Reads};
-ghost use Rattle.jiter.specs.Words.{value_memory};
+ghost use Rattle.jiter.specs.Words.{view, value_place, next, known, value_read, StandsAt, byte_of, Reads, value_memory};
 
 use crate::errors::JiterResult;
 use crate::jiter::{Jiter, refusal_at};

@@ -1,11 +1,10 @@
 //! Strings, sixteen bytes at a time. A plain byte is one that is not a quote, a backslash or a control byte.
-ghost use Rattle.std.specs.Prelude.{◌≡◌, ◌↔◌, ℕ, List, ◌+◌, ◌-◌, ◌*◌, ◌^◌, ◌<◌, ◌≤◌, ◌++◌, ◌&&◌, IsTrue};
-ghost use Rattle.std.specs.Prelude.{length, take, drop, map, IfOk, nat_le, slice_range, true, vec_len};
-ghost use Rattle.jiter_scan.specs.Words.{w64, trailing_zeros, number_from_digits, AllBelowBase, list_all};
-ghost use Rattle.jiter_scan.specs.Words.{chunk, number_l, is_digit, digit_run_end, decimal_of};
-ghost use Rattle.jiter_scan.specs.Words.{is_plain, is_ascii, is_plain_ascii, scan_stop, IsAsciiTo};
-ghost use Rattle.jiter_scan.specs.Words.{digits_end, ascii_from, failing, is_no_mark, is_no_control};
-ghost use Rattle.jiter_scan.specs.Words.{less_zero, IsEightBytes, flipped};
+ghost use Rattle.std.specs.Prelude.{◌≡◌, ◌↔◌, ℕ, List, ◌+◌, ◌-◌, ◌*◌, ◌^◌, ◌<◌, ◌≤◌, ◌++◌, ◌&&◌, IsTrue, length, take};
+ghost use Rattle.std.specs.Prelude.{drop, map, IfOk, nat_le, slice_range, true, vec_len};
+ghost use Rattle.jiter_scan.specs.Words.{w64, trailing_zeros, number_from_digits, AllBelowBase, list_all, chunk};
+ghost use Rattle.jiter_scan.specs.Words.{number_l, is_digit, digit_run_end, decimal_of, is_plain, is_ascii, scan_stop};
+ghost use Rattle.jiter_scan.specs.Words.{is_plain_ascii, IsAsciiTo, digits_end, ascii_from, failing, is_no_mark};
+ghost use Rattle.jiter_scan.specs.Words.{is_no_control, less_zero, IsEightBytes, flipped};
 
 pub use crate::bytes::decimal::{digit_count, digit_word, digits_end};
 use crate::bytes::decode_buffer::{put_block, put_slice};

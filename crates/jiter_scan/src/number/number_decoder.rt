@@ -1,11 +1,10 @@
 //! Numbers (RFC 8259, 6): integers that an `i64` holds, and the source text of all others.
-ghost use Rattle.std.specs.Prelude.{◌≡◌, ◌+◌, ◌<◌, ◌≤◌, ◌==◌, ◌||◌, IfOk, min, length, slice_get};
-ghost use Rattle.std.specs.Prelude.{slice_index, slice_range, Some, true};
-ghost use Rattle.jiter_scan.specs.Words.{Scans, with_end, whole_text, AnswersAlone, taken, word_at};
-ghost use Rattle.jiter_scan.specs.Words.{digit_run_end, decimal_of, is_float_byte, number_value};
-ghost use Rattle.jiter_scan.specs.Words.{is_float_sign, after_minus, name_at, with_value, number_at, int_at};
-ghost use Rattle.jiter_scan.specs.Words.{integer_after, integer_after_minus, begins_number, number_alone};
-ghost use Rattle.jiter_scan.specs.Words.{int_alone, int_view, number_view, integer_view, EndsWithin};
+ghost use Rattle.std.specs.Prelude.{◌≡◌, ◌+◌, ◌<◌, ◌≤◌, ◌==◌, ◌||◌, IfOk, min, length, slice_get, slice_index, Some};
+ghost use Rattle.std.specs.Prelude.{slice_range, true};
+ghost use Rattle.jiter_scan.specs.Words.{Scans, with_end, whole_text, AnswersAlone, taken, word_at, digit_run_end};
+ghost use Rattle.jiter_scan.specs.Words.{decimal_of, is_float_byte, number_value, is_float_sign, after_minus, name_at};
+ghost use Rattle.jiter_scan.specs.Words.{with_value, number_at, int_at, integer_after, integer_after_minus, int_alone};
+ghost use Rattle.jiter_scan.specs.Words.{begins_number, number_alone, int_view, number_view, integer_view, EndsWithin};
 ghost use Rattle.jiter_scan.specs.Words.{magnitude_of, IsMinusTo, int_part_at, decimal_at};
 ghost use Rattle.jiter_scan.specs.Ascii as ascii;
 

@@ -1,6 +1,6 @@
 //! Numbers that are complete in a chunk (RFC 8259, 6): the chunk also has the byte that ends them.
-ghost use Rattle.std.specs.Prelude.{◌≡◌, ◌+◌, ◌<◌, ◌≤◌, IfSome, length, true};
-ghost use Rattle.jiter_scan.specs.NumberDecoder.{IsMinusTo, number_view};
+ghost use Rattle.std.specs.Prelude.{◌≡◌, ◌<◌, IfSome, length, true};
+ghost use Rattle.jiter_scan.specs.NumberDecoder.{number_view};
 ghost use Rattle.jiter_scan.specs.NumberWithin.{EndsNumber, EndsWithin, continues_number};
 
 use crate::number::fast_number::{BLOCK_SIZE, last_integer_at, signed};
@@ -15,21 +15,6 @@ fn ends_number(chunk: &[u8], end: usize) -> bool
     end < chunk.len() && !matches!(chunk[end], b'0'..=b'9' | b'.' | b'e' | b'E')
 }
 
-// Near the chunk's end, only an integer is looked for: the chunk truncates most floats there.
-#[inline(always)]
-fn last_within(chunk: &[u8], at: usize, digits: usize) -> Option<(NumberAny<'_>, usize)>
-    requires minus { IsMinusTo chunk.now at digits }
-    requires last { (digits ≤ length chunk.now) × (length chunk.now < digits + 16) }
-    ensures { IfSome result (λ found. EndsWithin chunk.now at (number_view found.0) found.1) }
-{
-    let (magnitude, end) = last_integer_at(chunk, digits);
-    if end == 0 || !ends_number(chunk, end) {
-        return None;
-    }
-    let number = signed(magnitude, at < digits);
-    Some((NumberAny::Int(NumberInt::Int(number)), end))
-}
-
 /// Returns the number at `at` and the index after it, if the chunk also has the byte that ends it.
 ///
 /// Returns `None` if the number may go on in the next chunk, has an error, or if no number begins at `at`. Also for a
@@ -40,7 +25,13 @@ pub fn number_within(chunk: &[u8], at: usize) -> Option<(NumberAny<'_>, usize)>
 {
     let digits = skip_minus(chunk, at);
     if chunk.len() - digits < BLOCK_SIZE {
-        return last_within(chunk, at, digits);
+        // The chunk truncates most floats here, so only an integer is looked for.
+        let (magnitude, end) = last_integer_at(chunk, digits);
+        if end == 0 || !ends_number(chunk, end) {
+            return None;
+        }
+        let number = signed(magnitude, at < digits);
+        return Some((NumberAny::Int(NumberInt::Int(number)), end));
     }
     match number_at(chunk, at, false) {
         Ok((number, end)) if ends_number(chunk, end) => Some((number, end)),

@@ -1,12 +1,11 @@
 //! Numbers that a chunk may truncate (RFC 8259, 6). A chunk's bytes are taken at once; a stage says how far we read.
-ghost use Rattle.std.specs.Prelude.{◌≡◌, ◌+◌, ◌-◌, ◌<◌, ◌≤◌, ◌++◌, [], Bool, IfOk, IfSome, List, None, OnErr};
-ghost use Rattle.std.specs.Prelude.{OnOk, Some, false, length, slice_get, slice_index, slice_range};
-ghost use Rattle.std.specs.Prelude.{string_bytes, string_capacity, string_len, true, ℕ, IsAscii};
-ghost use Rattle.jiter_scan.specs.Words.{big, integer, is_float_byte, number_value, skip_minus, exponent_at};
-ghost use Rattle.jiter_scan.specs.Words.{decimal_at, int_part_at, number_span, number_at, Scans, taken};
-ghost use Rattle.jiter_scan.specs.Words.{BeginsThere, Fits, GoesTo, HoldsNumber, IsBegun, StepsTo, at_end};
-ghost use Rattle.jiter_scan.specs.Words.{begins_decimal, is_int_stage, is_whole, kept_bytes, kind_view};
-ghost use Rattle.jiter_scan.specs.Words.{number_by, number_from, own_view, tail_at};
+ghost use Rattle.std.specs.Prelude.{◌≡◌, ◌+◌, ◌-◌, ◌<◌, ◌≤◌, ◌++◌, [], Bool, IfOk, IfSome, List, None, OnErr, OnOk, ℕ};
+ghost use Rattle.std.specs.Prelude.{Some, false, length, slice_get, slice_index, slice_range, string_bytes, string_len};
+ghost use Rattle.std.specs.Prelude.{string_capacity, true, IsAscii};
+ghost use Rattle.jiter_scan.specs.Words.{big, integer, is_float_byte, number_value, skip_minus, exponent_at, number_at};
+ghost use Rattle.jiter_scan.specs.Words.{decimal_at, int_part_at, number_span, Scans, taken, BeginsThere, Fits, GoesTo};
+ghost use Rattle.jiter_scan.specs.Words.{HoldsNumber, IsBegun, StepsTo, at_end, begins_decimal, is_int_stage, is_whole};
+ghost use Rattle.jiter_scan.specs.Words.{kept_bytes, number_by, number_from, own_view, tail_at};
 
 use crate::bytes::decimal::{digit_run_end, is_digit};
 use crate::errors::{Fault, FaultKind, fault_at};
@@ -53,17 +52,6 @@ pub enum NumberStep {
     Invalid,
     /// A digit that is one too many.
     TooLong,
-}
-
-/// What a complete number is.
-#[derive(Clone, Copy, Debug, PartialEq, Eq)]
-pub enum NumberKind {
-    /// An integer that an `i64` holds.
-    Int(i64),
-    /// Any other integer.
-    BigInt,
-    /// A number with a point or an exponent.
-    Float,
 }
 
 /// A number that owns its source text.
@@ -296,22 +284,6 @@ impl PartialNumber {
         is_whole(self.stage)
     }
 
-    /// Returns what the number is. The bytes so far must be a number. At most 20 bytes are read.
-    pub fn kind(&self) -> NumberKind
-        requires begun { IsBegun (string_bytes self.now.text) self.now.stage }
-        requires whole { is_whole self.now.stage ≡ true }
-        ensures { kind_view result (string_bytes self.now.text) ≡ number_value (string_bytes self.now.text) }
-    {
-        if !is_int_stage(self.stage) {
-            return NumberKind::Float;
-        }
-        let text = self.text.as_bytes();
-        match long_integer(text, 0, skip_minus(text, 0), text.len()) {
-            NumberInt::Int(number) => NumberKind::Int(number),
-            NumberInt::BigInt(_) => NumberKind::BigInt,
-        }
-    }
-
     /// Returns the bytes so far.
     pub fn text(&self) -> &str
         ensures { result.now ≡ string_bytes self.now.text }
@@ -339,10 +311,13 @@ impl PartialNumber {
         ensures kept { kept_bytes result (string_bytes self.new.text) ≡ string_bytes self.old.text }
         ensures stage { self.new.stage ≡ self.old.stage }
     {
-        match self.kind() {
-            NumberKind::Int(number) => OwnNumber::Int(number),
-            NumberKind::BigInt => OwnNumber::BigInt(self.take_text()),
-            NumberKind::Float => OwnNumber::Float(self.take_text()),
+        if !is_int_stage(self.stage) {
+            return OwnNumber::Float(self.take_text());
+        }
+        let text = self.text.as_bytes();
+        match long_integer(text, 0, skip_minus(text, 0), text.len()) {
+            NumberInt::Int(number) => OwnNumber::Int(number),
+            NumberInt::BigInt(_) => OwnNumber::BigInt(self.take_text()),
         }
     }
 

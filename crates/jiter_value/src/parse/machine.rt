@@ -1,11 +1,7 @@
 //! A parse that the caller takes on turn by turn.
 ghost use Rattle.std.specs.Prelude.{◌≡◌, ◌≤◌, ◌<◌, ◌+◌, ◌*◌, IfOk, false, length, true};
-ghost use Rattle.jiter_value.specs.Machine.{held_by, position_in, IsOver, IsReadingOn};
-ghost use Rattle.jiter_value.specs.Parses.{Parses, as_read};
-ghost use Rattle.jiter_value.specs.Scratch.{IsCleared};
-ghost use Rattle.jiter_value.specs.Size.{size};
-ghost use Rattle.jiter_value.specs.Turns.{work_left};
-ghost use Rattle.jiter_value.specs.Value.{view, MayGrow};
+ghost use Rattle.jiter_value.specs.Words.{held_by, position_in, IsOver, IsReadingOn, Parses, as_read, IsCleared, size};
+ghost use Rattle.jiter_value.specs.Words.{work_left, view, MayGrow};
 
 use crate::parse::reading::{error_at, finish_whole};
 use crate::parse::settings::Settings;

@@ -1,9 +1,8 @@
 //! Reading a complete document, or the value at a reader's position.
 ghost use Rattle.std.specs.Prelude.{◌≡◌, ◌≤◌, ◌<◌, IfOk, length, false};
-ghost use Rattle.jiter_value.specs.Words.{past_blanks, nesting_limit, NeverMovesBack, Returns, done, value_at};
-ghost use Rattle.jiter_value.specs.Words.{WhereRefused, tree_as, Parses, as_read, GivesWhole, IsErrorOf};
-ghost use Rattle.jiter_value.specs.Words.{HoldsNothing, IsCleared, answer_as, rules, rules_as, view};
-ghost use Rattle.jiter_value.specs.Words.{MayGrowAt, MayGrowBy, MayGrow};
+ghost use Rattle.jiter_value.specs.Words.{past_blanks, nesting_limit, NeverMovesBack, Returns, done, value_at, tree_as};
+ghost use Rattle.jiter_value.specs.Words.{WhereRefused, Parses, as_read, GivesWhole, IsErrorOf, HoldsNothing, rules};
+ghost use Rattle.jiter_value.specs.Words.{IsCleared, answer_as, rules_as, view, MayGrowAt, MayGrowBy, MayGrow};
 
 use crate::parse::settings::Settings;
 use crate::parse::string_storage::{Borrowing, StringStorage};

@@ -1,11 +1,10 @@
 //! The stacks of items and of members that all open containers share.
-ghost use Rattle.std.specs.Prelude.{◌≡◌, ℕ, ℤ, List, ◌+◌, ◌≤◌, ◌<◌, ◌∷◌, ◌++◌, [], IfOk, IsTrue, OnOk, length};
-ghost use Rattle.std.specs.Prelude.{take, drop, false, map, true, vec_len};
-ghost use Rattle.jiter_value.specs.Words.{Global, CowStrView, done, object, members_of, view, size};
-ghost use Rattle.jiter_value.specs.Words.{value_size, inside_size, after_size, TextPolicy, HoldsNothing};
-ghost use Rattle.jiter_value.specs.Words.{IsCleared, Member, member_view, resume_with, after, container_ends};
-ghost use Rattle.jiter_value.specs.Words.{Stands, StandsInside, HasRoom, HasRoomIn, HoldsSame, LeavesKeys};
-ghost use Rattle.jiter_value.specs.Words.{without_root, SettingsView, JsonValueView};
+ghost use Rattle.std.specs.Prelude.{◌≡◌, ℕ, ℤ, List, ◌+◌, ◌≤◌, ◌<◌, ◌∷◌, ◌++◌, [], IfOk, IsTrue, OnOk, length, take};
+ghost use Rattle.std.specs.Prelude.{drop, false, map, true, vec_len};
+ghost use Rattle.jiter_value.specs.Words.{Global, CowStrView, done, object, members_of, view, size, value_size, Member};
+ghost use Rattle.jiter_value.specs.Words.{inside_size, after_size, TextPolicy, HoldsNothing, IsCleared, member_view};
+ghost use Rattle.jiter_value.specs.Words.{resume_with, after, container_ends, Stands, StandsInside, HasRoom, HasRoomIn};
+ghost use Rattle.jiter_value.specs.Words.{HoldsSame, LeavesKeys, without_root, SettingsView, JsonValueView};
 ghost use Rattle.jiter_value.specs.declared.value.JsonValue.TheVariants.{Int};
 ghost use Rattle.jiter_steps.specs.declared.read_error.ReadError.TheVariants as error;
 

@@ -1,9 +1,7 @@
 //! How each text that is read is stored: borrowed or owned. A text is a string, a key or the source of a number.
 ghost use Rattle.std.specs.Prelude.{◌≡◌, ℕ, List, false, true, IfOk, OnErr};
-ghost use Rattle.jiter_steps.specs.StringDecoder.{text_view};
-ghost use Rattle.jiter_value.specs.Owned.{owned_text};
-ghost use Rattle.jiter_value.specs.Settings.{TextPolicy, each, borrowed, borrowed_unique};
-ghost use Rattle.jiter_value.specs.StringStorage.{IsBorrowedAt, LieAt};
+ghost use Rattle.jiter_value.specs.Words.{text_view, owned_text, TextPolicy, each, borrowed, borrowed_unique, LieAt};
+ghost use Rattle.jiter_value.specs.Words.{IsBorrowedAt};
 
 use crate::value::copies::own_cow;
 use jiter_scan::memory::AllocFailed;

@@ -1,20 +1,12 @@
 //! The turns of a reading. Each turn reads one scalar, opening bracket or key, and the steps after it. The position,
 //! the state and all results of the fast path are passed in registers.
-ghost use Rattle.std.specs.Prelude.{◌≡◌, ◌⊎◌, ◌+◌, ◌≤◌, ◌<◌, ◌++◌, ◌∷◌, ℕ, [], Bool, List, IfOk, OnOk, length, not, true};
-ghost use Rattle.std.specs.Prelude.{false};
-ghost use Rattle.jiter_steps.specs.Node.{nesting_limit};
-ghost use Rattle.jiter_steps.specs.Parse.{NeverMovesBack, Returns};
-ghost use Rattle.jiter_steps.specs.Read.{value_at};
-ghost use Rattle.jiter_steps.specs.ReadError.{WhereRefused};
-ghost use Rattle.jiter_steps.specs.StringDecoder.{text_view};
-ghost use Rattle.jiter_value.specs.Scratch.{HoldsNothing, IsCleared};
-ghost use Rattle.jiter_value.specs.Settings.{TextPolicy, rules_as};
-ghost use Rattle.jiter_value.specs.Size.{value_size};
-ghost use Rattle.jiter_value.specs.Stacks.{slot_of, from_value, StandsAtKey, IsFree};
-ghost use Rattle.jiter_value.specs.Stacks.{HaveKeys, LeavesKeys, keys_of};
-ghost use Rattle.jiter_value.specs.Turns.{GoesOn, HasGone, HasTurned, IsAtValue, Turned, IsKeyRead, Proceeds};
-ghost use Rattle.jiter_value.specs.Turns.{MayGrowFor, work_left, outcome};
-ghost use Rattle.jiter_value.specs.Value.{view, MayGrowBy};
+ghost use Rattle.std.specs.Prelude.{◌≡◌, ◌⊎◌, ◌+◌, ◌≤◌, ◌<◌, ◌++◌, ◌∷◌, ℕ, [], Bool, List, IfOk, OnOk, length, not};
+ghost use Rattle.std.specs.Prelude.{true, false};
+ghost use Rattle.jiter_value.specs.Words.{nesting_limit, NeverMovesBack, Returns, value_at, WhereRefused, text_view};
+ghost use Rattle.jiter_value.specs.Words.{HoldsNothing, IsCleared, TextPolicy, rules_as, value_size, slot_of, IsFree};
+ghost use Rattle.jiter_value.specs.Words.{from_value, StandsAtKey, HaveKeys, LeavesKeys, keys_of, GoesOn, HasGone};
+ghost use Rattle.jiter_value.specs.Words.{HasTurned, IsAtValue, Turned, IsKeyRead, Proceeds, MayGrowFor, work_left};
+ghost use Rattle.jiter_value.specs.Words.{outcome, view, MayGrowBy};
 ghost use Rattle.jiter_value.specs.declared.parse.stacks.Stacks.{Stacks as StacksView};
 
 use crate::parse::settings::Settings;

@@ -1,9 +1,8 @@
 //! JSON Pointers into a value (RFC 6901). Nothing is copied or allocated.
-ghost use Rattle.std.specs.Prelude.{◌≡◌, ◌≢◌, ◌↔◌, ◌^◌, ◌<◌, ◌++◌, ℕ, List, None, Some, IsTrue, MatchOption};
-ghost use Rattle.std.specs.Prelude.{option_map, decimal, bytes_eq};
-ghost use Rattle.jiter_value.specs.Words.{token_byte, token_of, item_spelled, part_spelled, pointed};
-ghost use Rattle.jiter_value.specs.Words.{pointed_by, is_slash, slice_split, last_such, view, views};
-ghost use Rattle.jiter_value.specs.Words.{member_views};
+ghost use Rattle.std.specs.Prelude.{◌≡◌, ◌≢◌, ◌↔◌, ◌^◌, ◌<◌, ◌++◌, ℕ, List, None, Some, IsTrue, MatchOption, decimal};
+ghost use Rattle.std.specs.Prelude.{option_map, bytes_eq};
+ghost use Rattle.jiter_value.specs.Words.{token_byte, token_of, item_spelled, part_spelled, pointed, pointed_by, view};
+ghost use Rattle.jiter_value.specs.Words.{is_slash, slice_split, last_such, views, member_views};
 
 use crate::value::access::item_at;
 use crate::value::{JsonArray, JsonObject, JsonValue};

@@ -1,12 +1,11 @@
 //! Containers on the stacks: how one begins, goes on after a part and ends, and which errors are forgiven there.
-ghost use Rattle.std.specs.Prelude.{◌≡◌, ◌≢◌, ℕ, ◌+◌, ◌≤◌, ◌<◌, List, IfOk, IfSome, None, OnOk, length};
-ghost use Rattle.std.specs.Prelude.{slice_index, true, false};
-ghost use Rattle.jiter_value.specs.Words.{fault_kind, start_of, nesting_limit, step_of, done, WhereRefused};
-ghost use Rattle.jiter_value.specs.Words.{step, more, container_first, opening, TextPolicy, forgives};
-ghost use Rattle.jiter_value.specs.Words.{value_size, inside_size, after_size, resume_with, from_value};
-ghost use Rattle.jiter_value.specs.Words.{after, container_ends, container_fault, Stands, StandsInside};
-ghost use Rattle.jiter_value.specs.Words.{slot_in, base_of, part_of, empty_tree, HasRoom, LeavesKeys};
-ghost use Rattle.jiter_value.specs.Words.{Follows, IsAtValue, IsReady, Proceeds, IsResolved, Turned, work_left};
+ghost use Rattle.std.specs.Prelude.{◌≡◌, ◌≢◌, ℕ, ◌+◌, ◌≤◌, ◌<◌, List, IfOk, IfSome, None, OnOk, length, slice_index};
+ghost use Rattle.std.specs.Prelude.{true, false};
+ghost use Rattle.jiter_value.specs.Words.{fault_kind, start_of, nesting_limit, step_of, done, WhereRefused, step, more};
+ghost use Rattle.jiter_value.specs.Words.{container_first, opening, TextPolicy, forgives, value_size, inside_size};
+ghost use Rattle.jiter_value.specs.Words.{after_size, resume_with, from_value, after, container_ends, container_fault};
+ghost use Rattle.jiter_value.specs.Words.{Stands, StandsInside, slot_in, base_of, part_of, empty_tree, HasRoom, Turned};
+ghost use Rattle.jiter_value.specs.Words.{LeavesKeys, Follows, IsAtValue, IsReady, Proceeds, IsResolved, work_left};
 ghost use Rattle.jiter_value.specs.Words.{outcome, MayGrowAt, SettingsView};
 ghost use Rattle.jiter_steps.specs.declared.read_error.ReadError.TheVariants as error;
 

@@ -1,10 +1,9 @@
 //! Sets of the keys of open objects with many members, to see in few steps that a key is new. A set has buckets; a key
 //! whose bucket is full goes into an ordered set, so no choice of keys makes this slow.
-ghost use Rattle.std.specs.Prelude.{◌≡◌, ◌+◌, ◌-◌, ◌/◌, ◌^◌, ◌≤◌, ◌<◌, ◌∷◌, ◌++◌, ◌⊎◌, [], All, IfOk, OnOk};
-ghost use Rattle.std.specs.Prelude.{drop, false, length, true, vec_len};
-ghost use Rattle.jiter_value.specs.Words.{text_view, Adds, HasKeys, IsKeyOf, IsNoKeyOf, IsNowhere, IsPlaceOf};
-ghost use Rattle.jiter_value.specs.Words.{IsSomewhere, IsUpToDate, bucket_of, has_text, hash_of, keys_of};
-ghost use Rattle.jiter_value.specs.Words.{has_key};
+ghost use Rattle.std.specs.Prelude.{◌≡◌, ◌+◌, ◌-◌, ◌/◌, ◌^◌, ◌≤◌, ◌<◌, ◌∷◌, ◌++◌, ◌⊎◌, [], All, IfOk, OnOk, drop, true};
+ghost use Rattle.std.specs.Prelude.{false, length, vec_len};
+ghost use Rattle.jiter_value.specs.Words.{text_view, Adds, HasKeys, IsKeyOf, IsNoKeyOf, IsNowhere, IsPlaceOf, has_text};
+ghost use Rattle.jiter_value.specs.Words.{IsSomewhere, IsUpToDate, bucket_of, hash_of, keys_of, has_key};
 
 use crate::value::JsonValue;
 use crate::value::copies::copy_cow;

@@ -1,10 +1,8 @@
 //! Turns at scalars. What is short and right is read in place. Any other outcome is a call that takes over the turn.
-ghost use Rattle.std.specs.Prelude.{◌≡◌, ◌≢◌, ◌+◌, ◌≤◌, ◌<◌, ℕ, IfOk, OnErr, false, length, slice_index};
-ghost use Rattle.std.specs.Prelude.{true};
-ghost use Rattle.jiter_value.specs.Words.{fault_kind, number_view, IsLook, scan_stop, literal_tree, start_of};
-ghost use Rattle.jiter_value.specs.Words.{number_tree, done, fault, value_at, string_at, Start, tree_as};
-ghost use Rattle.jiter_value.specs.Words.{rules_as, size, LeavesKeys, IsNumberAt, IsAtValue, IsPutAt};
-ghost use Rattle.jiter_value.specs.Words.{IsRefusedAt, Turned, view, Int};
+ghost use Rattle.std.specs.Prelude.{◌≡◌, ◌≢◌, ◌+◌, ◌≤◌, ◌<◌, ℕ, IfOk, OnErr, false, length, slice_index, true};
+ghost use Rattle.jiter_value.specs.Words.{fault_kind, number_view, IsLook, scan_stop, literal_tree, start_of, done};
+ghost use Rattle.jiter_value.specs.Words.{number_tree, fault, value_at, string_at, Start, tree_as, rules_as, size, Int};
+ghost use Rattle.jiter_value.specs.Words.{LeavesKeys, IsNumberAt, IsAtValue, IsPutAt, IsRefusedAt, Turned, view};
 ghost use Rattle.jiter_steps.specs.declared.read_error.ReadError.TheVariants as error;
 
 use crate::parse::stacks::{Slot, Stacks, State, give_up, no_memory, put_reserved};

@@ -1,12 +1,10 @@
 //! Turns that stop at a duplicate key.
-ghost use Rattle.std.specs.Prelude.{◌≡◌, ◌+◌, ◌≤◌, ◌<◌, ◌∷◌, ◌++◌, ℕ, [], All, IfOk, IfSome, OnOk, drop};
-ghost use Rattle.std.specs.Prelude.{false, is_some, ◌⊎◌, length, not, reverse, slice_index, true, option_map};
-ghost use Rattle.std.specs.Prelude.{bytes_eq};
+ghost use Rattle.std.specs.Prelude.{◌≡◌, ◌+◌, ◌≤◌, ◌<◌, ◌∷◌, ◌++◌, ℕ, [], All, IfOk, IfSome, OnOk, drop, false, ◌⊎◌};
+ghost use Rattle.std.specs.Prelude.{is_some, length, not, reverse, slice_index, true, option_map, bytes_eq};
 ghost use Rattle.jiter_value.specs.Words.{taken, nesting_limit, NeverMovesBack, value_at, step, colon, text_view};
-ghost use Rattle.jiter_value.specs.Words.{borrowed_unique, rules_as, HasKeys, IsUpToDate, StandsAtKey, IsFree};
-ghost use Rattle.jiter_value.specs.Words.{keys_of, HoldsNothing, IsKeyRead, has_key, innermost_base};
-ghost use Rattle.jiter_value.specs.Words.{object_has_key, fault_at_key, fault_of, HasStopped, GivesUnique};
-ghost use Rattle.jiter_value.specs.Words.{WhereUniqueRefused, MayGrowBy};
+ghost use Rattle.jiter_value.specs.Words.{borrowed_unique, rules_as, HasKeys, IsUpToDate, StandsAtKey, IsFree, keys_of};
+ghost use Rattle.jiter_value.specs.Words.{HoldsNothing, IsKeyRead, has_key, innermost_base, object_has_key, fault_of};
+ghost use Rattle.jiter_value.specs.Words.{fault_at_key, HasStopped, GivesUnique, WhereUniqueRefused, MayGrowBy};
 
 use crate::parse::stacks::{OpenContainer, Stacks, State, take_error, take_root};
 use crate::parse::string_storage::BorrowingUnique;
