@@ -272,31 +272,6 @@ impl PartialString {
         self.plain(chunk, at)
     }
 
-    // Takes bytes up to the closing quote, a control byte or an incomplete escape. If an allocation fails after some
-    // bytes, they are taken, and the next call tries again.
-    #[inline(always)]
-    fn turns(&mut self, chunk: &[u8], at: usize) -> Result<usize, AllocFailed>
-        requires within { at < length chunk.now }
-        requires none { self.old.escape ≡ None }
-        requires goes_on { is_stop (slice_index chunk.now at) ≡ true → slice_index chunk.now at ≡ ascii.backslash }
-        ensures taken { (w : List ℕ) → HasTaken self.old w → IfOk result (HasTakenFrom self.new w chunk.now at) }
-        ensures part { IfOk result (IsCountAt chunk.now at) }
-        ensures refused { OnErr result (self.new ≡ self.old) }
-    {
-        let mut end = at;
-        'turning: loop {
-            match self.turn(chunk, end) {
-                Ok(count) => end += count,
-                Err(_) if at < end => break 'turning,
-                Err(refused) => return Err(refused),
-            }
-            if end == chunk.len() || self.escape.is_some() || matches!(chunk[end], b'"' | 0..=31) {
-                break 'turning;
-            }
-        }
-        Ok(end - at)
-    }
-
     /// Takes bytes of the chunk from `at` on, and returns how many or what ends the string. `Err` changes nothing.
     pub fn next(&mut self, chunk: &[u8], at: usize) -> Result<StringStep, AllocFailed>
         requires { at < length chunk.now }
@@ -308,10 +283,26 @@ impl PartialString {
             return self.spell(chunk, at);
         }
         match chunk[at] {
-            b'"' => Ok(StringStep::Quote),
-            0..=31 => Ok(StringStep::Wrong(FaultKind::ControlCharacterWhileParsingString, 0)),
-            _ => Ok(StringStep::Taken(self.turns(chunk, at)?)),
+            b'"' => return Ok(StringStep::Quote),
+            0..=31 => {
+                let kind = FaultKind::ControlCharacterWhileParsingString;
+                return Ok(StringStep::Wrong(kind, 0));
+            }
+            _ => {}
         }
+        // If an allocation fails after some bytes, they are taken, and the next call tries again.
+        let mut end = at;
+        'turning: loop {
+            match self.turn(chunk, end) {
+                Ok(count) => end += count,
+                Err(_) if at < end => break 'turning,
+                Err(refused) => return Err(refused),
+            }
+            if end == chunk.len() || self.escape.is_some() || matches!(chunk[end], b'"' | 0..=31) {
+                break 'turning;
+            }
+        }
+        Ok(StringStep::Taken(end - at))
     }
 
     /// Returns whether the string is UTF-8 if it ends here: with its closing quote, or with the input if `partial` is set.

@@ -261,6 +261,9 @@ pub fn scan_string(bytes: &[u8], from: usize) -> (usize, bool)
     if found != 0 {
         return first_stop(from, found, high, true);
     }
+    if from + 16 == bytes.len() {
+        return (from + 16, high == 0);
+    }
     scan_far(bytes, from + 16, high == 0)
 }
 

@@ -1,7 +1,7 @@
 use Rattle.jiter_steps.proofs.Words.{length, List, ℕ, ◌≡◌, ◌-◌, ◌<◌, ◌≤◌, ◌++◌, None, true, slice_index, slice_range, HasTaken}
 use Rattle.jiter_scan.specs.Ascii as ascii
 use Rattle.jiter_scan.specs.Scan.{is_stop}
-use Rattle.jiter_steps.proofs.partial_string.PartialString.turns.Given as goal
+use Rattle.jiter_steps.proofs.partial_string.PartialString.next.Given as goal
 
 abbrev pub invariant-turning : goal.invariant-turning
 invariant-turning l = record {
