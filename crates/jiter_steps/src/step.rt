@@ -47,17 +47,10 @@ pub fn peek_spaced(bytes: &[u8], from: usize) -> (usize, Option<u8>)
     ensures within { (from ≤ result.0) × (result.0 ≤ length bytes.now) }
     ensures inside { IfSome result.1 (λ _. result.0 < length bytes.now) }
 {
-    if from < bytes.len() {
-        let byte = bytes[from];
-        if byte > b' ' {
-            return (from, Some(byte));
-        }
-        if byte == b' ' {
-            return peek(bytes, from + 1);
-        }
+    if from < bytes.len() && bytes[from] == b' ' {
+        return peek(bytes, from + 1);
     }
-    let at = blanks_end(bytes, from);
-    (at, byte_at(bytes, at))
+    peek(bytes, from)
 }
 
 /// Returns what [`peek`] does. Fastest if `wanted`, which is not whitespace, is the byte at `from`.
