@@ -9,7 +9,7 @@ use Rattle.jiter_incremental.proofs.Words.{text_of, Follows, HasTakenAll, HasTak
 use Rattle.jiter_incremental.proofs.Words.{Opened, any_bytes, HoldsScalar, between_tokens, in_key, in_scalar, noted_in}
 use Rattle.jiter_incremental.proofs.Words.{with_byte, name_tree, HasTakenTo, IsAt, IsHere, Steps, after_level, ahead}
 use Rattle.jiter_incremental.proofs.Words.{ahead_as, document, noted, refused, IsPut, OpenFrame, filled, IsClosedAs}
-use Rattle.jiter_incremental.proofs.Words.{IsOfString, IsSettled, IsTextAs, Reader, Token}
+use Rattle.jiter_incremental.proofs.Words.{IsOfString, IsPutSo, IsSettled, IsTextAs, Reader, Token, after_key, after_text}
 use Rattle.jiter_incremental.proofs.Documents.Strings.{wrong-refused, closed-refused, index-low, is-held, key-taken}
 use Rattle.jiter_incremental.proofs.Documents.Strings.{noted-held, noted-known, noted-text, taken-on, taken-same}
 use Rattle.jiter_incremental.proofs.Documents.Strings.{whole-text, with_string, wrong-low}
@@ -91,21 +91,6 @@ module _ (level : ℕ) (chunk : List ℕ) (i : Reader) (v : Tree) (h : IsHere le
         (λ u comes. tt) (word-refused d t o m c r.position leads))
 
 -- ---- strings that end
-
--- the same reader after a text that was put, or a key
-abbrev pub after_text : Reader → ℕ → CowStr Global → PartialString → Reader
-after_text i level k s = record i { token = token.Nothing; awaits = after_level level; key = k; string = s }
-
-abbrev pub after_key : Reader → CowStr Global → PartialString → Reader
-after_key i k s = record i { token = token.Nothing; key = k; string = s }
-
--- What was put of a string: the text as a value, or the key
-pub record IsPutSo (level : ℕ) (i : Reader) (v : Tree) (j : Reader) (w : Tree) : Type 0 where
-  pub text : i.token ≡ token.Text
-      → IsPut level v (text_view i.key) (string (text_of i.string.text.text)) w
-      × (j ≡ after_text i level j.key j.string)
-  pub key : i.token ≡ token.Key
-      → (w ≡ v) × (text_view j.key ≡ text_of i.string.text.text) × (j ≡ after_key i j.key j.string)
 
 pub put-settled : (level : ℕ) (i : Reader) (v : Tree) (j : Reader) (w : Tree) → IsOfString i.token → i.fault ≡ None
     → i.depth ≡ level → IsPutSo level i v j w → IsSettled level j

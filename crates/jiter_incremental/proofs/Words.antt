@@ -6,7 +6,7 @@ pub use Rattle.jiter_incremental.specs.Ends.{AnswersSo, IsEndFault, KeepsText, b
 pub use Rattle.jiter_incremental.specs.IncrementalParser.{HasReceived}
 pub use Rattle.jiter_incremental.specs.LineIndex.{feeds_from}
 pub use Rattle.jiter_incremental.specs.Names.{name_start, name_tree, name_word}
-pub use Rattle.jiter_incremental.specs.Reader.{AsRead, AwaitsKey, AwaitsValue, HasEnded, HasReadTo, HasTakenTo, IsAt, IsComplete, IsHere, IsPaused, IsScalar, IsStill, IsSettled, KeepsRoom, MovesBy, Ready, Refuses, ReadsAsBefore, Separates, Steps, TakesSeparator, Advanced, after_level, ahead, ahead_as, document, next_of, noted, refused, with_shown}
+pub use Rattle.jiter_incremental.specs.Reader.{AsRead, IsPutSo, after_key, after_text, AwaitsKey, AwaitsValue, HasEnded, HasReadTo, HasTakenTo, IsAt, IsComplete, IsHere, IsPaused, IsScalar, IsStill, IsSettled, KeepsRoom, MovesBy, Ready, Refuses, ReadsAsBefore, Separates, Steps, TakesSeparator, Advanced, after_level, ahead, ahead_as, document, next_of, noted, refused, with_shown}
 pub use Rattle.jiter_incremental.specs.Slot.{AwaitsPart, HasValue, IsContainer, IsOfKey, IsPut, OpenFrame, around, begun, filled}
 pub use Rattle.jiter_incremental.specs.Strings.{IsClosedAs, IsKeyAs, IsOfString, IsTextAs}
 pub use Rattle.jiter_incremental.specs.declared.names.WordValue.{WordValue}

@@ -8,11 +8,12 @@ use Rattle.jiter_scan.specs.declared.number.partial_number.PartialNumber.{Partia
 use Rattle.jiter_steps.specs.declared.partial_string.PartialString.{PartialString}
 use Rattle.jiter_steps.specs.Node.{nesting_limit}
 use Rattle.jiter_steps.specs.StringDecoder.{text_view}
-use Rattle.jiter_steps.specs.Tree.{Text, Tree, members_of, null, object}
+use Rattle.jiter_steps.specs.Tree.{Text, Tree, members_of, null, object, string}
 use Rattle.jiter_incremental.specs.Arrived.{at_value}
 use Rattle.jiter_incremental.specs.Document.{Document, HasReadIn, HasTakenIn, ReadSoFar, MayRefuseAt, Next, any_bytes, between_tokens, in_key, is_shown, noted_in}
+use Rattle.jiter_incremental.specs.Between.{text_of}
 use Rattle.jiter_incremental.specs.Document.{with_byte}
-use Rattle.jiter_incremental.specs.Slot.{AwaitsPart, HasRoomAt, IsOfKey, OpenFrame, filled}
+use Rattle.jiter_incremental.specs.Slot.{AwaitsPart, HasRoomAt, IsOfKey, IsPut, OpenFrame, filled}
 use Rattle.jiter_scan.specs.declared.errors.FaultKind.{FaultKind}
 use Rattle.jiter_incremental.specs.declared.reader.Awaits.{Awaits}
 use Rattle.jiter_incremental.specs.declared.reader.Awaits.TheVariants as awaits
@@ -160,6 +161,21 @@ pub record IsHere (level : ℕ) (chunk : List ℕ) (i : Reader) (v : Tree) : Typ
 abbrev pub after_level : ℕ → Awaits
 after_level zero = awaits.Nothing
 after_level (suc n) = awaits.Comma
+
+-- the same reader after a text that was put, or a key
+abbrev pub after_text : Reader → ℕ → CowStr Global → PartialString → Reader
+after_text i level k s = record i { token = token.Nothing; awaits = after_level level; key = k; string = s }
+
+abbrev pub after_key : Reader → CowStr Global → PartialString → Reader
+after_key i k s = record i { token = token.Nothing; key = k; string = s }
+
+-- What was put of a string: the text as a value, or the key
+pub record IsPutSo (level : ℕ) (i : Reader) (v : Tree) (j : Reader) (w : Tree) : Type 0 where
+  pub text : i.token ≡ token.Text
+      → IsPut level v (text_view i.key) (string (text_of i.string.text.text)) w
+      × (j ≡ after_text i level j.key j.string)
+  pub key : i.token ≡ token.Key
+      → (w ≡ v) × (text_view j.key ≡ text_of i.string.text.text) × (j ≡ after_key i j.key j.string)
 
 -- the same reader, with this final error
 abbrev pub refused : Reader → FaultKind → ℕ → Reader

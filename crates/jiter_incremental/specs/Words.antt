@@ -6,7 +6,7 @@ pub use Rattle.jiter_incremental.specs.Ends.{AnswersSo, IsEndFault, IsInside, ki
 pub use Rattle.jiter_incremental.specs.IncrementalParser.{HasReceived, WouldFinish, received}
 pub use Rattle.jiter_incremental.specs.LineIndex.{HasPassed, feeds_from, line_index}
 pub use Rattle.jiter_incremental.specs.Names.{name_tree, name_word}
-pub use Rattle.jiter_incremental.specs.Reader.{AsRead, AwaitsKey, AwaitsValue, HasEnded, IsAt, IsComplete, IsHere, IsPaused, IsScalar, IsStill, IsSettled, KeepsRoom, ReadsThrough, Ready, Refuses, ReadsAsBefore, Steps, TakesSeparator, Advanced, after_level, document, noted, refused, with_shown}
+pub use Rattle.jiter_incremental.specs.Reader.{AsRead, IsPutSo, AwaitsKey, AwaitsValue, HasEnded, IsAt, IsComplete, IsHere, IsPaused, IsScalar, IsStill, IsSettled, KeepsRoom, ReadsThrough, Ready, Refuses, ReadsAsBefore, Steps, TakesSeparator, Advanced, after_level, document, noted, refused, with_shown}
 pub use Rattle.jiter_incremental.specs.Slot.{HasPart, HasRoomAt, IsContainer, IsOfKey, IsPut, IsRoomy, IsTaken, OpenFrame, around, begun, filled}
 pub use Rattle.jiter_incremental.specs.Strings.{IsOfString}
 pub use Rattle.jiter_scan.specs.Ascii.{comma, quote}

@@ -3,8 +3,8 @@ ghost use Rattle.std.specs.Prelude.{◌≡◌, ◌⊎◌, ◌+◌, ◌^◌, ◌<
 ghost use Rattle.std.specs.Prelude.{slice_index, Some, string_bytes, false, true};
 ghost use Rattle.jiter_incremental.specs.Words.{text_of, Next, HasMoved, HasReadIn, bytes_in, is_shown, token_tree};
 ghost use Rattle.jiter_incremental.specs.Words.{name_word, AsRead, HasEnded, IsAt, IsComplete, IsPaused, IsScalar};
-ghost use Rattle.jiter_incremental.specs.Words.{KeepsRoom, IsHere, ReadsAsBefore, Steps, after_level, IsOfString, Fits};
-ghost use Rattle.jiter_incremental.specs.Words.{IsSettled, document, with_shown, HasRoomAt, IsPut, OpenFrame, filled};
+ghost use Rattle.jiter_incremental.specs.Words.{KeepsRoom, IsHere, ReadsAsBefore, Steps, IsOfString, Fits};
+ghost use Rattle.jiter_incremental.specs.Words.{IsSettled, document, with_shown, HasRoomAt, IsPutSo, OpenFrame, filled};
 ghost use Rattle.jiter_incremental.specs.Words.{Number, allows_trailing_strings, IsBegun, is_whole, kept_bytes, Tree};
 ghost use Rattle.jiter_incremental.specs.Words.{own_view, number_tree, with_text, text_view, null, string, owned_text};
 ghost use Rattle.jiter_incremental.specs.Words.{tree_as, view, StepsTo};
@@ -289,17 +289,7 @@ impl Reader {
     fn put_text(&mut self, slot: &mut JsonValue<'static>, level: usize)
         requires token { IsOfString self.old.token }
         requires room { KeepsRoom level self.old slot.old }
-        ensures text { self.old.token ≡ token_kind.Text
-            → IsPut level (view slot.old) (text_view self.old.key) (string (text_of self.old.string.text.text)) (view slot.new)
-            × (self.new ≡ record self.old {
-              token = token_kind.Nothing;
-              awaits = after_level level;
-              key = self.new.key;
-              string = self.new.string;
-            }) }
-        ensures key { self.old.token ≡ token_kind.Key → (view slot.new ≡ view slot.old)
-            × (text_view self.new.key ≡ text_of self.old.string.text.text)
-            × (self.new ≡ record self.old { token = token_kind.Nothing; key = self.new.key; string = self.new.string }) }
+        ensures { IsPutSo level self.old (view slot.old) self.new (view slot.new) }
     {
         let text = self.string.take_text();
         if matches!(self.token, Token::Key) {

@@ -1,5 +1,5 @@
 -- Runs of bytes that pass a test, seen a chunk at a time.
-use Rattle.jiter_scan.proofs.Words.{◌≡◌, ℕ, ◌+◌, ◌*◌, ◌/◌, ◌^◌, ◌<◌, ◌≤◌, Bool, true, false, not, ◌&&◌, cond, eqb, List}
+use Rattle.jiter_scan.proofs.Words.{◌≡◌, ℕ, ◌+◌, ◌-◌, ◌*◌, ◌/◌, ◌^◌, ◌<◌, ◌≤◌, Bool, true, false, not, ◌&&◌, cond, eqb, List}
 use Rattle.jiter_scan.proofs.Words.{[], ◌∷◌, length, drop, take, refl, sym, ap, ap₂, take-add, drop-drop, ◌∙◌, arith}
 use Rattle.jiter_scan.proofs.Words.{zero, suc, drop-take, length-chunk, list_all-append, and_parts, eq-eqb, ne_eqb}
 use Rattle.jiter_scan.proofs.Words.{false≢true, nat_tests, prefix_len, list_all, chunk, count_trailing_zeros, run_end}
@@ -177,3 +177,16 @@ module _ (test : ℕ → Bool) where
       let passes = run_end-passes test t i (i + n) (omega arith) (omega arith) in
       let place : i + suc n ≡ i + n + 1 = omega arith in
       ap (run_end test t) place ∙ sym (run_end-passing test t (i + n) (omega arith) passes) ∙ before
+
+-- the bits of the last bytes, of those of the last sixteen
+pub last-bits : (test : ℕ → Bool) (t : List ℕ) (i m : ℕ) → 16 ≤ length t → length t < i + 16 → i ≤ length t
+    → m ≡ failing test (chunk (length t - 16) 16 t)
+    → m / 2 ^ (i - (length t - 16)) ≡ failing test (chunk i (length t - i) t)
+last-bits test t i m enough few within is =
+    let start = length t - 16 in
+    let k = i - start in
+    let all : 16 ≡ k + (length t - i) = omega arith in
+    let place : start + k ≡ i = omega arith in
+    ap (λ x. x / 2 ^ k) (is ∙ ap (λ n. failing test (chunk start n t)) all)
+    ∙ failing-after test t start k (length t - i)
+    ∙ ap (λ j. failing test (chunk j (length t - i) t)) place

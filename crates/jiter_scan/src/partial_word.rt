@@ -47,13 +47,4 @@ impl PartialWord {
         self.seen += 1;
         WordStep::Part
     }
-
-    /// Returns all bytes of the word.
-    pub fn word(&self) -> &'static [u8]
-        ensures word { result.now ≡ self.now.word.now }
-        ensures ends { (t : List ℕ) (j : ℕ) → slice_get t j ≡ None
-            → word_from self.now.word.now self.now.seen t j ≡ failed eof_value j }
-    {
-        self.word
-    }
 }

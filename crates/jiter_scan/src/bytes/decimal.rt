@@ -90,6 +90,15 @@ pub(crate) fn digit_run_end(bytes: &[u8], from: usize) -> usize
         }
         i += 16;
     }
+    if bytes.len() >= 16 {
+        // The last sixteen bytes, without those before `i`.
+        let start = bytes.len() - 16;
+        let others = no_digits(u8x16::from_slice(&bytes[start..])) >> (i - start) as u32;
+        if others == 0 {
+            return bytes.len();
+        }
+        return i + others.trailing_zeros() as usize;
+    }
     'bytes: while i < bytes.len() && is_digit(bytes[i]) {
         i += 1;
     }

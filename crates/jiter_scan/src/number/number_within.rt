@@ -3,6 +3,7 @@ ghost use Rattle.std.specs.Prelude.{◌≡◌, ◌<◌, IfSome, length, true};
 ghost use Rattle.jiter_scan.specs.NumberDecoder.{number_view};
 ghost use Rattle.jiter_scan.specs.NumberWithin.{EndsNumber, EndsWithin, continues_number};
 
+use crate::bytes::decimal::digit_run_end;
 use crate::number::fast_number::{BLOCK_SIZE, last_integer_at, signed};
 use crate::number::number_decoder::{NumberAny, NumberInt, number_at};
 use crate::number::number_span::skip_minus;
@@ -25,7 +26,10 @@ pub fn number_within(chunk: &[u8], at: usize) -> Option<(NumberAny<'_>, usize)>
 {
     let digits = skip_minus(chunk, at);
     if chunk.len() - digits < BLOCK_SIZE {
-        // The chunk truncates most floats here, so only an integer is looked for.
+        // The chunk truncates most numbers here, so only an integer that it ends is read.
+        if digit_run_end(chunk, digits) == chunk.len() {
+            return None;
+        }
         let (magnitude, end) = last_integer_at(chunk, digits);
         if end == 0 || !ends_number(chunk, end) {
             return None;

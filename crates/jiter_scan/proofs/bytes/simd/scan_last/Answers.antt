@@ -1,22 +1,9 @@
-use Rattle.jiter_scan.proofs.Words.{◌≡◌, ℕ, ◌+◌, ◌-◌, ◌/◌, ◌^◌, ◌<◌, ◌≤◌, Bool, List, length, eqb, sym, ap, ◌∙◌, arith}
-use Rattle.jiter_scan.proofs.Words.{true, false, ◌&&◌, refl, chunk, is_ascii, is_plain, failing}
-use Rattle.jiter_scan.proofs.Chunks.{failing-after, run_end-clear, run_end-stopped}
+use Rattle.jiter_scan.proofs.Words.{◌≡◌, ◌+◌, ◌-◌, ◌/◌, ◌^◌, Bool, length, eqb, sym, ap, ◌∙◌, arith}
+use Rattle.jiter_scan.proofs.Words.{true, false, ◌&&◌, refl, is_ascii, is_plain}
+use Rattle.jiter_scan.proofs.Chunks.{last-bits, run_end-clear, run_end-stopped}
 use Rattle.jiter_scan.proofs.Runs.{run_end-ahead, run_end-within}
 use Rattle.jiter_scan.proofs.PlainRuns.{ascii_from-clear, ascii_from-stop, ascii_from-stopped}
 use Rattle.jiter_scan.proofs.bytes.simd.scan_last.Goals as goal
-
--- the bits of the last bytes, of those of the last sixteen
-last-bits : (test : ℕ → Bool) (t : List ℕ) (i m : ℕ) → 16 ≤ length t → length t < i + 16 → i ≤ length t
-    → m ≡ failing test (chunk (length t - 16) 16 t)
-    → m / 2 ^ (i - (length t - 16)) ≡ failing test (chunk i (length t - i) t)
-last-bits test t i m enough few within is =
-    let start = length t - 16 in
-    let k = i - start in
-    let all : 16 ≡ k + (length t - i) = omega arith in
-    let place : start + k ≡ i = omega arith in
-    ap (λ x. x / 2 ^ k) (is ∙ ap (λ n. failing test (chunk start n t)) all)
-    ∙ failing-after test t start k (length t - i)
-    ∙ ap (λ j. failing test (chunk j (length t - i) t)) place
 
 pub first_stop-requires : goal.first_stop-requires
 first_stop-requires c =
