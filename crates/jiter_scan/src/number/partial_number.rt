@@ -163,11 +163,8 @@ pub(crate) fn stages_end(stage: Stage, bytes: &[u8], at: usize) -> (Stage, usize
             NumberStep::Taken(next) => (reached, end) = run_end(next, bytes, end + 1),
             NumberStep::Over => return (reached, end, Ok(())),
             NumberStep::TooLong => {
-                return (
-                    reached,
-                    end,
-                    Err(fault_at(FaultKind::NumberOutOfRange, end + 1)),
-                );
+                let fault = fault_at(FaultKind::NumberOutOfRange, end + 1);
+                return (reached, end, Err(fault));
             }
             NumberStep::Named | NumberStep::Invalid => {
                 return (reached, end, Err(fault_at(FaultKind::InvalidNumber, end)));
@@ -175,14 +172,10 @@ pub(crate) fn stages_end(stage: Stage, bytes: &[u8], at: usize) -> (Stage, usize
         }
     }
     if is_whole(reached) {
-        (reached, end, Ok(()))
-    } else {
-        (
-            reached,
-            end,
-            Err(fault_at(FaultKind::EofWhileParsingValue, end)),
-        )
+        return (reached, end, Ok(()));
     }
+    let fault = fault_at(FaultKind::EofWhileParsingValue, end);
+    (reached, end, Err(fault))
 }
 
 /// Returns the stage and the index that the bytes of the number at `at` reach. Requires a minus or a digit there.
