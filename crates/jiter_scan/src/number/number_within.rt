@@ -27,7 +27,7 @@ pub fn number_within(chunk: &[u8], at: usize) -> Option<(NumberAny<'_>, usize)>
     let digits = skip_minus(chunk, at);
     if chunk.len() - digits < BLOCK_SIZE {
         // The chunk truncates most numbers here, so only an integer that it ends is read.
-        if digit_run_end(chunk, digits) == chunk.len() {
+        if !ends_number(chunk, digit_run_end(chunk, digits)) {
             return None;
         }
         let (magnitude, end) = last_integer_at(chunk, digits);
