@@ -100,7 +100,7 @@ impl Reader {
         ensures { (t : List ℕ) → HasArrived (document self.now (view root.now)) t
             → AnswersSo self.now.settings t result (Some (view root.now)) }
     {
-        if self.keeps() && !self.shown {
+        if !self.shown && self.keeps() {
             let index = self.begin + 1 + self.string.text().len();
             return Some(fault_at(FaultKind::InvalidUnicodeCodePoint, index));
         }

@@ -49,30 +49,6 @@ fn owned_string(alloc: Global, text: &mut CowStr<'static>) -> String
     }
 }
 
-// Undoes `number_value`. An integer of 64 bits holds no source text: the number kept it.
-fn own_number(alloc: Global, value: JsonValue<'static>) -> OwnNumber
-    ensures { (x : Number) → (w : List ℕ) → view value.entry ≡ tree_as owned_text (number_tree x)
-        → kept_bytes result w ≡ bytes_in (view value.entry) w }
-{
-    let mut value = value;
-    match &mut value {
-        JsonValue::BigInt(text) => OwnNumber::BigInt(owned_string(alloc, text)),
-        JsonValue::Float(text) => OwnNumber::Float(owned_string(alloc, text)),
-        JsonValue::Int(number) => OwnNumber::Int(*number),
-        _ => OwnNumber::Int(0),
-    }
-}
-
-fn own_text(alloc: Global, value: JsonValue<'static>) -> String
-    ensures { (w : List ℕ) → view value.entry ≡ string (text_of w) → string_bytes result ≡ w }
-{
-    let mut value = value;
-    match &mut value {
-        JsonValue::Str(text) => owned_string(alloc, text),
-        _ => String::new(alloc),
-    }
-}
-
 impl Reader {
     // Whether the mode keeps the unfinished string. It never keeps a key.
     pub(crate) fn keeps(&self) -> bool
@@ -109,7 +85,7 @@ impl Reader {
         text_value(self.string.take_text())
     }
 
-    // Undoes `shown_value`.
+    // Undoes `shown_value`. An integer of 64 bits holds no source text: the number kept it.
     fn give_back(&mut self, value: JsonValue<'static>)
         ensures number { (x : Number) → self.old.token ≡ token_kind.Number
             → view value.entry ≡ tree_as owned_text (number_tree x) → (self.new.number.stage ≡ self.old.number.stage)
@@ -119,10 +95,13 @@ impl Reader {
             × (self.new.string.escape ≡ self.old.string.escape) }
         ensures same { self.new ≡ with_shown self.old self.old.shown self.new.number self.new.string self.old.key }
     {
-        if matches!(self.token, Token::Number) {
-            self.number.give_back(own_number(self.alloc, value));
-        } else {
-            self.string.give_back(own_text(self.alloc, value));
+        let mut value = value;
+        match &mut value {
+            JsonValue::BigInt(text) | JsonValue::Float(text) => {
+                self.number.give_back(owned_string(self.alloc, text));
+            }
+            JsonValue::Str(text) => self.string.give_back(owned_string(self.alloc, text)),
+            _ => {}
         }
     }
 

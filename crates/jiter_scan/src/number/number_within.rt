@@ -27,15 +27,16 @@ pub fn number_within(chunk: &[u8], at: usize) -> Option<(NumberAny<'_>, usize)>
     let digits = skip_minus(chunk, at);
     if chunk.len() - digits < BLOCK_SIZE {
         // The chunk truncates most numbers here, so only an integer that it ends is read.
-        if digit_run_end(chunk, digits) == chunk.len() {
+        let end = digit_run_end(chunk, digits);
+        if !ends_number(chunk, end) {
             return None;
         }
-        let (magnitude, end) = last_integer_at(chunk, digits);
-        if end == 0 || !ends_number(chunk, end) {
+        let (magnitude, after) = last_integer_at(chunk, digits);
+        if after == 0 || after != end {
             return None;
         }
         let number = signed(magnitude, at < digits);
-        return Some((NumberAny::Int(NumberInt::Int(number)), end));
+        return Some((NumberAny::Int(NumberInt::Int(number)), after));
     }
     match number_at(chunk, at, false) {
         Ok((number, end)) if ends_number(chunk, end) => Some((number, end)),

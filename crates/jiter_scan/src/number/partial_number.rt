@@ -314,16 +314,12 @@ impl PartialNumber {
         }
     }
 
-    /// Takes back what [`take_value`](PartialNumber::take_value) returned, so that more bytes can follow.
-    pub fn give_back(&mut self, number: OwnNumber)
-        ensures text { string_bytes self.new.text ≡ kept_bytes number (string_bytes self.old.text) }
+    /// Puts back the source text that [`take_value`](PartialNumber::take_value) moved out, so that more bytes can follow.
+    pub fn give_back(&mut self, text: String)
+        ensures text { string_bytes self.new.text ≡ string_bytes text }
         ensures stage { self.new.stage ≡ self.old.stage }
     {
-        match number {
-            OwnNumber::Int(_) => {}
-            OwnNumber::BigInt(text) => self.text = text,
-            OwnNumber::Float(text) => self.text = text,
-        }
+        self.text = text;
     }
 
     /// Drops the bytes.

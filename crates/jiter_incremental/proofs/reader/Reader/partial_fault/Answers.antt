@@ -3,13 +3,13 @@ use Rattle.jiter_incremental.proofs.Words.{document, view}
 use Rattle.jiter_scan.specs.declared.errors.FaultKind.TheVariants as fault_of
 use Rattle.jiter_incremental.proofs.Answering.{ShowsText, broken-index, broken-so, broken-told, good-so, keeps-hidden}
 use Rattle.jiter_incremental.proofs.Answering.{keeps-shown, none-told, value-told}
-use Rattle.jiter_incremental.proofs.reader.Reader.partial_fault.Goals.{else-keeps-via-then-keeps+else-not-self}
-use Rattle.jiter_incremental.proofs.reader.Reader.partial_fault.Goals.{else-keeps-via-else-keeps}
+use Rattle.jiter_incremental.proofs.reader.Reader.partial_fault.Goals.{else-not-self-via-then-not-self+else-keeps}
+use Rattle.jiter_incremental.proofs.reader.Reader.partial_fault.Goals.{else-not-self-via-else-not-self}
 use Rattle.jiter_incremental.proofs.reader.Reader.partial_fault.Goals as goal
 use Rattle.jiter_incremental.proofs.Settling.{settled-so}
 
-pub overflow_add-index-then-not-self : goal.overflow_add-index-then-not-self
-overflow_add-index-then-not-self c =
+pub overflow_add-index-then-keeps : goal.overflow_add-index-then-keeps
+overflow_add-index-then-keeps c =
     let d = document c.args.self.now (view c.args.root.now) in
     let a = c.requires.arrived in
     let unset = c.requires.unset in
@@ -18,8 +18,8 @@ overflow_add-index-then-not-self c =
     let bad = broken-so d a.0 a.1.read.opened (settled-so d a.0 a.1 unset) is on c.if-not-self.true in
     omega (arith, broken-index d a.0 a.1 unset c.if-not-self.true bad, ap length c.text.ensures, c.requires.room)
 
-pub returns-then-not-self : goal.returns-then-not-self
-returns-then-not-self c = λ t h.
+pub returns-then-keeps : goal.returns-then-keeps
+returns-then-keeps c = λ t h.
     let d = document c.args.self.now (view c.args.root.now) in
     let unset = c.requires.unset in
     let s = settled-so d t h unset in
@@ -40,10 +40,10 @@ returns-then-has_value c = λ t h.
     let unset = c.requires.unset in
     let o = h.read.opened in
     let s = settled-so d t h unset in
-    let shows : ShowsText d = λ is on. elim c.else-keeps.branch [
-      | else-keeps-via-then-keeps+else-not-self w ↦ w.if-not-self.false
-      | else-keeps-via-else-keeps w ↦
-          absurd (false≢true (sym w.if-keeps.false ∙ c.keeps.ensures.text is ∙ on))
+    let shows : ShowsText d = λ is on. elim c.else-not-self.branch [
+      | else-not-self-via-then-not-self+else-keeps w ↦
+          absurd (false≢true (sym w.if-keeps.false ∙ w.keeps.ensures.text is ∙ on))
+      | else-not-self-via-else-not-self w ↦ w.if-not-self.false
     ] in
     value-told d t h unset c.requires.active (keeps-shown d t o s v refl shows) (good-so d t o s shows)
     (sym (c.has_value.ensures (view v) t o s) ∙ c.if-has_value.true)
@@ -55,10 +55,10 @@ returns c = λ t h.
     let unset = c.requires.unset in
     let o = h.read.opened in
     let s = settled-so d t h unset in
-    let shows : ShowsText d = λ is on. elim c.else-keeps.branch [
-      | else-keeps-via-then-keeps+else-not-self w ↦ w.if-not-self.false
-      | else-keeps-via-else-keeps w ↦
-          absurd (false≢true (sym w.if-keeps.false ∙ c.keeps.ensures.text is ∙ on))
+    let shows : ShowsText d = λ is on. elim c.else-not-self.branch [
+      | else-not-self-via-then-not-self+else-keeps w ↦
+          absurd (false≢true (sym w.if-keeps.false ∙ w.keeps.ensures.text is ∙ on))
+      | else-not-self-via-else-not-self w ↦ w.if-not-self.false
     ] in
     none-told d t h unset c.requires.active c.end_fault.result (keeps-shown d t o s v refl shows)
     (good-so d t o s shows)
