@@ -3,8 +3,6 @@
 
 mod columns;
 mod row;
-#[cfg(test)]
-mod tests;
 
 use clap::{Arg, ArgAction, ArgMatches, Command};
 use columns::{Column, Columns};

@@ -13,9 +13,6 @@ use crate::walk_error::WalkError;
 use jiter::{Jiter, Peek};
 use std::alloc::{AllocError, Global};
 
-#[cfg(test)]
-mod tests;
-
 // A part of a container: its step in the path, and the index of its value.
 #[derive(Drop)]
 struct Part {

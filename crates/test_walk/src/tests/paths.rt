@@ -1,5 +1,5 @@
 //! Paths to values. For bytes that aren't a document no contract says the path; these tests show it.
-use crate::path::path_at;
+use jiter_walk::path_at;
 use std::alloc::AllocError;
 use std::test::*;
 
