@@ -59,7 +59,10 @@ pub fn past_blanks(bytes: &[u8], from: usize) -> usize
     ensures bound { result ≤ length bytes.now }
     ensures after { from ≤ result }
 {
-    if from < bytes.len() && bytes[from] > b' ' {
+    if from == bytes.len() {
+        return from;
+    }
+    if bytes[from] > b' ' {
         return from;
     }
     blanks_end(bytes, from)

@@ -1,11 +1,11 @@
 //! The stacks of items and of members that all open containers share.
-ghost use Rattle.std.specs.Prelude.{◌≡◌, ℕ, ℤ, List, ◌+◌, ◌≤◌, ◌<◌, ◌∷◌, ◌++◌, [], IfOk, IsTrue, OnOk, length, take};
+ghost use Rattle.std.specs.Prelude.{◌≡◌, ◌⊎◌, ℕ, ℤ, List, ◌+◌, ◌≤◌, ◌<◌, ◌∷◌, ◌++◌, [], IfOk, IsTrue, OnOk, length, take};
 ghost use Rattle.std.specs.Prelude.{drop, false, map, true, vec_len};
 ghost use Rattle.jiter_value.specs.Words.{Global, CowStrView, done, object, members_of, view, size, value_size, Member};
 ghost use Rattle.jiter_value.specs.Words.{inside_size, after_size, TextPolicy, HoldsNothing, IsCleared, member_view};
 ghost use Rattle.jiter_value.specs.Words.{resume_with, after, container_ends, Stands, StandsInside, HasRoom, HasRoomIn};
 ghost use Rattle.jiter_value.specs.Words.{HoldsSame, LeavesKeys, without_root, SettingsView, JsonValueView};
-ghost use Rattle.jiter_value.specs.declared.value.JsonValue.TheVariants.{Int};
+ghost use Rattle.jiter_value.specs.declared.value.JsonValue.TheVariants.{Int, Null};
 ghost use Rattle.jiter_steps.specs.declared.read_error.ReadError.TheVariants as error;
 
 use crate::value::{JsonObject, JsonValue};
@@ -75,24 +75,24 @@ pub struct Stacks<'j> {
     pub reused: bool,
 }
 
-// Replaces an integer without dropping it: an integer has nothing to free.
+// Replaces a value that has nothing to free, without dropping it.
 #[inline(always)]
-fn replace_int<'j>(place: &mut JsonValue<'j>, value: JsonValue<'j>)
-    requires { (number : ℤ) × (place.old ≡ Int number) }
+fn replace_plain<'j>(place: &mut JsonValue<'j>, value: JsonValue<'j>)
+    requires { (place.old ≡ Null) ⊎ ((number : ℤ) × (place.old ≡ Int number)) }
     ensures { place.new ≡ value.entry }
 {
     mem::forget(mem::replace(place, value));
 }
 
-// The placeholder of a key is an integer. Any other value is dropped.
+// The placeholder of a key is an integer, and that of the root is `Null`. Any other value is dropped: a test costs less.
 #[inline(always)]
 fn replace_placeholder<'j>(place: &mut JsonValue<'j>, value: JsonValue<'j>)
     ensures { place.new ≡ value.entry }
 {
-    if let JsonValue::Int(_) = place {
-        replace_int(place, value);
-    } else {
-        *place = value;
+    match place {
+        JsonValue::Null => replace_plain(place, value),
+        JsonValue::Int(_) => replace_plain(place, value),
+        _ => *place = value,
     }
 }
 
@@ -173,7 +173,7 @@ pub fn put_reserved<'j>(stacks: &mut Stacks<'j>, slot: Slot, value: JsonValue<'j
     match slot {
         Slot::Item => stacks.items.push_reserved(value),
         Slot::Member => set_last(&mut stacks.members, value),
-        Slot::Root => stacks.root = value,
+        Slot::Root => replace_placeholder(&mut stacks.root, value),
     }
 }
 

@@ -57,30 +57,31 @@ fn begin_alike(one: &str, other: &str) -> bool
     one.is_empty() || other.is_empty() || one[0] == other[0]
 }
 
+// Whether a member from `from` on has the key.
+#[cold]
 #[inline(never)]
-fn is_equal(one: &str, other: &str) -> bool
-    ensures { result ≡ bytes_eq one.now other.now }
+fn is_among(members: &Vec<(CowStr<'_>, JsonValue<'_>)>, from: usize, key: &str) -> bool
+    ensures { result ≡ has_key key.now (drop from members.now.items) }
 {
-    one == other
+    for i in from..members.len() {
+        let other = members[i].0.as_str();
+        if begin_alike(key, other) && key == other {
+            return true;
+        }
+    }
+    false
 }
 
-// Compares the first bytes before the call: few keys of the same length begin with the same byte.
-#[inline(always)]
-fn is_same(one: &str, other: &str) -> bool
-    ensures { result ≡ bytes_eq one.now other.now }
-{
-    begin_alike(one, other) && is_equal(one, other)
-}
-
-// Out of line: its loop would take the registers of all turns.
+// Out of line: its loop would take the registers of all turns. It saves none of them, since its one call is its last. Few
+// keys of the same length begin with the same byte.
 #[inline(never)]
 fn has_key(members: &Vec<(CowStr<'_>, JsonValue<'_>)>, base: usize, key: &str) -> bool
     ensures { result ≡ has_key key.now (drop base members.now.items) }
 {
     for i in base..members.len() {
         let other = members[i].0.as_str();
-        if key.len() == other.len() && is_same(key, other) {
-            return true;
+        if key.len() == other.len() && begin_alike(key, other) {
+            return is_among(members, base, key);
         }
     }
     false
