@@ -84,15 +84,27 @@ fn replace_plain<'j>(place: &mut JsonValue<'j>, value: JsonValue<'j>)
     mem::forget(mem::replace(place, value));
 }
 
-// The placeholder of a key is an integer, and that of the root is `Null`. Any other value is dropped: a test costs less.
+// The placeholder of a key is an integer. Any other value is dropped.
 #[inline(always)]
 fn replace_placeholder<'j>(place: &mut JsonValue<'j>, value: JsonValue<'j>)
     ensures { place.new ≡ value.entry }
 {
-    match place {
-        JsonValue::Null => replace_plain(place, value),
-        JsonValue::Int(_) => replace_plain(place, value),
-        _ => *place = value,
+    if let JsonValue::Int(_) = place {
+        replace_plain(place, value);
+    } else {
+        *place = value;
+    }
+}
+
+// Between turns the root is `Null`, and a test costs less than a drop.
+#[inline(always)]
+fn replace_root<'j>(root: &mut JsonValue<'j>, value: JsonValue<'j>)
+    ensures { root.new ≡ value.entry }
+{
+    if let JsonValue::Null = root {
+        replace_plain(root, value);
+    } else {
+        *root = value;
     }
 }
 
@@ -173,7 +185,7 @@ pub fn put_reserved<'j>(stacks: &mut Stacks<'j>, slot: Slot, value: JsonValue<'j
     match slot {
         Slot::Item => stacks.items.push_reserved(value),
         Slot::Member => set_last(&mut stacks.members, value),
-        Slot::Root => replace_placeholder(&mut stacks.root, value),
+        Slot::Root => replace_root(&mut stacks.root, value),
     }
 }
 
