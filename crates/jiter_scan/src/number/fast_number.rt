@@ -203,16 +203,13 @@ pub(crate) fn last_integer_at(bytes: &[u8], at: usize) -> (u64, usize)
     requires last { length bytes.now < at + 16 }
     ensures { 0 < result.1 → IsPlainInteger bytes.now at result.0 result.1 }
 {
-    if at == bytes.len() {
-        return (0, 0);
-    }
     let mut end = at;
     let mut magnitude = 0u64;
     'digits: while end < bytes.len() && is_digit(bytes[end]) {
         magnitude = magnitude * 10 + (bytes[end] - b'0') as u64;
         end += 1;
     }
-    if !may_lead(bytes[at], end - at) {
+    if end == at || !may_lead(bytes[at], end - at) {
         return (0, 0);
     }
     if end < bytes.len() && goes_on(bytes[end]) {

@@ -1,4 +1,4 @@
-use Rattle.jiter_scan.proofs.Words.{◌≡◌, ◌<◌, ◌⊎◌, inl, inr, ◌+◌, ◌∙◌, sym, arith, get_or, ◌≢◌, digit_run_end, is_digit}
+use Rattle.jiter_scan.proofs.Words.{◌≡◌, ◌⊎◌, inl, inr, ◌+◌, ◌∙◌, sym, arith, get_or, ◌≢◌, digit_run_end, is_digit}
 use Rattle.jiter_scan.proofs.Runs.{run_end-ahead, run_end-passing, run_end-past, run_end-stopping}
 use Rattle.jiter_scan.proofs.Magnitudes.{decimal_of-few, decimal_of-next}
 use Rattle.jiter_scan.proofs.FastNumbers.{integer-run}
@@ -52,14 +52,12 @@ returns c = λ _.
           omega (arith, run_end-stopping is_digit t e w.digits-test.true (sym w.is_digit.ensures ∙ w.if-is_digit.false))
       | else-digits-test w ↦ omega (arith, run_end-past is_digit t e w.digits-test.false)
     ] in
-    let passed = run_end-passing is_digit t i (omega arith) (c.may_lead.ensures.digit c.if-not-may_lead.false) in
-    let some : i < e = omega (arith, passed, run_end-ahead is_digit t (i + 1), c.digits.invariant.run, stop) in
     let first : (e ≡ i + 1) ⊎ (get_or t i 0 ≢ 48) =
     elim (c.may_lead.ensures.zero c.if-not-may_lead.false) [
       | inl one ↦ inl (omega (arith, one.1))
       | inr other ↦ inr other
     ] in
-    integer-run t i c.digits.magnitude e (c.digits.invariant.run ∙ stop) some c.digits.invariant.within
+    integer-run t i c.digits.magnitude e (c.digits.invariant.run ∙ stop) (omega arith) c.digits.invariant.within
     (omega arith) first
     (λ inside. elim c.else-end-bytes.branch [
       | else-end-bytes-via-then-end-bytes+else-goes_on w ↦ sym w.goes_on.ensures ∙ w.if-goes_on.false
