@@ -158,14 +158,21 @@ pub record IsKeyRead (policy : TextPolicy) (t : List ℕ) (i e j : ℕ) (k : Tex
   pub colon : step t colon e ≡ taken tt j
   pub within : (i < e) × (e ≤ length t)
 
--- A turn at the key at i proceeds, and knows the keys of the members then; or it is stopped, and nothing has changed.
-pub record HasTakenKey (policy : TextPolicy) (p : Settings) (t : List ℕ) (i : ℕ) (old new : Stacks) (r : ℕ × State)
+-- how many turns are taken at most: at a key and, unless only one is, at its value
+abbrev pub turns_at_key : Bool → ℕ
+turns_at_key true = 1
+turns_at_key false = 2
+
+-- At most n turns from the key at i proceed, and know the keys of the members then; or they are stopped at it, and nothing
+-- has changed but the state.
+pub record HasTakenKey (policy : TextPolicy) (p : Settings) (t : List ℕ) (n i : ℕ) (old new : Stacks) (r : ℕ × State)
     (stopped : Bool) (Knows : List (List ℕ) → Type 0) (Refuses : Type 0) : Type 0 where
-  pub leads : stopped ≡ false → Proceeds policy p t i (work_left t old i) (key_size old + 1) (from_key policy p t old i) new r
+  pub leads : stopped ≡ false
+      → Proceeds policy p t i (work_left t old i) (key_size old + n) (from_key policy p t old i) new r
   pub keys : stopped ≡ false
       → OnOk (outcome new r.1) ((ks : List (List ℕ)) × Knows ks × HaveKeys ks new.members.items)
   pub refused : stopped ≡ true → Refuses
-  pub same : stopped ≡ true → new ≡ old
+  pub same : stopped ≡ true → (new ≡ old) × (r.1 ≡ state.GivenUp)
 
 -- From the place i on the reading is given up at e, since an allocation failed.
 pub record IsRefusedAt (t : List ℕ) (i : ℕ) (s : Stacks) (e : ℕ) : Type 0 where

@@ -36,7 +36,7 @@ pub use Rattle.jiter_value.specs.Settings.{TextPolicy, answer_as, each, forgives
 pub use Rattle.jiter_value.specs.Size.{after_size, inside_size, size, value_size}
 pub use Rattle.jiter_value.specs.Stacks.{HasRoom, HasRoomIn, HaveKeys, HoldsSame, IsFree, LeavesKeys, Member, Stands, StandsAtKey, StandsInside, after, base_of, container_ends, container_fault, empty_tree, from_value, keys_of, member_view, part_of, resume_with, slot_in, without_root, slot_of}
 pub use Rattle.jiter_value.specs.StringStorage.{IsBorrowedAt, IsNumberAt, LieAt}
-pub use Rattle.jiter_value.specs.Turns.{Follows, HasTakenKey, IsAtKey, IsAtValue, IsKeyRead, IsPutAt, IsReady, IsRefusedAt, IsResolved, Proceeds, Turned, work_left, outcome, GoesOn, HasGone, HasTurned, MayGrowFor}
+pub use Rattle.jiter_value.specs.Turns.{Follows, HasTakenKey, IsAtKey, IsAtValue, IsKeyRead, IsPutAt, IsReady, IsRefusedAt, IsResolved, Proceeds, Turned, work_left, outcome, GoesOn, HasGone, HasTurned, MayGrowFor, turns_at_key}
 pub use Rattle.jiter_value.specs.UniqueErrors.{IsDuplicateKey, IsMemoryRefused, unique_kind}
 pub use Rattle.jiter_value.specs.UniqueKeys.{GivesUnique, GivesUniqueWhole, HasStopped, IsUniqueErrorOf, WhereUniqueRefused, fault_at_key, fault_of, has_key, innermost_base, object_has_key}
 pub use Rattle.jiter_value.specs.Value.{Answers, BeginsContainer, MayGrow, MayGrowAt, MayGrowBy, member_views, view, views}

@@ -27,34 +27,24 @@ pub(crate) mod key_turns;
 pub(crate) mod scalars;
 pub(crate) mod unique;
 
-// One turn at a value. `ONCE` and the number of the slot make three copies of the code for one turn and three for all.
+// One turn at a value. `ONCE` and the number of the slot make three copies of the code for one turn and three for all;
+// [`key_turn`] has another, for the value after a key.
 #[inline(always)]
 fn value_turn<'s, T: StringStorage<'s>, const ONCE: bool>(
     reading: &mut Reading<'s>,
     texts: T,
     bytes: &[u8],
     at: usize,
-    slot: Slot,
+    state: State,
 ) -> (usize, State)
     requires texts { T.of texts bytes.now }
-    requires at_value { IsAtValue bytes.now reading.old.stacks slot at }
-    ensures { Turned T.policy T.wants bytes.now at slot reading.old reading.new result }
-{
-    match slot {
-        Slot::Item => turn_into::<T, ONCE, 0>(reading, texts, bytes, at, Slot::Item),
-        Slot::Member => turn_into::<T, ONCE, 1>(reading, texts, bytes, at, Slot::Member),
-        Slot::Root => turn_into::<T, ONCE, 2>(reading, texts, bytes, at, Slot::Root),
-    }
-}
-
-#[inline(always)]
-fn slot_of(state: State) -> Slot
-    ensures { result ≡ slot_of state }
+    requires at_value { IsAtValue bytes.now reading.old.stacks (slot_of state) at }
+    ensures { Turned T.policy T.wants bytes.now at (slot_of state) reading.old reading.new result }
 {
     match state {
-        State::Item => Slot::Item,
-        State::Member => Slot::Member,
-        _ => Slot::Root,
+        State::Item => turn_into::<T, ONCE, 0>(reading, texts, bytes, at, Slot::Item),
+        State::Member => turn_into::<T, ONCE, 1>(reading, texts, bytes, at, Slot::Member),
+        _ => turn_into::<T, ONCE, 2>(reading, texts, bytes, at, Slot::Root),
     }
 }
 
@@ -210,13 +200,13 @@ impl<'s> Reading<'s> {
                 State::Done => break 'turning,
                 State::GivenUp => break 'turning,
                 State::Key => {
-                    let turned = key_turn(self, texts, keys, bytes, at);
+                    let turned = key_turn::<T, K, ONCE>(self, texts, keys, bytes, at);
                     if keys.has_stopped() {
                         break 'turning;
                     }
                     turned
                 }
-                _ => value_turn::<T, ONCE>(self, texts, bytes, at, slot_of(state)),
+                _ => value_turn::<T, ONCE>(self, texts, bytes, at, state),
             };
             at = next;
             state = what;

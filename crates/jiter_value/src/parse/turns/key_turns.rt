@@ -3,11 +3,12 @@ ghost use Rattle.std.specs.Prelude.{◌≡◌, ◌+◌, ◌≤◌, ◌<◌, ◌+
 ghost use Rattle.std.specs.Prelude.{vec_capacity, vec_len};
 ghost use Rattle.jiter_value.specs.Words.{taken, nesting_limit, fault, text_view, string_at, whole};
 ghost use Rattle.jiter_value.specs.Words.{StandsAtKey, HasRoomIn, HaveKeys, IsBorrowedAt, HasTakenKey, IsAtKey};
-ghost use Rattle.jiter_value.specs.Words.{IsKeyRead, Int, IsLook, scan_stop};
+ghost use Rattle.jiter_value.specs.Words.{IsKeyRead, Int, IsLook, scan_stop, turns_at_key};
 
-use crate::parse::stacks::{Stacks, State, no_memory, too_deep};
+use crate::parse::stacks::{Slot, Stacks, State, no_memory, too_deep};
 use crate::parse::string_storage::StringStorage;
 use crate::parse::turns::containers::fault_inside;
+use crate::parse::turns::scalars::turn_into;
 use crate::parse::turns::{KeyPolicy, Reading};
 use crate::value::JsonValue;
 use jiter_scan::bytes::short_scan::{Look, look_at};
@@ -67,8 +68,8 @@ fn kept_key<'s, T: StringStorage<'s>, K: KeyPolicy<'s>>(
     requires levels { length reading.old.stacks.nest.items ≤ nesting_limit + 1 }
     requires read { IsKeyRead T.policy bytes.now at end after (text_view key) }
     requires within { (end ≤ after) × (after ≤ length bytes.now) }
-    ensures turned { HasTakenKey T.policy reading.old.settings bytes.now at reading.old.stacks reading.new.stacks result
-        (K.stopped keys.new) (K.knows keys.new) (K.refuses keys.new bytes.now reading.old.stacks at) }
+    ensures turned { HasTakenKey T.policy reading.old.settings bytes.now 1 at reading.old.stacks reading.new.stacks
+        result (K.stopped keys.new) (K.knows keys.new) (K.refuses keys.new bytes.now reading.old.stacks at) }
     ensures serves { K.serves keys.new T.policy }
     ensures settings { reading.new.settings ≡ reading.old.settings }
 {
@@ -105,8 +106,8 @@ fn read_key<'s, T: StringStorage<'s>, K: KeyPolicy<'s>>(
     requires read { string_at whole bytes.now at ≡ taken (text_view key) end }
     requires borrowed { IsBorrowedAt bytes.now (at + 1) (text_view key) }
     requires within { (at < end) × (end ≤ length bytes.now) }
-    ensures turned { HasTakenKey T.policy reading.old.settings bytes.now at reading.old.stacks reading.new.stacks result
-        (K.stopped keys.new) (K.knows keys.new) (K.refuses keys.new bytes.now reading.old.stacks at) }
+    ensures turned { HasTakenKey T.policy reading.old.settings bytes.now 1 at reading.old.stacks reading.new.stacks
+        result (K.stopped keys.new) (K.knows keys.new) (K.refuses keys.new bytes.now reading.old.stacks at) }
     ensures serves { K.serves keys.new T.policy }
     ensures settings { reading.new.settings ≡ reading.old.settings }
 {
@@ -137,8 +138,8 @@ fn slow_key_turn<'s, T: StringStorage<'s>, K: KeyPolicy<'s>>(
     requires at_key { IsAtKey bytes.now reading.old.stacks at }
     requires stop { found.0 ≡ scan_stop bytes.now (at + 1) }
     requires found { IsLook bytes.now (at + 1) found.0 found.1 }
-    ensures turned { HasTakenKey T.policy reading.old.settings bytes.now at reading.old.stacks reading.new.stacks result
-        (K.stopped keys.new) (K.knows keys.new) (K.refuses keys.new bytes.now reading.old.stacks at) }
+    ensures turned { HasTakenKey T.policy reading.old.settings bytes.now 1 at reading.old.stacks reading.new.stacks
+        result (K.stopped keys.new) (K.knows keys.new) (K.refuses keys.new bytes.now reading.old.stacks at) }
     ensures serves { K.serves keys.new T.policy }
     ensures settings { reading.new.settings ≡ reading.old.settings }
 {
@@ -158,13 +159,13 @@ fn slow_key_turn<'s, T: StringStorage<'s>, K: KeyPolicy<'s>>(
     }
 }
 
-/// Takes one turn at a key. If `keys` doesn't allow the key, nothing changes.
+/// Takes a turn at a key and, unless `ONCE`, one at its value. If `keys` doesn't allow the key, nothing changes.
 ///
 /// # Requires
 ///
 /// A key begins at `at`, and the stack of members has the capacity for it. `keys` knows the keys before it.
 #[inline(always)]
-pub fn key_turn<'s, T: StringStorage<'s>, K: KeyPolicy<'s>>(
+pub fn key_turn<'s, T: StringStorage<'s>, K: KeyPolicy<'s>, const ONCE: bool>(
     reading: &mut Reading<'s>,
     texts: T,
     keys: &mut K,
@@ -176,8 +177,9 @@ pub fn key_turn<'s, T: StringStorage<'s>, K: KeyPolicy<'s>>(
     requires going { K.stopped keys.old ≡ false }
     requires known { (ks : List (List ℕ)) × K.knows keys.old ks × HaveKeys ks reading.old.stacks.members.items }
     requires at_key { IsAtKey bytes.now reading.old.stacks at }
-    ensures turned { HasTakenKey T.policy reading.old.settings bytes.now at reading.old.stacks reading.new.stacks result
-        (K.stopped keys.new) (K.knows keys.new) (K.refuses keys.new bytes.now reading.old.stacks at) }
+    ensures turned { HasTakenKey T.policy reading.old.settings bytes.now (turns_at_key ONCE) at reading.old.stacks
+        reading.new.stacks result (K.stopped keys.new) (K.knows keys.new)
+        (K.refuses keys.new bytes.now reading.old.stacks at) }
     ensures serves { K.serves keys.new T.policy }
     ensures settings { reading.new.settings ≡ reading.old.settings }
 {
@@ -185,7 +187,12 @@ pub fn key_turn<'s, T: StringStorage<'s>, K: KeyPolicy<'s>>(
     match look {
         Look::Plain => {
             let key = CowStr::Borrowed(utf8_text(&bytes[at + 1..to]));
-            read_key(reading, texts, keys, bytes, at, to + 1, key)
+            match read_key(reading, texts, keys, bytes, at, to + 1, key) {
+                (next, State::Member) if !ONCE => {
+                    turn_into::<T, ONCE, 3>(reading, texts, bytes, next, Slot::Member)
+                }
+                turned => turned,
+            }
         }
         _ => slow_key_turn(reading, texts, keys, bytes, at, (to, look)),
     }

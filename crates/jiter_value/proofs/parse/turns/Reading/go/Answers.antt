@@ -1,4 +1,4 @@
-use Rattle.jiter_value.proofs.Words.{◌∙◌, sym}
+use Rattle.jiter_value.proofs.Words.{◌∙◌, refl, sym}
 use Rattle.jiter_value.specs.declared.parse.stacks.State.TheVariants as state
 use Rattle.jiter_value.proofs.Turning.{come-on, goes-on, keys-left, not-once, on-if, value-on}
 use Rattle.jiter_value.proofs.parse.turns.Reading.go.Goals.{in-Done, in-GivenUp, in-Key+then-has_stopped, then-this-ne0}
@@ -31,7 +31,7 @@ turning-preserved g c =
           let known = v.4 more in
           rw (w.self-is, w.keys-is, w.next-is) (
             λ i h. rw e.settings (value-on policy g.T.StringStorage.wants t i l.self.settings s l.at l.state (v.0 i h) more
-                w.in_default.not-Key w.slot_of.result w.slot_of.ensures _ _ _ e.leads e.memory),
+                w.in_default.not-Key _ refl _ _ _ e.leads e.memory),
             e.settings ∙ v.1,
             v.2,
             v.3,
@@ -58,7 +58,7 @@ returns-clause-gone g c = λ i h.
       | in-Key+then-has_stopped w ↦
           let e = w.key_turn-turned.ensures in
           let stop = sym w.has_stopped.ensures ∙ w.if-has_stopped.true in
-          rw (w.self-is, w.at-is, w.state-is, e.settings, e.turned.same stop) (v.0 i h)
+          rw (w.self-is, w.at-is, w.state-is, e.settings, (e.turned.same stop).0) (v.0 i h)
       | then-this-ne0 w ↦
           rw (w.self-is, w.at-is, w.state-is) (elim w.match-state.branch [
             | in-Key+else-has_stopped k ↦
@@ -70,6 +70,6 @@ returns-clause-gone g c = λ i h.
                 let e = k.value_turn.ensures in
                 let more = goes-on l.state k.in_default.not-Done k.in_default.not-GivenUp in
                 rw (k.self-is, k.next-is, e.settings) (value-on policy g.T.StringStorage.wants t i l.self.settings s l.at l.state
-                (v.0 i h) more k.in_default.not-Key k.slot_of.result k.slot_of.ensures _ _ _ e.leads e.memory)
+                (v.0 i h) more k.in_default.not-Key _ refl _ _ _ e.leads e.memory)
           ])
     ]

@@ -1,6 +1,7 @@
-use Rattle.jiter_value.proofs.Words.{◌+◌, ◌∙◌, arith, false, refl, ap, sym, slice_get_within, taken, plain-utf8}
+use Rattle.jiter_value.proofs.Words.{◌+◌, ◌∙◌, arith, eqb, false, not, refl, ap, sym, slice_get_within, taken, plain-utf8}
 use Rattle.jiter_value.proofs.Words.{look-plain}
 use Rattle.jiter_value.proofs.BorrowedTexts.{range-lies}
+use Rattle.jiter_value.proofs.Taking.{then-value}
 use Rattle.jiter_value.proofs.parse.turns.key_turns.key_turn.Goals as goal
 
 pub utf8_text-requires : goal.utf8_text-requires
@@ -42,3 +43,11 @@ read_key-requires g c κs =
         ),
       ),
     )
+
+pub returns-in_default-Member-clause-turned : goal.returns-in_default-Member-clause-turned
+returns-in_default-Member-clause-turned g c =
+    let a = c.args in
+    let e = c.read_key.ensures in
+    then-value g.T.StringStorage.policy a.reading.now.settings g.T.StringStorage.wants a.bytes.now a.at a.reading.now.stacks
+    c.read_key.new.reading c.turn_into.new.reading c.read_key.result c.turn_into.result _ _ _ (not (eqb g.row.ONCE 0)) e.turned
+    c.in_default-Member.is-1 (ap (λ n. not (eqb n 0)) c.if-not-this.true) e.settings c.turn_into.ensures
