@@ -35,6 +35,7 @@ pub(crate) enum StringEvent {
     End(StringEnd),
 }
 
+#[inline(always)]
 fn digit(byte: u8) -> Option<u32>
     ensures value { IfSome result (λ d. (d ≡ digit_value byte) × (d < 16) × (is_hex byte ≡ true)) }
     ensures none { result ≡ None → is_hex byte ≡ false }

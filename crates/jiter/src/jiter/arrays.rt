@@ -22,8 +22,9 @@ impl<'j> Jiter<'j> {
     {
         match found {
             (at, Step::Part) => {
+                let byte = self.parser.bytes[at];
                 self.parser.index = at;
-                Ok(Some(Peek::new(self.parser.bytes[at])))
+                Ok(Some(Peek::new(byte)))
             }
             (at, Step::End) => {
                 self.parser.index = at;

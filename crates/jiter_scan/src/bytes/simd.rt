@@ -138,12 +138,12 @@ fn is_ascii_block(v: u8x16) -> bool
     highs(v) == 0
 }
 
-// The four vectors are merged before they are tested.
+// The four vectors are merged before they are tested. Returns the greatest byte of each lane too.
 #[inline(always)]
-fn is_plain_blocks(bytes: &[u8], i: usize) -> (bool, bool)
+fn is_plain_blocks(bytes: &[u8], i: usize) -> (bool, u8x16)
     requires { i + 64 ≤ length bytes.now }
     ensures plain { result.0 ≡ list_all is_plain (chunk i 64 bytes.now) }
-    ensures ascii { result.1 ≡ list_all is_ascii (chunk i 64 bytes.now) }
+    ensures ascii { list_all is_ascii result.1 ≡ list_all is_ascii (chunk i 64 bytes.now) }
 {
     let a = u8x16::from_slice(&bytes[i..]);
     let b = u8x16::from_slice(&bytes[i + 16..]);
@@ -152,13 +152,10 @@ fn is_plain_blocks(bytes: &[u8], i: usize) -> (bool, bool)
     let marked = greater(greater(marks(a), marks(b)), greater(marks(c), marks(d)));
     let controlled = controls(lesser(lesser(flip(a), flip(b)), lesser(flip(c), flip(d))));
     let highest = greater(greater(a, b), greater(c, d));
-    (
-        is_ascii_block(greater(marked, controlled)),
-        is_ascii_block(highest),
-    )
+    (is_ascii_block(greater(marked, controlled)), highest)
 }
 
-// 64 bytes at a time, as long as all of them are plain. Returns where they end.
+// 64 bytes at a time, as long as all of them are plain. Returns where they end. Tests once whether they were ASCII.
 #[inline(always)]
 fn scan_wide(bytes: &[u8], from: usize, ascii: bool) -> (usize, bool)
     requires { from ≤ length bytes.now }
@@ -168,16 +165,16 @@ fn scan_wide(bytes: &[u8], from: usize, ascii: bool) -> (usize, bool)
         ≡ (result.1 && ascii_from bytes.now result.0) }
 {
     let mut i = from;
-    let mut clean = ascii;
+    let mut greatest = u8x16::splat(0);
     while bytes.len() - i >= 64 {
-        let (plain, low) = is_plain_blocks(bytes, i);
+        let (plain, highest) = is_plain_blocks(bytes, i);
         if !plain {
             break;
         }
-        clean &= low;
+        greatest = greater(greatest, highest);
         i += 64;
     }
-    (i, clean)
+    (i, ascii & is_ascii_block(greatest))
 }
 
 // Sixteen bytes at a time. Most strings are short. So 64 bytes at a time only after the first 48.

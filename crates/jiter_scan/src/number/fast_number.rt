@@ -30,11 +30,10 @@ fn few_digits_end(bytes: &[u8], at: usize) -> Option<usize>
     ensures { IfSome result (λ e. (digit_run_end bytes.now at ≡ e) × (at < e)) }
 {
     let block = full_block_at(bytes, at);
-    let count = digit_count(block);
-    if count == 0 || count > 15 {
-        return None;
+    match digit_count(block) {
+        count @ 1..=15 => Some(at + count),
+        _ => None,
     }
-    Some(at + count)
 }
 
 // 16 to 31 digits, of which the first 16 are known.
@@ -64,14 +63,11 @@ fn fast_fraction_end(bytes: &[u8], at: usize) -> Option<usize>
         return Some(at);
     }
     let block = full_block_at(bytes, at + 1);
-    let count = digit_count(block);
-    if count == 0 {
-        return None;
+    match digit_count(block) {
+        0 => None,
+        count @ 1..=15 => Some(at + 1 + count),
+        _ => more_digits_end(bytes, at + 1),
     }
-    if count > 15 {
-        return more_digits_end(bytes, at + 1);
-    }
-    Some(at + 1 + count)
 }
 
 #[inline(always)]

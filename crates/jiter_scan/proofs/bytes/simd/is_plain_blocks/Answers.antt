@@ -23,5 +23,5 @@ returns-clause-plain c =
 pub returns-clause-ascii : goal.returns-clause-ascii
 returns-clause-ascii c =
     let both : Bool → Bool → Bool = λ x y. x && y in
-    c.is_ascii_block-2.ensures ∙ c.greater-highest.ensures ∙ ap₂ both c.greater-3.ensures c.greater-4.ensures
+    c.greater-highest.ensures ∙ ap₂ both c.greater-3.ensures c.greater-4.ensures
     ∙ sym (list_all-four is_ascii c.args.bytes.now c.args.i)

@@ -1,4 +1,4 @@
-use Rattle.jiter_scan.proofs.Words.{refl, ◌+◌, ◌&&◌, ap, sym, ◌∙◌, arith, is_plain, ascii_from}
+use Rattle.jiter_scan.proofs.Words.{◌+◌, ◌&&◌, ap, sym, ◌∙◌, arith, list_all, and_assoc, is_ascii, is_plain, ascii_from}
 use Rattle.jiter_scan.proofs.Chunks.{prefix_len-through}
 use Rattle.jiter_scan.proofs.PlainRuns.{ascii_from-through, still-ascii}
 use Rattle.jiter_scan.proofs.bytes.simd.scan_wide.Goals as goal
@@ -14,7 +14,8 @@ loop-i-preserved c =
     ∙ ap (λ b. b && ascii_from t (i + 64)) (sym found.ensures.ascii) in
     record {
       stop = omega arith;
-      ascii = still-ascii _ c.loop-i.clean found.result.1 _ _ _ c.loop-i.invariant.ascii low refl;
+      ascii = still-ascii _ _ (list_all is_ascii found.result.1) _ _ _ c.loop-i.invariant.ascii low
+          (ap (λ b. c.args.ascii && b) c.greater-greatest.ensures ∙ sym (and_assoc c.args.ascii _ _));
       above = omega arith;
       within = omega arith;
     }
