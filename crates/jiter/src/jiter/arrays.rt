@@ -22,9 +22,8 @@ impl<'j> Jiter<'j> {
     {
         match found {
             (at, Step::Part) => {
-                let byte = self.parser.bytes[at];
                 self.parser.index = at;
-                Ok(Some(Peek::new(byte)))
+                Ok(Some(Peek::new(self.parser.bytes[at])))
             }
             (at, Step::End) => {
                 self.parser.index = at;

@@ -30,10 +30,11 @@ fn few_digits_end(bytes: &[u8], at: usize) -> Option<usize>
     ensures { IfSome result (λ e. (digit_run_end bytes.now at ≡ e) × (at < e)) }
 {
     let block = full_block_at(bytes, at);
-    match digit_count(block) {
-        count @ 1..=15 => Some(at + count),
-        _ => None,
+    let count = digit_count(block);
+    if count == 0 || count > 15 {
+        return None;
     }
+    Some(at + count)
 }
 
 // 16 to 31 digits, of which the first 16 are known.
@@ -63,11 +64,14 @@ fn fast_fraction_end(bytes: &[u8], at: usize) -> Option<usize>
         return Some(at);
     }
     let block = full_block_at(bytes, at + 1);
-    match digit_count(block) {
-        0 => None,
-        count @ 1..=15 => Some(at + 1 + count),
-        _ => more_digits_end(bytes, at + 1),
+    let count = digit_count(block);
+    if count == 0 {
+        return None;
     }
+    if count > 15 {
+        return more_digits_end(bytes, at + 1);
+    }
+    Some(at + 1 + count)
 }
 
 #[inline(always)]
