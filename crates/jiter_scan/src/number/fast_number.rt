@@ -120,12 +120,13 @@ fn fast_exponent_end(bytes: &[u8], at: usize) -> Option<usize>
 }
 
 #[inline(always)]
-fn fast_float_end(bytes: &[u8], at: usize) -> Option<usize>
-    requires { at ≤ length bytes.now }
+fn fast_float_end(bytes: &[u8], at: usize, is_padded: bool) -> Option<usize>
+    requires within { at ≤ length bytes.now }
+    requires padded { is_padded ≡ true → at + 33 ≤ length bytes.now }
     ensures { IfSome result
         (λ e. span_then (fraction_at bytes.now at) (exponent_at bytes.now) ≡ taken tt e) }
 {
-    if at + 33 > bytes.len() {
+    if !is_padded && at + 33 > bytes.len() {
         return None;
     }
     match fast_fraction_end(bytes, at) {
@@ -171,10 +172,11 @@ fn may_lead(first: u8, count: usize) -> bool
     first == b'0' && count == 1
 }
 
-// The minus, if there is one, is before `at`.
+// The minus, if there is one, is before `at`. `is_padded` says that the fast path can't reach the end of the input.
 #[inline(always)]
-pub(crate) fn padded_number_at(bytes: &[u8], at: usize) -> FastNumber
-    requires { at + 16 ≤ length bytes.now }
+pub(crate) fn padded_number_at(bytes: &[u8], at: usize, is_padded: bool) -> FastNumber
+    requires within { at + 16 ≤ length bytes.now }
+    requires padded { is_padded ≡ true → at + 65 ≤ length bytes.now }
     ensures { IsFastNumber bytes.now at result }
 {
     let block = full_block_at(bytes, at);
@@ -188,7 +190,7 @@ pub(crate) fn padded_number_at(bytes: &[u8], at: usize) -> FastNumber
     if !goes_on(bytes[end]) {
         return FastNumber::Int(digit_word(block, count), end);
     }
-    match fast_float_end(bytes, end) {
+    match fast_float_end(bytes, end, is_padded) {
         Some(after) => FastNumber::Float(after),
         None => FastNumber::Other,
     }
@@ -230,7 +232,7 @@ pub fn fast_number_at(bytes: &[u8], at: usize) -> FastNumber
             (magnitude, end) => FastNumber::Int(magnitude, end),
         };
     }
-    padded_number_at(bytes, at)
+    padded_number_at(bytes, at, false)
 }
 
 /// Returns the integer with this magnitude and this sign.

@@ -104,7 +104,7 @@ pub fn padded_number_end(bytes: &[u8], at: usize) -> Option<usize>
         (λ e. (names : Bool) → number_span names bytes.now at ≡ taken tt e) }
     ensures place { IfSome result (λ e. (at < e) × (e ≤ length bytes.now)) }
 {
-    match padded_number_at(bytes, skip_minus(bytes, at)) {
+    match padded_number_at(bytes, skip_minus(bytes, at), true) {
         FastNumber::Int(_, end) => Some(end),
         FastNumber::Float(end) => Some(end),
         FastNumber::Other => None,
