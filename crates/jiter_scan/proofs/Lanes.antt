@@ -2,11 +2,11 @@
 use Rattle.jiter_scan.proofs.Words.{◌≡◌, ℕ, ◌^◌, ◌%◌, leb, Bool, true, false, not, ◌&&◌, cond, eqb, List}
 use Rattle.jiter_scan.proofs.Words.{[], ◌∷◌, map, length, refl, sym, ap, ap₂, ◌∙◌, arith, length-map, agree_below_at}
 use Rattle.jiter_scan.proofs.Words.{replicate, list_all, nat_tests, is_plain, is_ascii, failing, is_no_mark}
-use Rattle.jiter_scan.proofs.Words.{is_no_control, ltb, w8, mask_l-mod, agree_below, mask_l, sel_l, top, Each1}
-use Rattle.jiter_scan.proofs.Words.{flipped}
+use Rattle.jiter_scan.proofs.Words.{ltb, w8, mask_l-mod, agree_below, mask_l, sel_l, top, Each1}
+use Rattle.jiter_scan.proofs.Words.{◌+◌, flipped, flips, is_plain_ascii, plain_to, chunk, get_or, and_parts}
+use Rattle.jiter_scan.proofs.Chunks.{list_all-four}
 use Rattle.std.proofs.Common.{Fits}
-use Rattle.std.proofs.lemmas.Nat.{and_le_r}
-use Rattle.std.specs.Int.Bits.{xor_add_and}
+use Rattle.std.proofs.lemmas.Simd.{chunk-fits}
 use lib.Lanes.{zip2}
 
 -- all ones where two bytes are equal, where the first is less, and where it is no greater
@@ -34,20 +34,31 @@ failing-lanes f test v z long fits e all =
     ∙ mask_l-mod (map (λ c. not (test c)) v) 64 (omega (arith, length-map v (λ c. not (test c))))
 
 -- what `select` gives of all ones and none, by the same bit
-pub list_all-chosen : (f : ℕ → ℕ) (test : ℕ → Bool) (v z : List ℕ) → length v ≡ 16 → Each1 (Fits w8) v → z ≡ map f v
-    → agree_below (λ x. is_ascii (cond (top 7 (f x)) 255 0)) test 256 ≡ true
+pub list_all-chosen : (f : ℕ → ℕ) (test : ℕ → Bool) (v z : List ℕ) → length v ≡ 16 → z ≡ map f v
+    → ((c : ℕ) → is_ascii (cond (top 7 (f c)) 255 0) ≡ test c)
     → list_all is_ascii (sel_l (map (top 7) z) (replicate 16 255) (replicate 16 0)) ≡ list_all test v
-list_all-chosen f test v z long fits e all =
+list_all-chosen f test v z long e all =
     ap (λ l. list_all is_ascii (sel_l (map (top 7) l) (replicate 16 255) (replicate 16 0))) e
     ∙ ap (λ n. list_all is_ascii (sel_l (map (top 7) (map f v)) (replicate n 255) (replicate n 0))) (sym long)
-    ∙ each v fits
+    ∙ each v
   where
-    each : (w : List ℕ) → Each1 (Fits w8) w
+    each : (w : List ℕ)
         → list_all is_ascii (sel_l (map (top 7) (map f w)) (replicate (length w) 255) (replicate (length w) 0))
         ≡ list_all test w
-    each [] h = refl
-    each (x ∷ w) h = ap₂ (λ a b. a && b)
-        (agree_below_at (λ y. is_ascii (cond (top 7 (f y)) 255 0)) test 256 x all h.0.fits) (each w h.1)
+    each [] = refl
+    each (x ∷ w) = ap₂ (λ a b. a && b) (all x) (each w)
+
+pub marked-byte : (c : ℕ) → is_ascii (cond (top 7 (if_equal c 92)) 255 0) ≡ is_no_mark c
+marked-byte c = by (eqb c 92) refl where
+  by : (b : Bool) → eqb c 92 ≡ b → is_ascii (cond (top 7 (cond b 255 0)) 255 0) ≡ is_no_mark c
+  by true e = grind (arith, nat_tests)
+  by false e = grind (arith, nat_tests)
+
+pub below-byte : (n c : ℕ) → is_ascii (cond (top 7 (if_less c n)) 255 0) ≡ leb n c
+below-byte n c = by (ltb c n) refl where
+  by : (b : Bool) → ltb c n ≡ b → is_ascii (cond (top 7 (cond b 255 0)) 255 0) ≡ leb n c
+  by true e = grind (arith, nat_tests)
+  by false e = grind (arith, nat_tests)
 
 -- two tests of two bytes, and of those after them
 pub and-swap : (a b c d : Bool) → ((a && b) && (c && d)) ≡ ((a && c) && (b && d))
@@ -56,9 +67,9 @@ and-swap true false true d = refl
 and-swap true false false d = refl
 and-swap false b c d = refl
 
-lesser-byte : (x y : ℕ) → is_no_control (cond (top 7 (if_less x y)) x y) ≡ (is_no_control x && is_no_control y)
-lesser-byte x y = by (ltb x y) refl where
-  by : (b : Bool) → ltb x y ≡ b → is_no_control (cond (top 7 (cond b 255 0)) x y) ≡ (is_no_control x && is_no_control y)
+lesser-byte : (n x y : ℕ) → leb n (cond (top 7 (if_less x y)) x y) ≡ (leb n x && leb n y)
+lesser-byte n x y = by (ltb x y) refl where
+  by : (b : Bool) → ltb x y ≡ b → leb n (cond (top 7 (cond b 255 0)) x y) ≡ (leb n x && leb n y)
   by true e = grind (arith, nat_tests)
   by false e = grind (arith, nat_tests)
 
@@ -68,16 +79,15 @@ greater-byte x y = by (ltb x y) refl where
   by true e = grind (arith, nat_tests)
   by false e = grind (arith, nat_tests)
 
--- no lesser byte is one where none of both is
-pub list_all-lesser : (v w : List ℕ) → length v ≡ length w
-    → list_all is_no_control (sel_l (map (top 7) (zip2 if_less v w)) v w)
-    ≡ (list_all is_no_control v && list_all is_no_control w)
-list_all-lesser [] [] h = refl
-list_all-lesser [] (y ∷ w) h = absurd (omega arith)
-list_all-lesser (x ∷ v) [] h = absurd (omega arith)
-list_all-lesser (x ∷ v) (y ∷ w) h =
-    ap₂ (λ a b. a && b) (lesser-byte x y) (list_all-lesser v w (omega arith))
-    ∙ and-swap (is_no_control x) (is_no_control y) (list_all is_no_control v) (list_all is_no_control w)
+-- the lesser bytes are no less than a number where none of both is
+pub list_all-lesser : (n : ℕ) (v w : List ℕ) → length v ≡ length w
+    → list_all (leb n) (sel_l (map (top 7) (zip2 if_less v w)) v w) ≡ (list_all (leb n) v && list_all (leb n) w)
+list_all-lesser n [] [] h = refl
+list_all-lesser n [] (y ∷ w) h = absurd (omega arith)
+list_all-lesser n (x ∷ v) [] h = absurd (omega arith)
+list_all-lesser n (x ∷ v) (y ∷ w) h =
+    ap₂ (λ a b. a && b) (lesser-byte n x y) (list_all-lesser n v w (omega arith))
+    ∙ and-swap (leb n x) (leb n y) (list_all (leb n) v) (list_all (leb n) w)
 
 pub list_all-greater : (v w : List ℕ) → length v ≡ length w
     → list_all is_ascii (sel_l (map (top 7) (zip2 if_less v w)) w v) ≡ (list_all is_ascii v && list_all is_ascii w)
@@ -88,30 +98,45 @@ list_all-greater (x ∷ v) (y ∷ w) h =
     ap₂ (λ a b. a && b) (greater-byte x y) (list_all-greater v w (omega arith))
     ∙ and-swap (is_ascii x) (is_ascii y) (list_all is_ascii v) (list_all is_ascii w)
 
--- a plain byte is no backslash, and flipped no byte below 33
-plain-byte : (c : ℕ) → is_plain c ≡ (is_no_mark c && is_no_control (flipped c))
-plain-byte c = by (leb 128 c) refl where
-  by : (b : Bool) → leb 128 c ≡ b → is_plain c ≡ (is_no_mark c && is_no_control (flipped c))
-  by true e = grind (arith, nat_tests, xor_add_and c 2, and_le_r c 2)
-  by false e = agree_below_at is_plain (λ x. is_no_mark x && is_no_control (flipped x)) 128 c refl (grind (arith, nat_tests))
+-- a plain byte is no backslash, and flipped not below the limit
+plain-byte : (ascii : Bool) → agree_below (plain_to ascii)
+    (λ c. is_no_mark c && leb (flips ascii + 31) (flipped (flips ascii) c)) 256 ≡ true
+plain-byte true = refl
+plain-byte false = refl
 
-pub list_all-plain : (v : List ℕ)
-    → list_all is_plain v ≡ (list_all is_no_mark v && list_all is_no_control (map flipped v))
-list_all-plain [] = refl
-list_all-plain (c ∷ v) =
-    ap₂ (λ a b. a && b) (plain-byte c) (list_all-plain v)
-    ∙ and-swap (is_no_mark c) (is_no_control (flipped c)) (list_all is_no_mark v) (list_all is_no_control (map flipped v))
+module _ (ascii : Bool) where
+  abbrev clear : List ℕ → Bool
+  clear v = list_all (leb (flips ascii + 31)) (map (flipped (flips ascii)) v)
 
--- the same of four vectors
-pub list_all-plain-four : (a b c d : List ℕ)
-    → (((list_all is_no_mark a && list_all is_no_mark b) && (list_all is_no_mark c && list_all is_no_mark d))
-    && ((list_all is_no_control (map flipped a) && list_all is_no_control (map flipped b))
-    && (list_all is_no_control (map flipped c) && list_all is_no_control (map flipped d))))
-    ≡ ((list_all is_plain a && list_all is_plain b) && (list_all is_plain c && list_all is_plain d))
-list_all-plain-four a b c d =
-    let both : Bool → Bool → Bool = λ x y. x && y in
-    let two = λ (u v : List ℕ). and-swap (list_all is_no_mark u) (list_all is_no_mark v)
-    (list_all is_no_control (map flipped u)) (list_all is_no_control (map flipped v))
-    ∙ ap₂ both (sym (list_all-plain u)) (sym (list_all-plain v)) in
-    and-swap (list_all is_no_mark a && list_all is_no_mark b) (list_all is_no_mark c && list_all is_no_mark d) _ _
-    ∙ ap₂ both (two a b) (two c d)
+  pub list_all-plain : (v : List ℕ) → Each1 (Fits w8) v
+      → list_all (plain_to ascii) v ≡ (list_all is_no_mark v && clear v)
+  list_all-plain [] fits = refl
+  list_all-plain (c ∷ v) fits =
+      ap₂ (λ a b. a && b) (agree_below_at (plain_to ascii) (λ x. is_no_mark x && leb (flips ascii + 31) (flipped (flips ascii) x)) 256 c (plain-byte ascii) fits.0.fits) (list_all-plain v fits.1)
+      ∙ and-swap (is_no_mark c) (leb (flips ascii + 31) (flipped (flips ascii) c)) (list_all is_no_mark v) (clear v)
+
+  -- the same of four vectors
+  pub list_all-plain-four : (t : List ℕ) (i : ℕ) → ((k : ℕ) → Fits w8 (get_or t k 0)) →
+      let has : ℕ → Bool = λ k. list_all is_no_mark (chunk k 16 t) in
+      let is : ℕ → Bool = λ k. clear (chunk k 16 t) in
+      (((has i && has (i + 16)) && (has (i + 32) && has (i + 48)))
+      && ((is i && is (i + 16)) && (is (i + 32) && is (i + 48)))) ≡ list_all (plain_to ascii) (chunk i 64 t)
+  list_all-plain-four t i fits =
+      let both : Bool → Bool → Bool = λ x y. x && y in
+      let has : ℕ → Bool = λ k. list_all is_no_mark (chunk k 16 t) in
+      let is : ℕ → Bool = λ k. clear (chunk k 16 t) in
+      let one = λ (k : ℕ). sym (list_all-plain (chunk k 16 t) (chunk-fits w8 k 16 t fits)) in
+      let two = λ (k l : ℕ). and-swap (has k) (has l) (is k) (is l) ∙ ap₂ both (one k) (one l) in
+      and-swap (has i && has (i + 16)) (has (i + 32) && has (i + 48)) _ _
+      ∙ ap₂ both (two i (i + 16)) (two (i + 32) (i + 48)) ∙ sym (list_all-four (plain_to ascii) t i)
+
+-- both tests of each byte
+pub list_all-both : (v : List ℕ) → list_all is_plain_ascii v ≡ (list_all is_plain v && list_all is_ascii v)
+list_all-both [] = refl
+list_all-both (c ∷ v) =
+    ap (λ b. is_plain_ascii c && b) (list_all-both v)
+    ∙ and-swap (is_plain c) (is_ascii c) (list_all is_plain v) (list_all is_ascii v)
+
+pub plain-of_test : (ascii : Bool) (v : List ℕ) → list_all (plain_to ascii) v ≡ true → list_all is_plain v ≡ true
+plain-of_test true v h = (and_parts _ _ (sym (list_all-both v) ∙ h)).0
+plain-of_test false v h = h

@@ -4,10 +4,11 @@ use Rattle.jiter_scan.proofs.Words.{◌∷◌, length, drop, take, get_or, refl,
 use Rattle.jiter_scan.proofs.Words.{take-add, take-take, drop-drop, drop-cons, inl, inr, IsTrue, slice_range}
 use Rattle.jiter_scan.proofs.Words.{length-chunk, list_all-append, prefix_len-le-length, AllPass-from_list_all}
 use Rattle.jiter_scan.proofs.Words.{cases_eq, le-leb, nat_tests, prefix_len, list_all, chunk, count_trailing_zeros}
-use Rattle.jiter_scan.proofs.Words.{is_plain, is_ascii, scan_stop, IsAsciiTo, failing, ascii_from, add-one, ◌↔◌}
+use Rattle.jiter_scan.proofs.Words.{is_plain, is_ascii, is_plain_ascii, scan_stop, IsAsciiTo, failing, ascii_from, add-one, ◌↔◌}
 use Rattle.jiter_scan.proofs.Words.{and_assoc, list_all-from_AllPass, lt-leb, is_stop}
 use Rattle.jiter_scan.proofs.Chunks.{list_all-failing, prefix_len-all, prefix_len-failing, prefix_len-through}
 use Rattle.jiter_scan.proofs.Chunks.{prefix_len-inside, none_fails, one_fails}
+use Rattle.jiter_scan.proofs.Lanes.{list_all-both}
 
 prefix-step : (b : Bool) (r n : ℕ) (all : Bool) → all ≡ leb r n → (b && all) ≡ leb (suc r) (cond b (1 + n) 0)
 prefix-step false r n all e = sym (lt-leb (suc r) 0 (omega arith))
@@ -42,6 +43,14 @@ module _ (t : List ℕ) (i n : ℕ) where
       ∙ ap (list_all is_ascii) (take-add n m (drop i t))
       ∙ list_all-append is_ascii (chunk i n t) (take m (drop n (drop i t)))
       ∙ ap (λ l. list_all is_ascii (chunk i n t) && list_all is_ascii (take m l)) (drop-drop n i t)
+
+  -- where all of it are plain, and not all plain ASCII
+  pub no-ascii : i + n ≤ length t → list_all is_plain (chunk i n t) ≡ true → list_all is_plain_ascii (chunk i n t) ≡ false
+      → ascii_from t i ≡ false
+  no-ascii reach plain other =
+      ascii_from-through reach plain
+      ∙ ap (λ b. b && ascii_from t (i + n))
+      (ap (λ b. b && list_all is_ascii (chunk i n t)) (sym plain) ∙ sym (list_all-both (chunk i n t)) ∙ other)
 
   -- the same by masks of the bytes that stop and of those that are not ASCII
   module _ (found high : ℕ) (stops : found ≡ failing is_plain (chunk i n t))

@@ -15,7 +15,7 @@ pub use Rattle.jiter_scan.specs.PartialNumber.{BeginsThere, BeginsTo, GoesTo, Ho
 pub use Rattle.jiter_scan.specs.Position.{column_of, line_of}
 pub use Rattle.jiter_scan.specs.Scan.{IsAsciiTo, IsFaultOf, Pass, is_ascii, is_plain, is_plain_ascii, is_stop, run_end, scan_stop}
 pub use Rattle.jiter_scan.specs.Scanned.{AnswersAlone, FaultAt, Scanned, Scans, failed, taken}
-pub use Rattle.jiter_scan.specs.Simd.{IsEightBytes, ascii_from, failing, flipped, is_no_control, is_no_mark, less_zero}
+pub use Rattle.jiter_scan.specs.Simd.{IsEightBytes, ascii_from, failing, flipped, flips, is_no_mark, less_zero, plain_to}
 pub use Rattle.jiter_scan.specs.Stands.{Stands}
 pub use Rattle.jiter_scan.specs.Word.{Span, byte_then}
 unfoldable pub use Rattle.jiter_scan.specs.Word.{word_at}

@@ -7,7 +7,7 @@ use Rattle.std.specs.List.{prefix_len, list_all}
 use Rattle.std.specs.Simd.Lanes.{mask_l}
 use Rattle.jiter_scan.specs.Ascii as ascii
 use Rattle.jiter_scan.specs.Digits.{digit_run_end}
-use Rattle.jiter_scan.specs.Scan.{is_plain, is_ascii}
+use Rattle.jiter_scan.specs.Scan.{is_plain, is_plain_ascii, is_ascii}
 
 -- where the digits at i end, or none where there are more than the limit
 abbrev pub digits_end : List ℕ → ℕ → ℕ → Option ℕ
@@ -25,13 +25,17 @@ failing test v = mask_l (map (λ c. not (test c)) v)
 abbrev pub is_no_mark : ℕ → Bool
 is_no_mark c = not (c == ascii.backslash)
 
--- a byte with one bit flipped: the quote becomes a space, and a space becomes a quote
-abbrev pub flipped : ℕ → ℕ
-flipped c = bit_xor c 2
+-- a byte with these bits flipped: by 2, the quote becomes a space, and a space becomes a quote
+abbrev pub flipped : ℕ → ℕ → ℕ
+flipped bits c = bit_xor c bits
 
--- a flipped byte that was neither a control byte nor a quote
-abbrev pub is_no_control : ℕ → Bool
-is_no_control c = nat_le 33 c
+-- a plain byte or, if asked, a plain byte of ASCII
+abbrev pub plain_to : Bool → ℕ → Bool
+plain_to ascii = if ascii then is_plain_ascii else is_plain
+
+-- the bits that are flipped to find others
+abbrev pub flips : Bool → ℕ
+flips ascii = if ascii then 130 else 2
 
 -- a byte less 30 hex, wrapping
 abbrev pub less_zero : ℕ → ℕ

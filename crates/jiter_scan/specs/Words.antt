@@ -11,7 +11,7 @@ pub use Rattle.jiter_scan.specs.PartialWord.{word_by, word_from}
 pub use Rattle.jiter_scan.specs.Position.{at_index, description_text, position_of, position_text, short_text}
 pub use Rattle.jiter_scan.specs.Scan.{IsAsciiTo, is_ascii, is_plain, is_plain_ascii, scan_stop}
 pub use Rattle.jiter_scan.specs.Scanned.{AnswersAlone, Scans, taken, whole_text, with_end, failed}
-pub use Rattle.jiter_scan.specs.Simd.{IsEightBytes, ascii_from, digits_end, failing, flipped, is_no_control, is_no_mark, less_zero}
+pub use Rattle.jiter_scan.specs.Simd.{IsEightBytes, ascii_from, digits_end, failing, flipped, flips, is_no_mark, less_zero, plain_to}
 pub use Rattle.jiter_scan.specs.Word.{word_at}
 pub use Rattle.smallvec.specs.SmallVec.{HasRoomFor}
 pub use Rattle.std.specs.BTreeSet.{contains, insert_key}

@@ -1,22 +1,20 @@
 //! Strings, sixteen bytes at a time. A plain byte is one that is not a quote, a backslash or a control byte.
-ghost use Rattle.std.specs.Prelude.{◌≡◌, ◌↔◌, ℕ, List, ◌+◌, ◌-◌, ◌*◌, ◌^◌, ◌<◌, ◌≤◌, ◌++◌, ◌&&◌, IsTrue, length, take};
-ghost use Rattle.std.specs.Prelude.{drop, map, IfOk, nat_le, slice_range, true, vec_len};
-ghost use Rattle.jiter_scan.specs.Words.{w64, trailing_zeros, number_from_digits, AllBelowBase, list_all, chunk};
-ghost use Rattle.jiter_scan.specs.Words.{number_l, is_digit, digit_run_end, decimal_of, is_plain, is_ascii, scan_stop};
-ghost use Rattle.jiter_scan.specs.Words.{is_plain_ascii, IsAsciiTo, digits_end, ascii_from, failing, is_no_mark};
-ghost use Rattle.jiter_scan.specs.Words.{is_no_control, less_zero, IsEightBytes, flipped};
+ghost use Rattle.std.specs.Prelude.{◌≡◌, ◌↔◌, ℕ, ◌+◌, ◌-◌, ◌^◌, ◌<◌, ◌≤◌, ◌++◌, ◌&&◌, IsTrue, length, take, map, IfOk};
+ghost use Rattle.std.specs.Prelude.{nat_le, slice_range, true, false, vec_len};
+ghost use Rattle.jiter_scan.specs.Words.{w64, trailing_zeros, list_all, chunk, is_plain, is_ascii, scan_stop, plain_to};
+ghost use Rattle.jiter_scan.specs.Words.{is_plain_ascii, IsAsciiTo, ascii_from, failing, is_no_mark, flipped, flips};
 
 pub use crate::bytes::decimal::{digit_count, digit_word, digits_end};
 use crate::bytes::decode_buffer::{put_block, put_slice};
 use crate::memory::AllocFailed;
 use std::simd::prelude::*;
 
-// Flips a bit of each byte. Then the control bytes and the quote, and no other bytes, are below 33.
+// With bits 2, the control bytes and the quote are then those below 33; with 82 hex, also all from 80 hex, below A1 hex.
 #[inline(always)]
-fn flip(v: u8x16) -> u8x16
-    ensures { result ≡ map flipped v }
+fn flip(v: u8x16, bits: u8) -> u8x16
+    ensures { result ≡ map (flipped bits) v }
 {
-    v ^ u8x16::splat(2)
+    v ^ u8x16::splat(bits)
 }
 
 /// Returns a mask with a bit for each byte that is not plain. In each mask the lowest bit is for the first byte.
@@ -24,16 +22,14 @@ fn flip(v: u8x16) -> u8x16
 pub fn stops(v: u8x16) -> u64
     ensures { result ≡ failing is_plain v }
 {
-    (flip(v).simd_lt(u8x16::splat(33)) | v.simd_eq(u8x16::splat(b'\\'))).to_bitmask()
+    (flip(v, 2).simd_lt(u8x16::splat(33)) | v.simd_eq(u8x16::splat(b'\\'))).to_bitmask()
 }
 
 #[inline(always)]
 pub(crate) fn ascii_stops(v: u8x16) -> u64
     ensures { result ≡ failing is_plain_ascii v }
 {
-    (v.simd_eq(u8x16::splat(b'"'))
-        | v.simd_eq(u8x16::splat(b'\\'))
-        | (v.simd_lt(u8x16::splat(b' ')) | v.simd_ge(u8x16::splat(0x80)))).to_bitmask()
+    (flip(v, 0x82).simd_lt(u8x16::splat(0xa1)) | v.simd_eq(u8x16::splat(b'\\'))).to_bitmask()
 }
 
 #[inline(always)]
@@ -107,19 +103,18 @@ fn marks(v: u8x16) -> u8x16
     found.select(u8x16::splat(0xff), u8x16::splat(0))
 }
 
-// Each lane is FF hex for a byte below 33, otherwise 0.
+// Each lane is FF hex for a byte below `least`, otherwise 0.
 #[inline(always)]
-fn controls(v: u8x16) -> u8x16
-    ensures { list_all is_ascii result ≡ list_all is_no_control v }
+fn below(v: u8x16, least: u8) -> u8x16
+    ensures { list_all is_ascii result ≡ list_all (nat_le least) v }
 {
-    let found = v.simd_lt(u8x16::splat(33));
+    let found = v.simd_lt(u8x16::splat(least));
     found.select(u8x16::splat(0xff), u8x16::splat(0))
 }
 
 #[inline(always)]
 fn lesser(a: u8x16, b: u8x16) -> u8x16
-    ensures { list_all is_no_control result
-        ≡ (list_all is_no_control a && list_all is_no_control b) }
+    ensures { (n : ℕ) → list_all (nat_le n) result ≡ (list_all (nat_le n) a && list_all (nat_le n) b) }
 {
     a.simd_min(b)
 }
@@ -131,31 +126,57 @@ fn greater(a: u8x16, b: u8x16) -> u8x16
     a.simd_max(b)
 }
 
+// Which bits are flipped to find what is not plain or, with `ascii`, not plain ASCII.
 #[inline(always)]
-fn is_ascii_block(v: u8x16) -> bool
-    ensures { result ≡ list_all is_ascii v }
+fn flips(ascii: bool) -> u8
+    ensures { result ≡ flips ascii }
 {
-    highs(v) == 0
+    if ascii { 0x82 } else { 2 }
 }
 
-// The four vectors are merged before they are tested. Returns the greatest byte of each lane too.
+// Merges four vectors, then tests whether all bytes are plain and, with `ascii`, below 80 hex. The second result is a hint,
+// of which no contract speaks: with `ascii`, whether all are below 80 hex.
 #[inline(always)]
-fn is_plain_blocks(bytes: &[u8], i: usize) -> (bool, u8x16)
+fn is_plain_blocks(bytes: &[u8], i: usize, ascii: bool) -> (bool, bool)
     requires { i + 64 ≤ length bytes.now }
-    ensures plain { result.0 ≡ list_all is_plain (chunk i 64 bytes.now) }
-    ensures ascii { list_all is_ascii result.1 ≡ list_all is_ascii (chunk i 64 bytes.now) }
+    ensures { result.0 ≡ list_all (plain_to ascii) (chunk i 64 bytes.now) }
 {
+    let bits = flips(ascii);
     let a = u8x16::from_slice(&bytes[i..]);
     let b = u8x16::from_slice(&bytes[i + 16..]);
     let c = u8x16::from_slice(&bytes[i + 32..]);
     let d = u8x16::from_slice(&bytes[i + 48..]);
     let marked = greater(greater(marks(a), marks(b)), greater(marks(c), marks(d)));
-    let controlled = controls(lesser(lesser(flip(a), flip(b)), lesser(flip(c), flip(d))));
-    let highest = greater(greater(a, b), greater(c, d));
-    (is_ascii_block(greater(marked, controlled)), highest)
+    let first = lesser(flip(a, bits), flip(b, bits));
+    let least = lesser(first, lesser(flip(c, bits), flip(d, bits)));
+    let found = highs(greater(marked, below(least, bits + 31)));
+    (found == 0, highs(least) == 0xffff)
 }
 
-// 64 bytes at a time, as long as all of them are plain. Returns where they end. Tests once whether they were ASCII.
+// 64 bytes at a time, as long as all pass the test. Returns where they end, and the hint there.
+#[inline(always)]
+fn wide_end(bytes: &[u8], from: usize, ascii: bool) -> (usize, bool)
+    requires { from ≤ length bytes.now }
+    ensures stop { scan_stop bytes.now from ≡ scan_stop bytes.now result.0 }
+    ensures within { (from ≤ result.0) × (result.0 ≤ length bytes.now) }
+    ensures ascii { ascii ≡ true → ascii_from bytes.now from ≡ ascii_from bytes.now result.0 }
+    ensures first { from < result.0 → (from + 64 ≤ length bytes.now)
+        × (list_all (plain_to ascii) (chunk from 64 bytes.now) ≡ true) }
+    ensures next { result.0 + 64 ≤ length bytes.now
+        → list_all (plain_to ascii) (chunk result.0 64 bytes.now) ≡ false }
+{
+    let mut i = from;
+    while bytes.len() - i >= 64 {
+        let (plain, near) = is_plain_blocks(bytes, i, ascii);
+        if !plain {
+            return (i, near);
+        }
+        i += 64;
+    }
+    (i, true)
+}
+
+// As long as all bytes are ASCII, one test of each 64 asks for both. After others, it asks for plain bytes alone.
 #[inline(always)]
 fn scan_wide(bytes: &[u8], from: usize, ascii: bool) -> (usize, bool)
     requires { from ≤ length bytes.now }
@@ -164,17 +185,15 @@ fn scan_wide(bytes: &[u8], from: usize, ascii: bool) -> (usize, bool)
     ensures ascii { (ascii && ascii_from bytes.now from)
         ≡ (result.1 && ascii_from bytes.now result.0) }
 {
-    let mut i = from;
-    let mut greatest = u8x16::splat(0);
-    while bytes.len() - i >= 64 {
-        let (plain, highest) = is_plain_blocks(bytes, i);
-        if !plain {
-            break;
-        }
-        greatest = greater(greatest, highest);
-        i += 64;
+    if !ascii {
+        return (wide_end(bytes, from, false).0, false);
     }
-    (i, ascii & is_ascii_block(greatest))
+    let (near, is_near) = wide_end(bytes, from, true);
+    if is_near {
+        return (near, true);
+    }
+    let (end, _) = wide_end(bytes, near, false);
+    (end, end == near)
 }
 
 // Sixteen bytes at a time. Most strings are short. So 64 bytes at a time only after the first 48.
@@ -219,13 +238,13 @@ fn scan_far(bytes: &[u8], from: usize, ascii: bool) -> (usize, bool)
     scan_blocks(bytes, from, ascii)
 }
 
-// The caller doesn't ask whether the bytes are ASCII, so the compiler can drop that test.
+// The caller doesn't ask whether the bytes are ASCII.
 #[inline(never)]
 fn stop_far(bytes: &[u8], from: usize) -> usize
     requires { from ≤ length bytes.now }
     ensures { result ≡ scan_stop bytes.now from }
 {
-    let (stop, _) = scan_blocks(bytes, from, true);
+    let (stop, _) = scan_blocks(bytes, from, false);
     stop
 }
 

@@ -1,21 +1,24 @@
-use Rattle.jiter_scan.proofs.Words.{◌+◌, ◌&&◌, ap, sym, ◌∙◌, arith, list_all, and_assoc, is_ascii, is_plain, ascii_from}
-use Rattle.jiter_scan.proofs.Chunks.{prefix_len-through}
-use Rattle.jiter_scan.proofs.PlainRuns.{ascii_from-through, still-ascii}
+use Rattle.jiter_scan.proofs.Words.{◌≡◌, ◌&&◌, ◌∙◌, ap, refl, sym, arith, inl, inr, cases_eq, eq-eqb, ne_eqb, eqb}
+use Rattle.jiter_scan.proofs.Words.{ascii_from}
+use Rattle.jiter_scan.proofs.PlainRuns.{no-ascii}
 use Rattle.jiter_scan.proofs.bytes.simd.scan_wide.Goals as goal
 
-pub loop-i-preserved : goal.loop-i-preserved
-loop-i-preserved c =
+pub returns : goal.returns
+returns c =
     let t = c.args.bytes.now in
-    let i = c.loop-i.i in
-    let found = c.is_plain_blocks-plain in
-    let plain = sym found.ensures.plain ∙ c.if-not-plain.false in
-    let run = prefix_len-through is_plain t i 64 (omega arith) plain in
-    let low = ascii_from-through t i 64 (omega arith) plain
-    ∙ ap (λ b. b && ascii_from t (i + 64)) (sym found.ensures.ascii) in
+    let near = c.wide_end-near in
+    let end = c.wide_end-end in
+    let n = near.result.0 in
+    let e = end.result.0 in
+    let whole : ascii_from t n ≡ (eqb e n && ascii_from t e) = elim (cases_eq e n) [
+      | inl same ↦ ap (ascii_from t) (sym same) ∙ ap (λ b. b && ascii_from t e) (sym (eq-eqb e n same))
+      | inr other ↦
+          let first = end.ensures.first (omega (arith, end.ensures.within.0)) in
+          no-ascii t n 64 first.0 first.1 (near.ensures.next first.0)
+          ∙ ap (λ b. b && ascii_from t e) (sym (ne_eqb e n other))
+    ] in
     record {
-      stop = omega arith;
-      ascii = still-ascii _ _ (list_all is_ascii found.result.1) _ _ _ c.loop-i.invariant.ascii low
-          (ap (λ b. c.args.ascii && b) c.greater-greatest.ensures ∙ sym (and_assoc c.args.ascii _ _));
-      above = omega arith;
-      within = omega arith;
+      stop = near.ensures.stop ∙ end.ensures.stop;
+      within = (omega (arith, near.ensures.within.0, end.ensures.within.0), end.ensures.within.1);
+      ascii = ap (λ b. b && ascii_from t c.args.from) c.if-not-ascii.false ∙ near.ensures.ascii refl ∙ whole;
     }

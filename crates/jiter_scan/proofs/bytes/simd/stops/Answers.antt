@@ -6,6 +6,6 @@ pub returns : goal.returns
 returns c =
     let v = c.args.v in
     let long = c.fits-v.0 in
-    let low = zip2_of_maps if_less flipped (λ _. 33) v c.flip.ensures (splat_is_map v 16 33 long) in
+    let low = zip2_of_maps if_less (flipped 2) (λ _. 33) v c.flip.ensures (splat_is_map v 16 33 long) in
     failing-lanes _ is_plain v _ long c.fits-v.1
     (zip2_of_maps bit_or _ _ v low (zip2_splat if_equal v 16 92 long)) refl
