@@ -53,7 +53,7 @@ pub use Rattle.jiter_steps.specs.StringReading.{Body, Event, Form, HexDigits, St
 unfoldable pub use Rattle.jiter_steps.specs.StringReading.{body_at, body_within, content_at, event_at}
 pub use Rattle.jiter_steps.specs.Tree.{Items, Members, Text, Tree, items_of, members_of}
 pub use Rattle.jiter_steps.specs.Unique.{BeginsNoUniqueDocument, HasNoKey, HasUniqueKeys, IsUniqueDocument, ItemsHaveUniqueKeys, MembersHaveUniqueKeys, after_its_colon, is_among, own_bytes, repeated_key, unique_answer, without_repeats}
-pub use Rattle.jiter_steps.specs.declared.escape.TheConstants.{SIMPLE_ESCAPES}
+pub use Rattle.jiter_steps.specs.declared.escape.TheConstants.{HEX_DIGITS, SIMPLE_ESCAPES}
 pub use Rattle.jiter_steps.specs.declared.parse.ContainerKind.{ContainerKind}
 pub use Rattle.jiter_steps.specs.declared.parse.Literal.{Literal}
 pub use Rattle.jiter_steps.specs.declared.parse.Start.{Start}

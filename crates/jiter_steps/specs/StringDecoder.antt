@@ -12,7 +12,7 @@ use Rattle.jiter_scan.specs.Scan.{scan_stop}
 use Rattle.jiter_scan.specs.Scanned.{Scans, with_end}
 use Rattle.jiter_steps.specs.ReadError.{UnlessRefused}
 use Rattle.jiter_steps.specs.Tree.{Text}
-use Rattle.jiter_steps.specs.StringReading.{HexDigits, number, bad, few, Event, part, over, Stop, closed, unclosed}
+use Rattle.jiter_steps.specs.StringReading.{HexDigits, number, bad, Event, part, over, Stop, closed, unclosed}
 use Rattle.jiter_steps.specs.StringReading.{cut, event_at, string_at, text_form, wrong}
 use Rattle.jiter_steps.specs.declared.escape.Hex.{Hex}
 use Rattle.jiter_steps.specs.declared.escape.Hex.TheVariants as hex
@@ -33,13 +33,11 @@ text_view c = record { owned = is_owned c; bytes = cow_str_bytes c }
 
 -- four hex digits as the code reads them
 abbrev pub digits_view : Hex → HexDigits
-digits_view hex.Short = few
 digits_view (hex.Bad k) = bad k
 digits_view (hex.Number u) = number u
 
 -- where there are four hex digits, of their number
 abbrev pub IfNumber : Hex → (ℕ → Type 0) → Type 0
-IfNumber hex.Short P = Unit {0}
 IfNumber (hex.Bad k) P = Unit {0}
 IfNumber (hex.Number u) P = P u
 

@@ -11,10 +11,9 @@ ghost use Rattle.jiter_steps.specs.declared.escape.StringEnd.TheVariants as endi
 use jiter_scan::errors::{Fault, FaultKind, fault_at};
 use jiter_scan::word::byte_at;
 
-// Four hex digits: their number, the index of the first wrong byte, or `Short` if fewer than four bytes are left.
+// Four hex digits: their number, or the index of the first wrong byte.
 #[derive(Clone, Copy, Debug)]
 enum Hex {
-    Short,
     Bad(usize),
     Number(u32),
 }
@@ -35,31 +34,28 @@ pub(crate) enum StringEvent {
     End(StringEnd),
 }
 
+// For each byte, the number that it means as a hex digit, or 64. So no four bytes of which one is wrong add up to less.
+static HEX_DIGITS: [u8; 256] =
+    *b"@@@@@@@@@@@@@@@@@@@@@@@@@@@@@@@@@@@@@@@@@@@@@@@@\0\x01\x02\x03\x04\x05\x06\x07\x08\t@@@@@@@\n\x0b\x0c\r\x0e\
+    \x0f@@@@@@@@@@@@@@@@@@@@@@@@@@\n\x0b\x0c\r\x0e\x0f@@@@@@@@@@@@@@@@@@@@@@@@@@@@@@@@@@@@@@@@@@@@@@@@@@@@@@@@@@\
+    @@@@@@@@@@@@@@@@@@@@@@@@@@@@@@@@@@@@@@@@@@@@@@@@@@@@@@@@@@@@@@@@@@@@@@@@@@@@@@@@@@@@@@@@@@@@@@@";
+
 #[inline(always)]
-fn digit(byte: u8) -> Option<u32>
-    ensures value { IfSome result (λ d. (d ≡ digit_value byte) × (d < 16) × (is_hex byte ≡ true)) }
-    ensures none { result ≡ None → is_hex byte ≡ false }
+fn digit(byte: u8) -> u32
+    ensures value { result < 64 → (result ≡ digit_value byte) × (result < 16) × (is_hex byte ≡ true) }
+    ensures none { 64 ≤ result → is_hex byte ≡ false }
+    ensures most { result ≤ 64 }
 {
-    match byte {
-        b'0'..=b'9' => Some((byte - b'0') as u32),
-        b'A'..=b'F' => Some((byte - b'A') as u32 + 10),
-        b'a'..=b'f' => Some((byte - b'a') as u32 + 10),
-        _ => None,
-    }
+    HEX_DIGITS[byte as usize] as u32
 }
 
 // For each byte, the character that it means after a backslash (RFC 8259, 7), or 0 for `u` and for wrong escapes.
-static SIMPLE_ESCAPES: [u8; 256] = [
-    0, 0, 0, 0, 0, 0, 0, 0, 0, 0, 0, 0, 0, 0, 0, 0, 0, 0, 0, 0, 0, 0, 0, 0, 0, 0, 0, 0, 0, 0, 0, 0,
-    0, 0, 34, 0, 0, 0, 0, 0, 0, 0, 0, 0, 0, 0, 0, 47, 0, 0, 0, 0, 0, 0, 0, 0, 0, 0, 0, 0, 0, 0, 0,
-    0, 0, 0, 0, 0, 0, 0, 0, 0, 0, 0, 0, 0, 0, 0, 0, 0, 0, 0, 0, 0, 0, 0, 0, 0, 0, 0, 0, 0, 92, 0,
-    0, 0, 0, 0, 8, 0, 0, 0, 12, 0, 0, 0, 0, 0, 0, 0, 10, 0, 0, 0, 13, 0, 9, 0, 0, 0, 0, 0, 0, 0, 0,
-    0, 0, 0, 0, 0, 0, 0, 0, 0, 0, 0, 0, 0, 0, 0, 0, 0, 0, 0, 0, 0, 0, 0, 0, 0, 0, 0, 0, 0, 0, 0, 0,
-    0, 0, 0, 0, 0, 0, 0, 0, 0, 0, 0, 0, 0, 0, 0, 0, 0, 0, 0, 0, 0, 0, 0, 0, 0, 0, 0, 0, 0, 0, 0, 0,
-    0, 0, 0, 0, 0, 0, 0, 0, 0, 0, 0, 0, 0, 0, 0, 0, 0, 0, 0, 0, 0, 0, 0, 0, 0, 0, 0, 0, 0, 0, 0, 0,
-    0, 0, 0, 0, 0, 0, 0, 0, 0, 0, 0, 0, 0, 0, 0, 0, 0, 0, 0, 0, 0, 0, 0, 0, 0, 0, 0, 0, 0, 0, 0, 0,
-    0, 0, 0,
-];
+static SIMPLE_ESCAPES: [u8; 256] =
+    *b"\0\0\0\0\0\0\0\0\0\0\0\0\0\0\0\0\0\0\0\0\0\0\0\0\0\0\0\0\0\0\0\0\0\0\"\0\0\0\0\0\0\0\0\0\0\0\0/\0\0\0\0\0\0\
+    \0\0\0\0\0\0\0\0\0\0\0\0\0\0\0\0\0\0\0\0\0\0\0\0\0\0\0\0\0\0\0\0\0\0\0\0\0\0\\\0\0\0\0\0\x08\0\0\0\x0c\0\0\0\
+    \0\0\0\0\n\0\0\0\r\0\t\0\0\0\0\0\0\0\0\0\0\0\0\0\0\0\0\0\0\0\0\0\0\0\0\0\0\0\0\0\0\0\0\0\0\0\0\0\0\0\0\0\0\0\
+    \0\0\0\0\0\0\0\0\0\0\0\0\0\0\0\0\0\0\0\0\0\0\0\0\0\0\0\0\0\0\0\0\0\0\0\0\0\0\0\0\0\0\0\0\0\0\0\0\0\0\0\0\0\0\
+    \0\0\0\0\0\0\0\0\0\0\0\0\0\0\0\0\0\0\0\0\0\0\0\0\0\0\0\0\0\0\0\0\0\0\0\0\0\0\0\0\0\0";
 
 #[inline(always)]
 fn simple_escape_of(letter: u8) -> u8
@@ -84,26 +80,24 @@ fn is_low(unit: u32) -> bool
 
 #[inline(always)]
 fn hex_at(bytes: &[u8], at: usize) -> Hex
-    requires { at ≤ length bytes.now }
+    requires { at + 4 ≤ length bytes.now }
     ensures value { digits_view result ≡ hex_digits_at bytes.now at }
-    ensures within { IfNumber result (λ u. (u < 65536) × (at + 4 ≤ length bytes.now)) }
+    ensures within { IfNumber result (λ u. u < 65536) }
 {
-    if bytes.len() - at < 4 {
-        return Hex::Short;
+    let a = digit(bytes[at]);
+    let b = digit(bytes[at + 1]);
+    let c = digit(bytes[at + 2]);
+    let d = digit(bytes[at + 3]);
+    if a + b + c + d < 64 {
+        return Hex::Number(a * 4096 + b * 256 + c * 16 + d);
     }
-    let Some(a) = digit(bytes[at]) else {
+    if a == 64 {
         return Hex::Bad(at);
-    };
-    let Some(b) = digit(bytes[at + 1]) else {
+    }
+    if b == 64 {
         return Hex::Bad(at + 1);
-    };
-    let Some(c) = digit(bytes[at + 2]) else {
-        return Hex::Bad(at + 2);
-    };
-    let Some(d) = digit(bytes[at + 3]) else {
-        return Hex::Bad(at + 3);
-    };
-    Hex::Number(a * 4096 + b * 256 + c * 16 + d)
+    }
+    Hex::Bad(if c == 64 { at + 2 } else { at + 3 })
 }
 
 fn wrong(kind: FaultKind, index: usize) -> StringEvent
@@ -118,8 +112,10 @@ fn low_surrogate(bytes: &[u8], high: u32, at: usize) -> StringEvent
     requires within { at ≤ length bytes.now }
     ensures value { event_view result ≡ unit_then bytes.now at (surrogate_pair high) }
 {
+    if bytes.len() - at < 4 {
+        return StringEvent::End(StringEnd::Cut);
+    }
     match hex_at(bytes, at) {
-        Hex::Short => StringEvent::End(StringEnd::Cut),
         Hex::Bad(index) => wrong(FaultKind::InvalidEscape, index),
         Hex::Number(low) => {
             if !is_low(low) {
@@ -153,8 +149,10 @@ fn unicode_escape(bytes: &[u8], at: usize) -> StringEvent
     requires within { at ≤ length bytes.now }
     ensures value { event_view result ≡ unit_then bytes.now at (unicode_escape bytes.now) }
 {
+    if bytes.len() - at < 4 {
+        return StringEvent::End(StringEnd::Cut);
+    }
     match hex_at(bytes, at) {
-        Hex::Short => StringEvent::End(StringEnd::Cut),
         Hex::Bad(index) => wrong(FaultKind::InvalidEscape, index),
         Hex::Number(unit) => {
             if is_high(unit) {
@@ -198,32 +196,33 @@ pub(crate) fn event_at(bytes: &[u8], at: usize) -> StringEvent
     }
 }
 
-// The fast path, with at least six bytes left: a short escape, or `\u` with four digits that are no surrogate.
+// The fast path, with at least six bytes left. Returns the sign that a short escape means, or 0. Or it returns the character
+// of `\u` with four digits that are no surrogate.
 #[inline(always)]
 #[tactic(auto, unfolding(crate::specs::StringReading::event_at))]
-fn escape_at(bytes: &[u8], at: usize) -> Option<(char, usize)>
+pub(crate) fn fast_escape_at(bytes: &[u8], at: usize) -> (u8, Option<char>)
     requires { at ≤ length bytes.now }
-    ensures { IfSome result (λ r. part (encode_utf8 r.0) true r.1 ≡ event_at bytes.now at) }
+    ensures sign { result.0 ≢ 0 → part (encode_utf8 result.0) true (at + 2) ≡ event_at bytes.now at }
+    ensures ascii { result.0 < 128 }
+    ensures unit { IfSome result.1 (λ c. part (encode_utf8 c) true (at + 6) ≡ event_at bytes.now at) }
 {
     if bytes.len() - at < 6 || bytes[at] != b'\\' {
-        return None;
+        return (0, None);
     }
     let letter = bytes[at + 1];
-    if letter == b'u' {
-        let Hex::Number(unit) = hex_at(bytes, at + 2) else {
-            return None;
-        };
-        let c = char::from_u32(unit)?;
-        return Some((c, at + 6));
-    }
     let sign = simple_escape_of(letter);
-    if sign == 0 {
-        return None;
+    if sign != 0 {
+        return (sign, None);
     }
-    Some((sign as char, at + 2))
+    if letter != b'u' {
+        return (0, None);
+    }
+    match hex_at(bytes, at + 2) {
+        Hex::Number(unit) => (0, char::from_u32(unit)),
+        _ => (0, None),
+    }
 }
 
-// The closing quote and most escapes are found first.
 #[inline(always)]
 #[tactic(auto, unfolding(crate::specs::StringReading::event_at))]
 pub(crate) fn next_event(bytes: &[u8], at: usize) -> StringEvent
@@ -231,24 +230,12 @@ pub(crate) fn next_event(bytes: &[u8], at: usize) -> StringEvent
     requires stop { IfSome (slice_get bytes.now at) (λ b. is_stop b ≡ true) }
     ensures { event_view result ≡ event_at bytes.now at }
 {
-    if at < bytes.len() && bytes[at] == b'"' {
-        return StringEvent::End(StringEnd::Closed(at + 1));
+    match fast_escape_at(bytes, at) {
+        (0, None) if at < bytes.len() && bytes[at] == b'"' => {
+            StringEvent::End(StringEnd::Closed(at + 1))
+        }
+        (0, None) => event_at(bytes, at),
+        (0, Some(c)) => StringEvent::Escape(c, at + 6),
+        (sign, _) => StringEvent::Escape(sign as char, at + 2),
     }
-    match escape_at(bytes, at) {
-        Some((c, end)) => StringEvent::Escape(c, end),
-        None => event_at(bytes, at),
-    }
-}
-
-#[inline(always)]
-pub(crate) fn simple_escape_at(bytes: &[u8], at: usize) -> u8
-    requires { at ≤ length bytes.now }
-    ensures value { result ≢ 0
-        → part (encode_utf8 result) true (at + 2) ≡ event_at bytes.now at }
-    ensures ascii { result < 128 }
-{
-    if bytes.len() - at < 2 || bytes[at] != b'\\' {
-        return 0;
-    }
-    simple_escape_of(bytes[at + 1])
 }

@@ -9,7 +9,7 @@ ghost use Rattle.jiter_steps.specs.Words.{IsTextWithin, Wherever, grown, text_or
 ghost use Rattle.jiter_steps.specs.Words.{content_at, kept, text_form, whole};
 ghost use Rattle.jiter_scan.specs.Ascii as ascii;
 
-use crate::escape::{StringEnd, StringEvent, next_event, simple_escape_at};
+use crate::escape::{StringEnd, StringEvent, next_event};
 use crate::partial_escape::{EscapeStep, PartialEscape};
 use crate::partial_text::{MOST_MISSING, PartialText};
 use crate::read_error::ReadError;
@@ -171,7 +171,7 @@ impl PartialString {
 
     // A truncated escape is kept for the next chunk. Of a wrong one only the backslash is taken: the next calls read
     // the other bytes one by one, up to the error.
-    fn take_long_escape(&mut self, chunk: &[u8], at: usize) -> Result<usize, AllocFailed>
+    fn take_escape(&mut self, chunk: &[u8], at: usize) -> Result<usize, AllocFailed>
         requires within { at < length chunk.now }
         requires none { self.old.escape ≡ None }
         requires backslash { slice_get chunk.now at ≡ Some ascii.backslash }
@@ -194,27 +194,6 @@ impl PartialString {
                 Ok(1)
             }
         }
-    }
-
-    // The fast path for short escapes.
-    #[inline(always)]
-    fn take_escape(&mut self, chunk: &[u8], at: usize) -> Result<usize, AllocFailed>
-        requires within { at < length chunk.now }
-        requires none { self.old.escape ≡ None }
-        requires backslash { slice_get chunk.now at ≡ Some ascii.backslash }
-        ensures taken { (w : List ℕ) → HasTaken self.old w → IfOk result (HasTakenFrom self.new w chunk.now at) }
-        ensures part { IfOk result (IsCountAt chunk.now at) }
-        ensures refused { OnErr result (self.new ≡ self.old) }
-    {
-        if chunk.len() - at < 2 {
-            return self.take_long_escape(chunk, at);
-        }
-        let sign = simple_escape_at(chunk, at);
-        if sign == 0 {
-            return self.take_long_escape(chunk, at);
-        }
-        self.text.add_char(sign as char)?;
-        Ok(2)
     }
 
     // No character is incomplete, so bytes below 80 hex need no test.

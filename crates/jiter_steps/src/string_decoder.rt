@@ -4,10 +4,10 @@ ghost use Rattle.std.specs.Prelude.{slice_range, IfErr, IfSome, IsTrue, MatchRes
 ghost use Rattle.std.specs.Prelude.{IsUtf8, encode_utf8};
 ghost use Rattle.jiter_steps.specs.Words.{IsValidUpTo, is_stop, scan_stop, IsAsciiTo, IsLook, fault_kind, Scans, taken};
 ghost use Rattle.jiter_steps.specs.Words.{invalid_code_point, with_end, failed, UnlessRefused, WhereRefused, body_at};
-ghost use Rattle.jiter_steps.specs.Words.{event_at, over, text_form, text_in_form, checked, string_at, text_view};
+ghost use Rattle.jiter_steps.specs.Words.{event_at, over, part, text_form, text_in_form, checked, string_at, text_view};
 ghost use Rattle.jiter_steps.specs.Words.{stop_view, Decodes, PutsEscape, WantsMemory};
 
-use crate::escape::{StringEnd, StringEvent, next_event, simple_escape_at};
+use crate::escape::{StringEnd, StringEvent, event_at, fast_escape_at};
 use crate::read_error::ReadError;
 use crate::utf8::valid_utf8_end;
 use jiter_scan::bytes::decode_buffer::{put_char, put_first};
@@ -19,9 +19,23 @@ use jiter_scan::text::utf8_text;
 use std::alloc::Global;
 use std::borrow::CowStr;
 
+// The general case: an escape's character and the index after it. The error is how the string ends.
+#[inline(always)]
+fn slow_escape_at(bytes: &[u8], stop: usize) -> Result<(char, usize), StringEnd>
+    requires { IfSome (slice_get bytes.now stop) (λ b. is_stop b ≡ true) }
+    ensures { MatchResult result (λ r. part (encode_utf8 r.0) true r.1 ≡ event_at bytes.now stop)
+        (λ s. over (stop_view s) ≡ event_at bytes.now stop) }
+{
+    match event_at(bytes, stop) {
+        StringEvent::Escape(c, after) => Ok((c, after)),
+        StringEvent::End(ending) => Err(ending),
+    }
+}
+
 // Puts the character of the escape at `stop` after the first `end` bytes of the buffer. Returns the index after the
 // escape, and how many bytes count then. The error is how the string ends, if no escape is there.
 #[inline(always)]
+#[tactic(auto, unfolding(crate::specs::StringReading::event_at))]
 fn put_escape(
     buffer: &mut Vec<u8>,
     end: usize,
@@ -36,15 +50,19 @@ fn put_escape(
     ensures ending { IfErr result (λ s. over (stop_view s) ≡ event_at bytes.now stop) }
     ensures same { IfErr result (λ _. buffer.new ≡ buffer.old) }
 {
-    let sign = simple_escape_at(bytes, stop);
+    let (sign, found) = fast_escape_at(bytes, stop);
     if sign != 0 {
         buffer[end] = sign;
         return Ok((stop + 2, end + 1));
     }
-    match next_event(bytes, stop) {
-        StringEvent::Escape(c, after) => Ok((after, put_char(buffer, end, c))),
-        StringEvent::End(ending) => Err(ending),
+    if let Some(c) = found {
+        return Ok((stop + 6, put_char(buffer, end, c)));
     }
+    if stop < bytes.len() && bytes[stop] == b'"' {
+        return Err(StringEnd::Closed(stop + 1));
+    }
+    let (c, after) = slow_escape_at(bytes, stop)?;
+    Ok((after, put_char(buffer, end, c)))
 }
 
 // Decodes the string whose first byte is at `from`. Its bytes before `stop` are plain, and `ascii` if below 80 hex.
