@@ -103,8 +103,8 @@ fn drop_items(items: JsonArray<'_>) {
 fn drop_members(members: JsonObject<'_>) {
     let mut rest = members;
     while let Some((key, value)) = rest.pop() {
-        drop_text(key);
         drop(value);
+        drop(key);
     }
     drop(rest);
 }
