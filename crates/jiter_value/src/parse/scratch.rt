@@ -82,7 +82,10 @@ impl<'j> JsonValueScratch<'j> {
             mode: allow_partial,
         };
         let answer = read_text(&mut self.reading, bytes);
-        clear_refused(&mut self.reading.stacks, answer)
+        if answer.is_err() {
+            clear(&mut self.reading.stacks);
+        }
+        answer
     }
 }
 
@@ -108,30 +111,14 @@ impl JsonValueScratch<'static> {
             mode: allow_partial,
         };
         let answer = read_text_owned(&mut self.reading, bytes);
-        clear_refused(&mut self.reading.stacks, answer)
-    }
-}
-
-// Returns the result unchanged. After a value the stacks are empty already; after an error they may hold parts.
-#[inline(always)]
-fn clear_refused<'j, 'v>(
-    stacks: &mut Stacks<'j>,
-    answer: Result<JsonValue<'v>, JsonError>,
-) -> Result<JsonValue<'v>, JsonError>
-    requires { IfOk answer (λ v. IsCleared stacks.old) }
-    ensures cleared { IsCleared stacks.new }
-    ensures same { result ≡ answer.entry }
-{
-    match answer {
-        Ok(value) => Ok(value),
-        Err(error) => {
-            clear(stacks);
-            Err(error)
+        if answer.is_err() {
+            clear(&mut self.reading.stacks);
         }
+        answer
     }
 }
 
-// Empties the stacks, but keeps their capacity.
+// Empties the stacks, but keeps their capacity. After a value they are empty already; after an error they may hold parts.
 #[cold]
 #[inline(never)]
 fn clear<'j>(stacks: &mut Stacks<'j>)
