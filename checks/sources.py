@@ -36,7 +36,7 @@ class Function:
     cycle: str  # empty outside of cycles
     head: tuple  # the tokens of attributes, signature and contract
     body: tuple  # the tokens of the body
-    at: tuple  # where the body begins and ends
+    at: tuple  # where it and its body begin, and where it ends
 
     @property
     def label(self):
@@ -107,6 +107,7 @@ class Source:
         self.blocks = []
         self.traits = set()
         self.scan(module)
+        self.imported = [one for it in self.items if it.kind == "import" for one in imported(" ".join(it.tokens))]
 
     def find_ends(self):
         """Returns where the block of each opening brace ends."""
@@ -147,7 +148,7 @@ class Source:
         owners = next((it[1] for it in reversed(self.blocks) if it[1]), ("",))
         cycle = CYCLE.search(self.quiet, begin, body)
         head, inside = tokens(self.text[begin:body]), tokens(self.text[body:end])
-        return Function(module, owners, name, cycle[1] if cycle else "", tuple(head), tuple(inside), (body, end))
+        return Function(module, owners, name, cycle[1] if cycle else "", tuple(head), tuple(inside), (begin, body, end))
 
     def open_block(self, block):
         name, is_trait = f"{block['name']}::", block["kind"] == "trait"
@@ -155,15 +156,24 @@ class Source:
         owners = (name,) if is_trait else owners_of_impl(block["name"] + block["rest"])
         self.blocks = [*self.blocks, (name, None) if block["kind"] == "mod" else ("", owners)]
 
-    def is_seen(self, function):
-        """Returns whether other crates see a function: it is public, or of a trait."""
-        is_public = any(one == "pub" and other != "(" for one, other in zip(function.head, function.head[1:]))
-        return is_public or len(function.owners) > 1 or function.owners[0] in self.traits
+    def is_of_trait(self, function):
+        """Returns whether a function is of a trait, so that it can be called without its name, as by `?` or `==`."""
+        return len(function.owners) > 1 or function.owners[0] in self.traits
+
+    def contracts(self, public=False):
+        """Yields the name of each function that must be called by name, with its label, its head and what that imports."""
+        for it in self.functions:
+            is_public = any(one == "pub" and other != "(" for one, other in zip(it.head, it.head[1:]))
+            if not self.is_of_trait(it) and (is_public or not public):
+                yield it.name, (it.label, it.head, self.imports([it.head]))
 
     def interface(self):
-        """Returns what other crates see: the heads of functions, all other items but imports, and what their names are."""
-        heads = [it.head for it in self.functions if self.is_seen(it)]
+        """Returns what else other crates see: heads of traits' functions, all other items but imports, and what these import."""
+        heads = [it.head for it in self.functions if self.is_of_trait(it)]
         items = [it.tokens for it in self.items if it.kind not in ("use", "import")]
-        words = set(re.split(r"[\s(){}\[\],;.:|&]+", " ".join(word for it in heads + items for word in it)))
-        imports = [one for it in self.items if it.kind == "import" for one in imported(" ".join(it.tokens))]
-        return heads, items, sorted(it for it in imports if words & {it[0], *it[0].split("◌")} - {""})
+        return heads, items, self.imports(heads + items)
+
+    def imports(self, told):
+        """Returns what the names in these lists of tokens stand for, where a `ghost use` brings them."""
+        words = set(re.split(r"[\s(){}\[\],;.:|&]+", " ".join(word for it in told for word in it)))
+        return sorted(it for it in self.imported if words & {it[0], *it[0].split("◌")} - {""})
