@@ -1,12 +1,10 @@
 //! Tests of documents that arrive in chunks: the program reads rows of calls and writes each with its answer. The examples
-//! of docs/CALLING.md are in tests.rt.
+//! of docs/CALLING.md are in the crate test_core.
 //!
 //! ` | ` stands between two chunks of a row.
 #![tactic(auto)]
 
 mod chunks;
-#[cfg(test)]
-mod tests;
 
 use chunks::{errors, feeds, moved_out, pushed, whole};
 use std::alloc::{AllocError, Global};

@@ -1,5 +1,5 @@
 //! Tests of the pull reader: the program reads rows of calls and writes each with its answer. What no row can show is in
-//! tests.rt: damage, skips, and how its errors compare.
+//! the crate test_core: damage, skips, and how its errors compare.
 //!
 //! A row names one call of `Jiter`, or several joined by commas. The answer shows what each call returns, and after `@`
 //! the index where it leaves the reader.
@@ -9,8 +9,6 @@ mod known;
 mod next;
 mod prefixes;
 mod reading;
-#[cfg(test)]
-mod tests;
 mod told;
 
 use std::alloc::{AllocError, Global};

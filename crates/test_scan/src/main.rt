@@ -1,11 +1,10 @@
-//! Tests of `jiter_scan`: the program reads rows of calls and writes each with its answer. What no row can show is in tests.rt.
+//! Tests of `jiter_scan`: the program reads rows of calls and writes each with its answer. The crate test_core has
+//! what no row can show.
 #![tactic(auto)]
 
 mod errors;
 mod numbers;
 mod scans;
-#[cfg(test)]
-mod tests;
 
 use jiter_scan::errors::Fault;
 use std::alloc::Global;

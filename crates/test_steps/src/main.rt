@@ -1,4 +1,5 @@
-//! Tests of `jiter_steps`: the program reads rows of calls and writes each with its answer. What no row can show is in tests.rt.
+//! Tests of `jiter_steps`: the program reads rows of calls and writes each with its answer. The crate test_core has
+//! what no row can show.
 #![tactic(auto)]
 
 ghost use Rattle.std.specs.Prelude.{◌≤◌, length};
@@ -6,8 +7,6 @@ ghost use Rattle.std.specs.Prelude.{◌≤◌, length};
 mod pieces;
 mod reader;
 mod strings;
-#[cfg(test)]
-mod tests;
 
 use jiter_steps::parse::Literal;
 use std::alloc::Global;

@@ -1,12 +1,10 @@
 //! Tests of `jiter_value`: the program reads rows of calls that read a document and look into its value, and writes each
-//! with its answer. Crate test_rows says how a row is written. What no row can show is in tests.rt.
+//! with its answer. Crate test_rows says how a row is written. The crate test_core has what no row can show.
 #![tactic(auto)]
 
 mod errors;
 mod line;
 mod readings;
-#[cfg(test)]
-mod tests;
 mod values;
 
 use line::one_line;
