@@ -218,7 +218,7 @@ def crates():
 
 
 def is_of_rt_ci(crate):
-    """Returns whether `rt ci` made the library in out/rlib, and no file of the crate is newer. It alone writes no stamp."""
+    """Returns whether the library in out/rlib was made as `rt ci` does, without a stamp, and no file of the crate is newer."""
     made = f"{crate.folder}/out/rlib"
     if os.path.exists(f"{made}/stamp") or not os.path.isfile(f"{crate.rlib}/format"):
         return False
