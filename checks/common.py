@@ -24,10 +24,7 @@ SECONDS = 300
 
 
 def read(path, default=""):
-    if not os.path.isfile(path):
-        return default
-    with open(path, encoding="utf-8", errors="replace") as file:
-        return file.read()
+    return pathlib.Path(path).read_text("utf-8", "replace") if os.path.isfile(path) else default
 
 
 def held(path):
